@@ -1,0 +1,4 @@
+pub mod Choice
+pub mod Table
+pub mod Refusals
+pub mod Calls

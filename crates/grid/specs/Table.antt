@@ -1,0 +1,54 @@
+-- The table: which numbers are coordinates on it.
+--   farthest      16,383, the largest coordinate; the least is its negative
+--   onTable z     z is a coordinate of the table
+--   firstOff zs   the index of the first number off the table; how many there are, if none is
+--   sides w       the four numbers of a window: left, bottom, right, top
+--   ends s        the four numbers of a stroke: x1, y1, x2, y2
+--   strokesOf zs  the strokes of a list, four numbers each
+--   WindowOnTable w, StrokeOnTable s   what no call refuses: four numbers on the table, and a window has area
+use mathlib.Core.Bool.{Bool, true, false, _&&_}
+use mathlib.Core.List.{List, [], _∷_}
+use Prim.Native.Nat.{ℕ, zero, suc}
+use lib.IntN.{ℤ, pos, negℤ}
+use lib.Signed.{leZ, _<ℤ_}
+use Rattle.whole.specs.Within.{Within}
+use Rattle.grid.specs.Choice.{if_then_else_}
+use Rattle.grid.specs.declared.Window.{Window}
+use Rattle.grid.specs.declared.Stroke.{Stroke}
+
+abbrev pub farthest : ℕ
+farthest = 16383
+
+unfoldable pub onTable : ℤ → Bool
+onTable z = leZ (negℤ (pos farthest)) z && leZ z (pos farthest)
+
+unfoldable pub firstOff : List ℤ → ℕ
+firstOff [] = 0
+firstOff (z ∷ zs) = if onTable z then suc (firstOff zs) else 0
+
+abbrev pub sides : Window → List ℤ
+sides w = w .left ∷ w .bottom ∷ w .right ∷ w .top ∷ []
+
+abbrev pub ends : Stroke → List ℤ
+ends s = s .x1 ∷ s .y1 ∷ s .x2 ∷ s .y2 ∷ []
+
+unfoldable pub strokesOf : List ℤ → List Stroke
+strokesOf (a ∷ b ∷ c ∷ d ∷ zs) = record { x1 = a; y1 = b; x2 = c; y2 = d } ∷ strokesOf zs
+strokesOf (a ∷ b ∷ c ∷ []) = []
+strokesOf (a ∷ b ∷ []) = []
+strokesOf (a ∷ []) = []
+strokesOf [] = []
+
+pub record WindowOnTable (w : Window) : Type 0 where
+  pub left : Within farthest (w .left)
+  pub bottom : Within farthest (w .bottom)
+  pub right : Within farthest (w .right)
+  pub top : Within farthest (w .top)
+  pub wide : w .left <ℤ w .right
+  pub tall : w .bottom <ℤ w .top
+
+pub record StrokeOnTable (s : Stroke) : Type 0 where
+  pub x1 : Within farthest (s .x1)
+  pub y1 : Within farthest (s .y1)
+  pub x2 : Within farthest (s .x2)
+  pub y2 : Within farthest (s .y2)

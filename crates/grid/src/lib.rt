@@ -1,0 +1,198 @@
+// The table: its range, windows and strokes, the refusals that every call shares, and numbers given into a lent output.
+ghost use mathlib.Core.Path.{_≡_};
+ghost use mathlib.Core.List.{[], _∷_};
+ghost use Prim.Native.Nat.{_+_, _≤_};
+ghost use lib.ListN.{length};
+ghost use Rattle.grid.specs.Table.{onTable, firstOff};
+ghost use Rattle.grid.specs.Refusals.{windowRefusal, strokeRefusal, strokesRefusal};
+ghost use Rattle.grid.specs.Calls.{answered, written};
+
+// The numbers of the refusals.
+pub const WINDOW_OFF: u8 = 2;
+
+pub const WINDOW_BAD: u8 = 3;
+
+pub const LENGTH_BAD: u8 = 5;
+
+pub const NUMBER_OFF: u8 = 6;
+
+pub const OUTPUT_SHORT: u8 = 8;
+
+// A rectangle: its left, bottom, right and top side.
+#[repr(C)]
+pub struct Window {
+    pub left: i32,
+    pub bottom: i32,
+    pub right: i32,
+    pub top: i32,
+}
+
+// A stroke from (x1, y1) to (x2, y2).
+#[repr(C)]
+pub struct Stroke {
+    pub x1: i32,
+    pub y1: i32,
+    pub x2: i32,
+    pub y2: i32,
+}
+
+// A refusal's number and place; number 0 refuses nothing.
+pub struct Refusal {
+    pub number: u8,
+    pub place: usize,
+}
+
+// What a call that gives numbers returns: number and place of a refusal, or how many numbers it wrote.
+#[repr(C)]
+pub struct Answer {
+    pub number: u8,
+    pub place: usize,
+    pub count: usize,
+}
+
+// Whether x is a coordinate of the table.
+pub fn on_table(x: i32) -> bool
+    ensures { λ r. ⌜ r ≡ onTable x ⌝ }
+{
+    if -16383 <= x {
+        return x <= 16383;
+    }
+    false
+}
+
+// The index of the first number off the table, or how many there are.
+pub fn first_off(s: &[i32]) -> usize
+    ensures { λ r. ⌜ r ≡ firstOff (now (s .entry)) ⌝ }
+{
+    let mut i = 0;
+    while i < s.len() {
+        if !on_table(s[i]) {
+            return i;
+        }
+        i += 1;
+    }
+    i
+}
+
+// Of four numbers the index of the first off the table, or 4.
+fn first_off_of_four(a: i32, b: i32, c: i32, d: i32) -> usize
+    ensures { λ r. ⌜ r ≡ firstOff (a ∷ b ∷ c ∷ d ∷ []) ⌝ }
+{
+    if !on_table(a) {
+        return 0;
+    }
+    if !on_table(b) {
+        return 1;
+    }
+    if !on_table(c) {
+        return 2;
+    }
+    if !on_table(d) {
+        return 3;
+    }
+    4
+}
+
+// What a call refuses in a window.
+pub fn window_refusal(w: Window) -> Refusal
+    ensures { λ r. ⌜ r ≡ windowRefusal w ⌝ }
+{
+    let off = first_off_of_four(w.left, w.bottom, w.right, w.top);
+    if off < 4 {
+        return Refusal {
+            number: WINDOW_OFF,
+            place: off,
+        };
+    }
+    if w.left < w.right {
+        if w.bottom < w.top {
+            return Refusal {
+                number: 0,
+                place: 0,
+            };
+        }
+    }
+    Refusal {
+        number: WINDOW_BAD,
+        place: 0,
+    }
+}
+
+// What a call refuses in a stroke.
+pub fn stroke_refusal(s: Stroke) -> Refusal
+    ensures { λ r. ⌜ r ≡ strokeRefusal s ⌝ }
+{
+    let off = first_off_of_four(s.x1, s.y1, s.x2, s.y2);
+    if off < 4 {
+        return Refusal {
+            number: NUMBER_OFF,
+            place: off,
+        };
+    }
+    Refusal {
+        number: 0,
+        place: 0,
+    }
+}
+
+// What a call refuses in a list of strokes.
+pub fn strokes_refusal(s: &[i32]) -> Refusal
+    ensures { λ r. ⌜ r ≡ strokesRefusal (now (s .entry)) ⌝ }
+{
+    if s.len() % 4 != 0 {
+        return Refusal {
+            number: LENGTH_BAD,
+            place: 0,
+        };
+    }
+    if 16384 < s.len() {
+        return Refusal {
+            number: LENGTH_BAD,
+            place: 0,
+        };
+    }
+    let off = first_off(s);
+    if off < s.len() {
+        return Refusal {
+            number: NUMBER_OFF,
+            place: off,
+        };
+    }
+    Refusal {
+        number: 0,
+        place: 0,
+    }
+}
+
+// Puts the numbers xs from the front of out.
+fn copy(xs: &[i32], out: &mut [i32])
+    requires { ⌜ length (now xs) ≤ length (now out) ⌝ }
+    ensures { λ _. ⌜ now (out .exit) ≡ written (now (xs .entry)) (now (out .entry)) ⌝ }
+{
+    let mut i = 0;
+    while i < xs.len() {
+        out[i] = xs[i];
+        i += 1;
+    }
+}
+
+// Gives the numbers xs into a lent output, or refuses where they have no room there.
+pub fn give(xs: &[i32], out: &mut [i32]) -> Answer
+    ensures { λ r. ⌜ r ≡ answered (now (xs .entry)) (length (now (out .entry))) ⌝ }
+    ensures { λ _. ⌜ now (out .exit) ≡ written (now (xs .entry)) (now (out .entry)) ⌝ }
+{
+    let n = xs.len();
+    if out.len() < n {
+        return Answer {
+            number: OUTPUT_SHORT,
+            place: n,
+            count: 0,
+        };
+    }
+    copy(xs, out);
+    Answer {
+        number: 0,
+        place: 0,
+        count: n,
+    }
+}

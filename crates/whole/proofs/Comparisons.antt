@@ -1,0 +1,84 @@
+-- A test of two signed integers, as a condition leaves it: an equation of the flag, about what the machine reads back from the bits. Here it becomes an order of ℤ.
+-- At a literal k give `sfits-lit {z = k} tt`.
+use mathlib.Core.Path.{_≡_, refl, sym, ap, _∙_, subst}
+use mathlib.Core.Bool.{Bool, true, false, not}
+use Prim.Native.Nat.{ℕ, zero, suc, _^_, _≤_, _<_}
+use lib.Dec.{T, ltb→lt}
+use native.Mathlib.Omega.{arith}
+use lib.IntN.{ℤ, pos, negsuc, negℤ}
+use lib.Signed.{_≤ℤ_, _<ℤ_, ltZ, leZ, ltZ-yes, ltZ-no, leZ-yes, mag}
+use mir.Syntax.{Width}
+use mir.Val.{SFits, hbits, toZ, ofZ}
+use mir.Facts.{toZ-ofZ, toZ-inj, fits-ofZ}
+use Rattle.whole.proofs.Naturals.{plus, minus, le-of, neg-plus, neg-minus}
+use Rattle.whole.proofs.Order.{zarith, ≤-total}
+use mathlib.Core.Logic.{_⊎_, inl, inr, ⊎-elim}
+
+pub true-T : {b : Bool} → b ≡ true → T b
+true-T e = subst T (sym e) tt
+
+pub false-T : {b : Bool} → b ≡ false → T (not b)
+false-T e = subst (λ (t : Bool). T (not t)) (sym e) tt
+
+pub ff-tt : false ≡ true → ⊥
+ff-tt e = subst T (sym e) tt
+
+pub tt-ff : true ≡ false → ⊥
+tt-ff e = subst T e tt
+
+-- at any two integers
+nle : (a b : ℤ) → T (not (leZ a b)) → b <ℤ a
+nle a b t = ⊎-elim (λ h. absurd (clash (leZ a b) t (h .le))) (λ h. h) (≤-total a b)
+  where
+    clash : (u : Bool) → T (not u) → T u → ⊥
+    clash true p q = p
+    clash false p q = q
+
+module _ (w : Width) {x y : ℤ} (fx : SFits w x) (fy : SFits w y) where
+  read : (f : ℤ → ℤ → Bool) → f x y ≡ f (toZ w (ofZ w x)) (toZ w (ofZ w y))
+  read f = sym (λ i. f (toZ-ofZ fx i) (toZ-ofZ fy i))
+
+  pub lt-taken : ltZ (toZ w (ofZ w x)) (toZ w (ofZ w y)) ≡ true → x <ℤ y
+  lt-taken e = ltZ-yes (true-T (read ltZ ∙ e))
+
+  pub lt-left : ltZ (toZ w (ofZ w x)) (toZ w (ofZ w y)) ≡ false → y ≤ℤ x
+  lt-left e = ltZ-no (false-T (read ltZ ∙ e))
+
+  pub le-taken : leZ (toZ w (ofZ w x)) (toZ w (ofZ w y)) ≡ true → x ≤ℤ y
+  le-taken e = leZ-yes (true-T (read leZ ∙ e))
+
+  pub le-left : leZ (toZ w (ofZ w x)) (toZ w (ofZ w y)) ≡ false → y <ℤ x
+  le-left e = nle x y (false-T (read leZ ∙ e))
+
+  -- of a test == or !=, the bits
+  pub bits-eq : ofZ w x ≡ ofZ w y → x ≡ y
+  bits-eq e = sym (toZ-ofZ fx) ∙ ap (toZ w) e ∙ toZ-ofZ fy
+
+-- the range of the type
+range : (z : ℤ) (H : ℕ) → mag z < H → (negℤ (pos H) ≤ℤ z) × (z <ℤ pos H)
+range (pos n) H h = (omega (zarith, neg-plus (pos H), neg-minus (pos H)), omega zarith)
+range (negsuc n) H h = (omega (zarith, neg-plus (pos H), neg-minus (pos H)), omega zarith)
+
+pub fits-low : {w : Width} {z : ℤ} → SFits w z → negℤ (pos (2 ^ hbits w)) ≤ℤ z
+fits-low {w} {z} f = range z (2 ^ hbits w) (f .sfits) .0
+
+pub fits-high : {w : Width} {z : ℤ} → SFits w z → z <ℤ pos (2 ^ hbits w)
+fits-high {w} {z} f = range z (2 ^ hbits w) (f .sfits) .1
+
+in-range : (z : ℤ) (H : ℕ) → negℤ (pos H) ≤ℤ z → z <ℤ pos H → mag z < H
+in-range (pos n) H l h = omega zarith
+in-range (negsuc n) H l h = omega (zarith, neg-plus (pos H), neg-minus (pos H))
+
+pub fits-range : {w : Width} {z : ℤ} → negℤ (pos (2 ^ hbits w)) ≤ℤ z → z <ℤ pos (2 ^ hbits w) → SFits w z
+fits-range {w} {z} l h = record { sfits = in-range z (2 ^ hbits w) l h }
+
+-- a number that was read from a struct or a slice is the number there
+pub back : (w : Width) (z : ℤ) → mag z < 2 ^ hbits w → toZ w (ofZ w z) ≡ z
+back w z h = toZ-ofZ {w = w} {z = z} (record { sfits = h })
+
+-- what is said of the number that is read back is said of the number, and the other way
+pub plain : {w : Width} {z : ℤ} (P : ℤ → Type 0) → SFits w z → P (toZ w (ofZ w z)) → P z
+plain P f h = subst P (toZ-ofZ f) h
+
+pub bits : {w : Width} {z : ℤ} (P : ℤ → Type 0) → SFits w z → P z → P (toZ w (ofZ w z))
+bits P f h = subst P (sym (toZ-ofZ f)) h

@@ -1,0 +1,10 @@
+pub mod Naturals
+pub mod Expressions
+pub mod Polynomials
+pub mod Order
+pub mod Certificates
+pub mod Ranges
+pub mod Machine
+pub mod Comparisons
+pub mod Division
+pub mod Identities
