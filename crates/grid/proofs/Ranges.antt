@@ -13,7 +13,7 @@ use mir.Syntax.{w32}
 use mir.Val.{toZ, ofZ}
 use Rattle.whole.specs.Within.{Within}
 use Rattle.whole.proofs.Comparisons.{true-T, ff-tt, back}
-use Rattle.grid.specs.Choice.{if_then_else_}
+use Rattle.whole.specs.Choice.{if_then_else_}
 use Rattle.grid.specs.Table.{farthest, onTable, firstOff}
 
 -- ---- of a list by its head

@@ -11,7 +11,7 @@ use lib.ListN.{length, getD}
 use lib.Signed.{_<ℤ_, ltZ, ltZ-yes}
 use Rattle.whole.specs.Within.{Within}
 use Rattle.whole.proofs.Comparisons.{true-T, ff-tt}
-use Rattle.grid.specs.Choice.{if_then_else_}
+use Rattle.whole.specs.Choice.{if_then_else_}
 use Rattle.grid.specs.Table.{farthest, firstOff, sides, ends, WindowOnTable, StrokeOnTable}
 use Rattle.grid.specs.Refusals.{windowOff, windowBad, lengthBad, numberOff, refuse, none, first, offTable, noArea, badStrokes, windowRefusal, strokeRefusal, strokesRefusal}
 use Rattle.grid.specs.declared.Window.{Window}

@@ -9,7 +9,7 @@ use Prim.Native.Nat.{ℕ}
 use lib.Dec.{leb}
 use lib.IntN.{ℤ}
 use lib.ListN.{length, drop}
-use Rattle.grid.specs.Choice.{if_then_else_}
+use Rattle.whole.specs.Choice.{if_then_else_}
 use Rattle.grid.specs.Refusals.{outputShort}
 use Rattle.grid.specs.declared.Refusal.{Refusal}
 use Rattle.grid.specs.declared.Answer.{Answer}

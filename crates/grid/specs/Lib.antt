@@ -1,4 +1,3 @@
-pub mod Choice
 pub mod Table
 pub mod Refusals
 pub mod Calls

@@ -13,7 +13,7 @@ use lib.Dec.{eqb, leb, ltb}
 use lib.IntN.{ℤ}
 use lib.ListN.{length}
 use lib.Signed.{ltZ}
-use Rattle.grid.specs.Choice.{if_then_else_}
+use Rattle.whole.specs.Choice.{if_then_else_}
 use Rattle.grid.specs.Table.{firstOff, sides, ends}
 use Rattle.grid.specs.declared.Window.{Window}
 use Rattle.grid.specs.declared.Stroke.{Stroke}

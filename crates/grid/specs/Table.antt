@@ -12,7 +12,7 @@ use Prim.Native.Nat.{ℕ, zero, suc}
 use lib.IntN.{ℤ, pos, negℤ}
 use lib.Signed.{leZ, _<ℤ_}
 use Rattle.whole.specs.Within.{Within}
-use Rattle.grid.specs.Choice.{if_then_else_}
+use Rattle.whole.specs.Choice.{if_then_else_}
 use Rattle.grid.specs.declared.Window.{Window}
 use Rattle.grid.specs.declared.Stroke.{Stroke}
 

@@ -1,18 +1,18 @@
 -- A test of two signed integers, as a condition leaves it: an equation of the flag, about what the machine reads back from the bits. Here it becomes an order of ℤ.
 -- At a literal k give `sfits-lit {z = k} tt`.
 use mathlib.Core.Path.{_≡_, refl, sym, ap, _∙_, subst}
+use mathlib.Core.Logic.{⊎-elim}
 use mathlib.Core.Bool.{Bool, true, false, not}
-use Prim.Native.Nat.{ℕ, zero, suc, _^_, _≤_, _<_}
-use lib.Dec.{T, ltb→lt}
-use native.Mathlib.Omega.{arith}
+use Prim.Native.Nat.{ℕ, _^_, _<_}
+use lib.Dec.{T}
 use lib.IntN.{ℤ, pos, negsuc, negℤ}
 use lib.Signed.{_≤ℤ_, _<ℤ_, ltZ, leZ, ltZ-yes, ltZ-no, leZ-yes, mag}
 use mir.Syntax.{Width}
 use mir.Val.{SFits, hbits, toZ, ofZ}
-use mir.Facts.{toZ-ofZ, toZ-inj, fits-ofZ}
-use Rattle.whole.proofs.Naturals.{plus, minus, le-of, neg-plus, neg-minus}
+use mir.Facts.{toZ-ofZ, T-not}
+use Rattle.whole.specs.Choice.{if_then_else_}
+use Rattle.whole.proofs.Naturals.{neg-plus, neg-minus}
 use Rattle.whole.proofs.Order.{zarith, ≤-total}
-use mathlib.Core.Logic.{_⊎_, inl, inr, ⊎-elim}
 
 pub true-T : {b : Bool} → b ≡ true → T b
 true-T e = subst T (sym e) tt
@@ -26,29 +26,41 @@ ff-tt e = subst T (sym e) tt
 pub tt-ff : true ≡ false → ⊥
 tt-ff e = subst T e tt
 
--- at any two integers
-nle : (a b : ℤ) → T (not (leZ a b)) → b <ℤ a
-nle a b t = ⊎-elim (λ h. absurd (clash (leZ a b) t (h .le))) (λ h. h) (≤-total a b)
-  where
-    clash : (u : Bool) → T (not u) → T u → ⊥
-    clash true p q = p
-    clash false p q = q
+-- a choice by a test, by cases on it
+pub by-test {ℓ} : {A : Type ℓ} (b : Bool) {x y : A} (P : A → Type 0) → (b ≡ true → P x) → (b ≡ false → P y) → P (if b then x else y)
+by-test true P f g = f refl
+by-test false P f g = g refl
 
+-- ---- a test of two numbers that are x and y
+not-le : (a b : ℤ) → T (not (leZ a b)) → b <ℤ a
+not-le a b t = ⊎-elim (λ h. absurd (T-not (leZ a b) (h .le) t)) (λ h. h) (≤-total a b)
+
+module _ {a b x y : ℤ} (p : a ≡ x) (q : b ≡ y) where
+  pub lt-yes : ltZ a b ≡ true → x <ℤ y
+  lt-yes e = ltZ-yes (true-T (sym (λ i. ltZ (p i) (q i)) ∙ e))
+
+  pub lt-no : ltZ a b ≡ false → y ≤ℤ x
+  lt-no e = ltZ-no (false-T (sym (λ i. ltZ (p i) (q i)) ∙ e))
+
+  pub le-yes : leZ a b ≡ true → x ≤ℤ y
+  le-yes e = leZ-yes (true-T (sym (λ i. leZ (p i) (q i)) ∙ e))
+
+  pub le-no : leZ a b ≡ false → y <ℤ x
+  le-no e = not-le x y (false-T (sym (λ i. leZ (p i) (q i)) ∙ e))
+
+-- ---- of two numbers that fit the width, as they are read
 module _ (w : Width) {x y : ℤ} (fx : SFits w x) (fy : SFits w y) where
-  read : (f : ℤ → ℤ → Bool) → f x y ≡ f (toZ w (ofZ w x)) (toZ w (ofZ w y))
-  read f = sym (λ i. f (toZ-ofZ fx i) (toZ-ofZ fy i))
-
   pub lt-taken : ltZ (toZ w (ofZ w x)) (toZ w (ofZ w y)) ≡ true → x <ℤ y
-  lt-taken e = ltZ-yes (true-T (read ltZ ∙ e))
+  lt-taken e = lt-yes (toZ-ofZ fx) (toZ-ofZ fy) e
 
   pub lt-left : ltZ (toZ w (ofZ w x)) (toZ w (ofZ w y)) ≡ false → y ≤ℤ x
-  lt-left e = ltZ-no (false-T (read ltZ ∙ e))
+  lt-left e = lt-no (toZ-ofZ fx) (toZ-ofZ fy) e
 
   pub le-taken : leZ (toZ w (ofZ w x)) (toZ w (ofZ w y)) ≡ true → x ≤ℤ y
-  le-taken e = leZ-yes (true-T (read leZ ∙ e))
+  le-taken e = le-yes (toZ-ofZ fx) (toZ-ofZ fy) e
 
   pub le-left : leZ (toZ w (ofZ w x)) (toZ w (ofZ w y)) ≡ false → y <ℤ x
-  le-left e = nle x y (false-T (read leZ ∙ e))
+  le-left e = le-no (toZ-ofZ fx) (toZ-ofZ fy) e
 
   -- of a test == or !=, the bits
   pub bits-eq : ofZ w x ≡ ofZ w y → x ≡ y

@@ -86,6 +86,10 @@ diff-≤ {a} {b} h = omega (zarith, sub-is b a)
 pub diff-< : {a b : ℤ} → pos 0 <ℤ (b -ℤ a) → a <ℤ b
 diff-< {a} {b} h = omega (zarith, sub-is b a)
 
+-- less, by at least 1
+pub next-≤ : {a b : ℤ} → a <ℤ b → (a +ℤ pos 1) ≤ℤ b
+next-≤ {a} {b} h = omega (zarith, add-is a (pos 1))
+
 -- total, and the three signs
 pub ≤-total : (a b : ℤ) → (a ≤ℤ b) ⊎ (b <ℤ a)
 ≤-total a b = go (ltZ b a) refl

@@ -1,4 +1,5 @@
--- The choice by a test.
+-- The choice by a test, in words.
+--   if b then x else y   x where b is true, y where it is false
 use mathlib.Core.Bool.{Bool, true, false}
 
 infixr 5 if_then_else_

@@ -1,0 +1,2 @@
+pub mod Fraction
+pub mod Rounding

@@ -1,0 +1,3 @@
+pub mod Cutting
+pub mod Parts
+pub mod Computed

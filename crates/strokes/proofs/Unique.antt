@@ -1,0 +1,48 @@
+-- Two answers that satisfy the statement for one window and one stroke are equal: the kept part is the only one, and so is each rounded point.
+use mathlib.Core.Path.{_≡_, refl, sym, subst, _∙_}
+use mathlib.Core.Bool.{Bool, true, false}
+use Prim.Native.Nat.{ℕ, zero, suc}
+use native.Mathlib.Nat.{suc-ne-zero}
+use lib.IntN.{ℤ}
+use lib.Signed.{_≤ℤ_}
+use Rattle.fraction.specs.declared.Fraction.{Fraction}
+use Rattle.grid.specs.declared.Stroke.{Stroke}
+use Rattle.grid.specs.declared.Window.{Window}
+use Rattle.spans.proofs.Parts.{part-unique}
+use Rattle.strokes.specs.Strokes.{PointAt, Clipped, Clipping, strokeCallRefusal}
+use Rattle.strokes.specs.declared.StrokeAnswer.{StrokeAnswer}
+use Rattle.strokes.proofs.Points.{point-unique, point-inside}
+
+module _ {w : Window} {s : Stroke} where
+  pub clipped-unique : {a b : StrokeAnswer} → Clipped w s a → Clipped w s b → a ≡ b
+  clipped-unique {a} {b} p q = go (a .kept) refl
+    where
+      same : (a .kept ≡ b .kept) × (a .t0 ≡ b .t0) × (a .t1 ≡ b .t1)
+      same = part-unique (p .part) (q .part)
+
+      go : (k : Bool) → a .kept ≡ k → a ≡ b
+      go false e = p .missed e ∙ sym (q .missed (sym (same .0) ∙ e))
+      go true e =
+          let f = sym (same .0) ∙ e in
+          let one = point-unique (p .part .first e .keeps .time .den) (p .start e) (subst (λ (t : Fraction). PointAt s t (b .ax) (b .ay)) (sym (same .1)) (q .start f)) in
+          let other = point-unique (p .part .last e .keeps .time .den) (p .finish e) (subst (λ (t : Fraction). PointAt s t (b .bx) (b .by)) (sym (same .2)) (q .finish f)) in
+          let number = p .number ∙ sym (q .number) in
+          let place = p .place ∙ sym (q .place) in
+          λ i. record { number = number i; place = place i; kept = same .0 i; t0 = same .1 i; t1 = same .2 i; ax = one .0 i; ay = one .1 i; bx = other .0 i; by = other .1 i }
+
+  pub clipping-unique : {a b : StrokeAnswer} → Clipping w s a → Clipping w s b → a ≡ b
+  clipping-unique {a} {b} p q = go (strokeCallRefusal w s .number) refl
+    where
+      go : (n : ℕ) → strokeCallRefusal w s .number ≡ n → a ≡ b
+      go zero z = clipped-unique (p .done z) (q .done z)
+      go (suc n) z =
+          let refused : strokeCallRefusal w s .number ≡ 0 → ⊥ = λ k. suc-ne-zero n (sym z ∙ k) in
+          p .refused refused ∙ sym (q .refused refused)
+
+  -- the rounded points of a kept stroke lie in the window
+  pub points-inside : {a : StrokeAnswer} → Clipped w s a → a .kept ≡ true
+      → (((w .left ≤ℤ a .ax) × (a .ax ≤ℤ w .right)) × ((w .bottom ≤ℤ a .ay) × (a .ay ≤ℤ w .top))) × (((w .left ≤ℤ a .bx) × (a .bx ≤ℤ w .right)) × ((w .bottom ≤ℤ a .by) × (a .by ≤ℤ w .top)))
+  points-inside p e =
+      let f = p .part .first e .keeps in
+      let l = p .part .last e .keeps in
+      (point-inside (f .time .den) f (p .start e), point-inside (l .time .den) l (p .finish e))

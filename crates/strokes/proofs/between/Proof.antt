@@ -1,0 +1,24 @@
+-- `strokes::between` meets its contract: both ends are between the two, so all of the way is. Assumes nothing.
+use mir.Facts.{toZ-ofZ}
+use Rattle.whole.proofs.Comparisons.{ff-tt, lt-no, le-yes}
+use Rattle.strokes.proofs.Ways.{all-between}
+use Rattle.strokes.proofs.between.Statement.{statement}
+use Rattle.strokes.proofs.between.Tie as tie
+
+returns : tie.Need-returns
+returns c e = absurd (ff-tt e)
+
+returns-2 : tie.Need-returns-2
+returns-2 c e = absurd (ff-tt e)
+
+returns-3 : tie.Need-returns-3
+returns-3 c e = absurd (ff-tt e)
+
+returns-4 : tie.Need-returns-4
+returns-4 c e n d t =
+    let f = c .before .before .before .fits in
+    all-between (lt-no (toZ-ofZ (f .a)) (toZ-ofZ (f .lo)) (c .before .before .if1 .left)) (lt-no (toZ-ofZ (f .b)) (toZ-ofZ (f .lo)) (c .before .if2 .left))
+    (lt-no (toZ-ofZ (f .hi)) (toZ-ofZ (f .a)) (c .if3 .left)) (le-yes (toZ-ofZ (f .b)) (toZ-ofZ (f .hi)) e) t
+
+pub between-spec : {M : Type 1} → statement M
+between-spec = tie.close (tie.spec returns returns-2 returns-3 returns-4)

@@ -1,0 +1,105 @@
+-- `strokes::point_at` meets its contract: at 0 and at 1 the point is the stroke's own end; between, each coordinate is rounded. Assumes nothing.
+use mathlib.Core.Path.{_≡_, sym, ap, _∙_, subst₂, transport}
+use Prim.Native.Nat.{ℕ, _<_, _≤_}
+use native.Mathlib.Omega.{arith}
+use lib.IntN.{ℤ, pos, natAbs}
+use lib.Signed.{yes-nonNeg, pos-natAbs, _≤ℤ_}
+use mir.Syntax.{w32, w64}
+use mir.Val.{SFits, toZ, ofZ}
+use mir.Facts.{toZ-ofZ, sfits-lit}
+use Rattle.whole.specs.Within.{Within}
+use Rattle.whole.proofs.Comparisons.{bits, bits-eq, back}
+use Rattle.whole.proofs.Order.{zarith}
+use Rattle.whole.proofs.Ranges.{within-abs, fits-abs}
+use Rattle.fraction.specs.Rounding.{along, Rounded}
+use Rattle.grid.specs.Table.{farthest, StrokeOnTable}
+use Rattle.spans.proofs.Parts.{time-within}
+use Rattle.strokes.specs.Strokes.{PointAt}
+use Rattle.strokes.proofs.Reading.{read, read-is, read-on-table}
+use Rattle.strokes.proofs.Points.{point-start, point-finish}
+use Rattle.strokes.proofs.point_at.Statement.{statement}
+use Rattle.strokes.proofs.point_at.Tie as tie
+
+-- ---- the fraction's numbers, as the code casts them
+small-fits : {z : ℤ} → Within 32766 z → SFits w64 z
+small-fits h = fits-abs (omega (arith, within-abs h))
+
+num-small : (c : tie.Start) → Within 32766 (c .args .t .num)
+num-small c = time-within (c .pre .1 .0) (c .pre .1 .1)
+
+den-positive : (c : tie.Start) → pos 0 ≤ℤ c .args .t .den
+den-positive c = let h = c .pre .1 .0 .den in omega zarith
+
+abbrev cast : ℤ → ℕ
+cast z = natAbs (toZ w64 (ofZ w64 z))
+
+cast-is : {z : ℤ} → Within 32766 z → pos 0 ≤ℤ z → pos (cast z) ≡ z
+cast-is {z} h k = ap (λ (y : ℤ). pos (natAbs y)) (toZ-ofZ (small-fits h)) ∙ pos-natAbs z (yes-nonNeg k)
+
+num-is : (c : tie.Start) → pos (cast (c .args .t .num)) ≡ c .args .t .num
+num-is c = cast-is (num-small c) (c .pre .1 .0 .low)
+
+den-is : (c : tie.Start) → pos (cast (c .args .t .den)) ≡ c .args .t .den
+den-is c = cast-is (c .pre .1 .1) (den-positive c)
+
+den-range : (c : tie.Start) → (0 < cast (c .args .t .den)) × (cast (c .args .t .den) ≤ 32766)
+den-range c = (omega (zarith, den-is c, c .pre .1 .0 .den), omega (zarith, den-is c, c .pre .1 .1 .high))
+
+num-range : (c : tie.Start) → cast (c .args .t .num) ≤ cast (c .args .t .den)
+num-range c = omega (zarith, num-is c, den-is c, c .pre .1 .0 .high)
+
+-- ---- the two ends
+returns : tie.Need-returns
+returns c =
+    let a = c .before .before .before .before in
+    let s = a .pre .0 in
+    subst₂ (PointAt (a .args .s) (a .args .t)) (sym (read-is (s .x1))) (sym (read-is (s .y1)))
+    (point-start (a .pre .1 .0 .den) (bits-eq w64 (small-fits (num-small a)) (sfits-lit {z = pos 0} tt) (c .before .if1 .taken)))
+
+returns-2 : tie.Need-returns-2
+returns-2 c =
+    let a = c .before .before .before .before .before .before .before in
+    let s = a .pre .0 in
+    subst₂ (PointAt (a .args .s) (a .args .t)) (sym (read-is (s .x2))) (sym (read-is (s .y2)))
+    (point-finish (a .pre .1 .0 .den) (bits-eq w64 (small-fits (num-small a)) (small-fits (a .pre .1 .1)) (c .before .if2 .taken)))
+
+-- ---- between them
+cast-n : tie.Need-cast-n
+cast-n c =
+    let a = c .before .before .before .before .before .before .before .before in
+    rw (toZ-ofZ (small-fits (num-small a))) (yes-nonNeg (a .pre .1 .0 .low), record { fits = omega (arith, within-abs (num-small a)) })
+
+cast-d : tie.Need-cast-d
+cast-d c =
+    let a = c .before .before .before .before .before .before .before .before .before .before in
+    rw (toZ-ofZ (small-fits (a .pre .1 .1))) (yes-nonNeg (den-positive a), record { fits = omega (arith, within-abs (a .pre .1 .1)) })
+
+rounded-requires : tie.Need-rounded-requires
+rounded-requires c κs =
+    let a = c .before .before .before .before .before .before .before .before .before .before .before .before in
+    let s = a .pre .0 in
+    (read-on-table (s .x1), (read-on-table (s .x2), (den-range a, num-range a)))
+
+rounded-requires-2 : tie.Need-rounded-requires-2
+rounded-requires-2 c κs =
+    let a = c .before .before .before .before .before .before .before .before .before .before .before .before .before .before .before in
+    let s = a .pre .0 in
+    (read-on-table (s .y1), (read-on-table (s .y2), (den-range a, num-range a)))
+
+-- what `rounded` ensures of the numbers as they are read, of the numbers themselves
+plain : (c : tie.Start) {a b r : ℤ} → Within farthest a → Within farthest b
+    → Rounded (read a) (along (read a) (read b) (pos (cast (c .args .t .num))) (pos (cast (c .args .t .den)))) (pos (cast (c .args .t .den))) r
+    → Rounded a (along a b (c .args .t .num) (c .args .t .den)) (c .args .t .den) r
+plain c {a} {b} {r} ha hb k =
+    transport (λ i. Rounded (read-is ha i) (along (read-is ha i) (read-is hb i) (num-is c i) (den-is c i)) (den-is c i) r) k
+
+returns-3 : tie.Need-returns-3
+returns-3 c =
+    let a = c .before .before .before .before .before .before .before .before .before .before .before .before .before .before .before .before in
+    let s = a .pre .0 in
+    let k = c .before .before .before in
+    subst₂ (PointAt (a .args .s) (a .args .t)) (sym (back w32 _ (k .rounded .ok))) (sym (back w32 _ (c .rounded2 .ok)))
+    (record { across = plain a (s .x1) (s .x2) (k .rounded .ensures); up = plain a (s .y1) (s .y2) (c .rounded2 .ensures) })
+
+pub point-at-spec : {M : Type 1} → statement M
+point-at-spec = tie.close (tie.spec returns returns-2 cast-n cast-d rounded-requires rounded-requires-2 returns-3)
