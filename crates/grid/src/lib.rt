@@ -7,7 +7,7 @@ ghost use Rattle.grid.specs.Table.{onTable, firstOff};
 ghost use Rattle.grid.specs.Refusals.{windowRefusal, strokeRefusal, strokesRefusal};
 ghost use Rattle.grid.specs.Calls.{answered, written};
 
-// The numbers of the refusals.
+// The numbers of the refusals, as specs/Refusals.antt defines them.
 pub const WINDOW_OFF: u8 = 2;
 
 pub const WINDOW_BAD: u8 = 3;

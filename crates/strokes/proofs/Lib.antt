@@ -4,3 +4,4 @@ pub mod Points
 pub mod Answers
 pub mod Unique
 pub mod Refusing
+pub mod Computed

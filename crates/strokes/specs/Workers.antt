@@ -1,16 +1,24 @@
 -- What the workers behind a stroke call promise each other.
 --   CutAcross lo hi a b s r   r is what of the span s is from lo to hi on the way from a to b
 --   Plainly w s p             what p says of where the stroke lies is so; `Neither` says nothing
---   wholeStroke s             the answer for a stroke that is kept whole
-use mathlib.Core.Bool.{true}
+--   missedCut, wholeCut s     what is left of a stroke that is missed, and of one that is kept whole
+--   keptAnswer c t u          the answer for a kept cut whose fractions in lowest terms are t and u
+--   Ends w s c                the ends of a kept cut are right: with its fractions in lowest terms it is the answer
+--   CutIs w s c               c is what the window leaves of the stroke
+use mathlib.Core.Path.{_≡_}
+use mathlib.Core.Bool.{true, false}
 use lib.IntN.{ℤ, pos}
 use lib.Signed.{_<ℤ_}
+use Rattle.whole.specs.Within.{Within}
+use Rattle.fraction.specs.declared.Fraction.{Fraction}
+use Rattle.fraction.specs.Fraction.{LowestOf}
 use Rattle.grid.specs.declared.Stroke.{Stroke}
 use Rattle.grid.specs.declared.Window.{Window}
 use Rattle.spans.specs.declared.Span.{Span}
 use Rattle.spans.specs.Parts.{Time, zeroth, unit}
 use Rattle.spans.specs.Spans.{In, Proper, Sized}
-use Rattle.strokes.specs.Strokes.{Across, Keeps}
+use Rattle.strokes.specs.Strokes.{Across, Keeps, Clipped}
+use Rattle.strokes.specs.declared.Cut.{Cut}
 use Rattle.strokes.specs.declared.StrokeAnswer.{StrokeAnswer}
 use Rattle.strokes.specs.declared.Plain.{Plain}
 use Rattle.strokes.specs.declared.Plain.the-variants.{Outside, Inside, Neither}
@@ -27,15 +35,32 @@ Plainly w s Outside = (n d : ℤ) → Keeps w s n d → ⊥
 Plainly w s Inside = (n d : ℤ) → Time n d → Keeps w s n d
 Plainly w s Neither = Unit {0}
 
-abbrev pub wholeStroke : Stroke → StrokeAnswer
-wholeStroke s = record {
+abbrev pub missedCut : Cut
+missedCut = record { kept = false; first = zeroth; last = zeroth; ax = pos 0; ay = pos 0; bx = pos 0; by = pos 0 }
+
+abbrev pub wholeCut : Stroke → Cut
+wholeCut s = record { kept = true; first = zeroth; last = unit; ax = s .x1; ay = s .y1; bx = s .x2; by = s .y2 }
+
+abbrev pub keptAnswer : Cut → Fraction → Fraction → StrokeAnswer
+keptAnswer c t u = record {
   number = 0;
   place = 0;
   kept = true;
-  t0 = zeroth;
-  t1 = unit;
-  ax = s .x1;
-  ay = s .y1;
-  bx = s .x2;
-  by = s .y2;
+  t0 = t;
+  t1 = u;
+  ax = c .ax;
+  ay = c .ay;
+  bx = c .bx;
+  by = c .by;
 }
+
+pub record Ends (w : Window) (s : Stroke) (c : Cut) : Type 0 where
+  pub first : Time (c .first .num) (c .first .den)
+  pub last : Time (c .last .num) (c .last .den)
+  pub first-small : Within 32766 (c .first .den)
+  pub last-small : Within 32766 (c .last .den)
+  pub answer : (t u : Fraction) → LowestOf (c .first .num) (c .first .den) t → LowestOf (c .last .num) (c .last .den) u → Clipped w s (keptAnswer c t u)
+
+pub record CutIs (w : Window) (s : Stroke) (c : Cut) : Type 0 where
+  pub missed : c .kept ≡ false → (n d : ℤ) → Keeps w s n d → ⊥
+  pub kept : c .kept ≡ true → Ends w s c

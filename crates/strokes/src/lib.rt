@@ -14,7 +14,7 @@ ghost use Rattle.grid.specs.Table.{farthest, WindowOnTable, StrokeOnTable};
 ghost use Rattle.spans.specs.Parts.{Time};
 ghost use Rattle.spans.specs.Spans.{Proper, Sized, SpanOf};
 ghost use Rattle.strokes.specs.Strokes.{Across, Keeps, PointAt, Clipped, Clipping, blank as Strokes·blank};
-ghost use Rattle.strokes.specs.Workers.{CutAcross, Plainly, wholeStroke};
+ghost use Rattle.strokes.specs.Workers.{CutAcross, Plainly, missedCut, wholeCut, CutIs};
 
 // What a stroke call answers: a refusal's number and place, or whether the stroke is kept, from which fraction of its way to which,
 // and the two points there, rounded to the grid.
@@ -41,6 +41,17 @@ pub enum Plain {
 pub struct Point {
     pub x: i32,
     pub y: i32,
+}
+
+// What a window leaves of a stroke: its first and last fraction, not yet in lowest terms, and the two points, rounded to the grid.
+pub struct Cut {
+    pub kept: bool,
+    pub first: Fraction,
+    pub last: Fraction,
+    pub ax: i32,
+    pub ay: i32,
+    pub bx: i32,
+    pub by: i32,
 }
 
 // Whether the way from a to b is plainly beyond lo or hi.
@@ -159,16 +170,29 @@ pub fn blank(number: u8, place: usize) -> StrokeAnswer
     }
 }
 
-// A stroke that is plainly inside.
-fn whole_stroke(s: Stroke) -> StrokeAnswer
-    ensures { λ r. ⌜ r ≡ wholeStroke s ⌝ }
+// Nothing is left.
+fn missed() -> Cut
+    ensures { λ r. ⌜ r ≡ missedCut ⌝ }
 {
-    StrokeAnswer {
-        number: 0,
-        place: 0,
+    Cut {
+        kept: false,
+        first: Fraction { num: 0, den: 1 },
+        last: Fraction { num: 0, den: 1 },
+        ax: 0,
+        ay: 0,
+        bx: 0,
+        by: 0,
+    }
+}
+
+// All is left.
+fn whole_stroke(s: Stroke) -> Cut
+    ensures { λ r. ⌜ r ≡ wholeCut s ⌝ }
+{
+    Cut {
         kept: true,
-        t0: Fraction { num: 0, den: 1 },
-        t1: Fraction { num: 1, den: 1 },
+        first: Fraction { num: 0, den: 1 },
+        last: Fraction { num: 1, den: 1 },
         ax: s.x1,
         ay: s.y1,
         bx: s.x2,
@@ -176,20 +200,56 @@ fn whole_stroke(s: Stroke) -> StrokeAnswer
     }
 }
 
-// A stroke that is not plainly in or out. Points are rounded at the unreduced fractions; each fraction is reduced once.
-fn crossing(w: Window, s: Stroke) -> StrokeAnswer
+// A stroke that is not plainly in or out.
+fn crossing(w: Window, s: Stroke) -> Cut
     requires { ⌜ WindowOnTable w ⌝ }
     requires { ⌜ StrokeOnTable s ⌝ }
-    ensures { λ r. ⌜ Clipped w s r ⌝ }
+    ensures { λ r. ⌜ CutIs w s r ⌝ }
 {
     let span = kept_span(w, s);
     if spans::is_empty(span) {
-        return blank(0, 0);
+        return missed();
     }
     let first = span.first;
     let last = span.last;
     let a = point_at(s, first);
     let b = point_at(s, last);
+    Cut {
+        kept: true,
+        first,
+        last,
+        ax: a.x,
+        ay: a.y,
+        bx: b.x,
+        by: b.y,
+    }
+}
+
+// What the window leaves of the stroke, the plain cases first.
+pub fn cut_stroke(w: Window, s: Stroke) -> Cut
+    requires { ⌜ WindowOnTable w ⌝ }
+    requires { ⌜ StrokeOnTable s ⌝ }
+    ensures { λ r. ⌜ CutIs w s r ⌝ }
+{
+    match plain_case(w, s) {
+        Plain::Outside => missed(),
+        Plain::Inside => whole_stroke(s),
+        Plain::Neither => crossing(w, s),
+    }
+}
+
+// Each fraction is brought to lowest terms once, at the end.
+fn clipped(w: Window, s: Stroke) -> StrokeAnswer
+    requires { ⌜ WindowOnTable w ⌝ }
+    requires { ⌜ StrokeOnTable s ⌝ }
+    ensures { λ r. ⌜ Clipped w s r ⌝ }
+{
+    let c = cut_stroke(w, s);
+    if !c.kept {
+        return blank(0, 0);
+    }
+    let first = c.first;
+    let last = c.last;
     let t0 = spans::lowest_part(first);
     let t1 = spans::lowest_part(last);
     StrokeAnswer {
@@ -198,23 +258,10 @@ fn crossing(w: Window, s: Stroke) -> StrokeAnswer
         kept: true,
         t0,
         t1,
-        ax: a.x,
-        ay: a.y,
-        bx: b.x,
-        by: b.y,
-    }
-}
-
-// The plain cases first.
-fn clipped(w: Window, s: Stroke) -> StrokeAnswer
-    requires { ⌜ WindowOnTable w ⌝ }
-    requires { ⌜ StrokeOnTable s ⌝ }
-    ensures { λ r. ⌜ Clipped w s r ⌝ }
-{
-    match plain_case(w, s) {
-        Plain::Outside => blank(0, 0),
-        Plain::Inside => whole_stroke(s),
-        Plain::Neither => crossing(w, s),
+        ax: c.ax,
+        ay: c.ay,
+        bx: c.bx,
+        by: c.by,
     }
 }
 

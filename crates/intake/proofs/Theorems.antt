@@ -1,0 +1,143 @@
+-- What the contracts of the intake mean; no function's proof needs this file.
+--   number-unique, point-unique, window-unique, back-unique   each relation has one answer at most
+--   times-32, over-32        32 x is exact in f32 unless it overflows, and then x is refused by 10; g / 32 is exact for every grid number g
+--   round-trip, point-round-trip   what comes back from the grid goes to the same grid number
+--   point-on-table, window-on-table   the numbers of an answer are on the table
+--   examples                 worked examples, each float by its bits
+use mathlib.Core.Path.{_≡_, refl, sym, ap, _∙_, subst}
+use mathlib.Core.Bool.{Bool, true, false, not}
+use Prim.Native.Nat.{ℕ, _+_, _*_, _^_, _≤_, _<_}
+use native.Mathlib.Nat.{zero-lt-suc}
+use native.Mathlib.Omega.{arith}
+use lib.Dec.{T, eqb}
+use lib.IntN.{ℤ, pos, negsuc, natAbs}
+use lib.Signed.{nonNeg}
+use lib.Ieee.{Float, nan, inf, fin, binary32, up, down, mul, div, ofInt, fits, ofBits}
+use lib.Ieee.Fits.{down-pos}
+use lib.Ieee.Exact.{HasValue}
+use Rattle.whole.specs.Choice.{if_then_else_}
+use Rattle.whole.proofs.Comparisons.{tt-ff}
+use Rattle.whole.proofs.Ranges.{within-abs}
+use Rattle.grid.specs.Table.{onTable}
+use Rattle.grid.specs.Refusals.{first, notANumber, tooFar}
+use Rattle.grid.specs.declared.Refusal.{Refusal}
+use Rattle.grid.proofs.Ranges.{on-within}
+use Rattle.intake.specs.declared.Coordinate.{Coordinate}
+use Rattle.intake.specs.declared.PointMm.{PointMm}
+use Rattle.intake.specs.declared.WindowMm.{WindowMm}
+use Rattle.intake.specs.declared.PointAnswer.{PointAnswer}
+use Rattle.intake.specs.declared.WindowAnswer.{WindowAnswer}
+use Rattle.intake.specs.declared.BackAnswer.{BackAnswer}
+use Rattle.intake.specs.Millimetres.{NearestEven, signed, GridNumber, nearest, faulty, at, Taken, on-range, pointFault, refusedPoint, pointAnswer, PointToGrid, windowFault, refusedWindow, windowAnswer, WindowToGrid, InMillimetres, ToMillimetres, done, refused}
+use Rattle.intake.proofs.Exact.{thirty-two, product-exact, product-over, quotient-exact, value-unique}
+use Rattle.intake.proofs.Outcome.{outcome, taken, taken-is, taken-on}
+use Rattle.intake.proofs.Ways.{overflows}
+use Rattle.intake.proofs.Answers.{point-is, to-point, window-is}
+
+-- ---- one answer
+
+pub number-unique : {x : Float} {o u : Coordinate} → Taken x o → Taken x u → o ≡ u
+number-unique t v = taken-is t ∙ sym (taken-is v)
+
+pub point-unique : {p : PointMm} {a b : PointAnswer} → PointToGrid p a → PointToGrid p b → a ≡ b
+point-unique r s = point-is r ∙ sym (point-is s)
+
+pub window-unique : {w : WindowMm} {a b : WindowAnswer} → WindowToGrid w a → WindowToGrid w b → a ≡ b
+window-unique r s = window-is r ∙ sym (window-is s)
+
+pub back-unique : {g : ℤ} {a b : BackAnswer} → ToMillimetres g a → ToMillimetres g b → a ≡ b
+back-unique (refused off) (refused _) = refl
+back-unique (refused off) (done on v) = absurd (tt-ff (sym on ∙ off))
+back-unique (done on v) (refused off) = absurd (tt-ff (sym on ∙ off))
+back-unique (done {g} {x} on v) (done {x = y} _ w) =
+    ap (λ (z : Float). record { number = 0; place = 0; mm = z }) (value-unique x y (not (nonNeg g)) (natAbs g) 32 (zero-lt-suc 31) (v .single) (w .single) (v .exact) (w .exact))
+
+-- ---- exactness
+
+pub times-32 : (s : Bool) (m : ℕ) (e : ℤ) → T (fits binary32 (fin s m e))
+    → (m * up e * 32 < 2 ^ 128 * down e → HasValue (mul binary32 (fin s m e) thirty-two) s (m * up e * 32) (down e))
+    × (2 ^ 128 * down e ≤ m * up e * 32 → (mul binary32 (fin s m e) thirty-two ≡ inf s) × Taken (fin s m e) (faulty tooFar))
+times-32 s m e t = (product-exact s m e t, λ h. (product-over s m e h, subst (Taken (fin s m e)) (sym (overflows s m e h)) (taken (fin s m e))))
+
+pub over-32 : (g : ℤ) → onTable g ≡ true → HasValue (div binary32 (ofInt binary32 g) thirty-two) (not (nonNeg g)) (natAbs g) 32
+over-32 g on = quotient-exact g (within-abs (on-within g on))
+
+-- ---- there and back
+
+itself : (n d : ℕ) → 0 < d → NearestEven (n * d) d n
+itself n d D =
+    let p : 2 * (n * d) ≡ 2 * (n * d) + d → ⊥ = λ z. omega arith in
+    record { not-low = omega arith; not-high = omega arith; half-low = λ z. absurd (p z); half-high = λ z. absurd (p z) }
+
+signed-size : (g : ℤ) → signed (not (nonNeg g)) (natAbs g) ≡ g
+signed-size (pos n) = refl
+signed-size (negsuc n) = refl
+
+comes-back : (g : ℤ) (x : Float) → onTable g ≡ true → InMillimetres g x → Taken x (at g)
+comes-back g nan on v = absurd (v .exact)
+comes-back g (inf s) on v = absurd (v .exact)
+comes-back g (fin s m e) on v =
+    let n = nearest s m e (natAbs g) (subst (λ (k : ℕ). NearestEven k (down e) (natAbs g)) (sym (v .exact .1)) (itself (natAbs g) (down e) (down-pos e))) in
+    on-range (subst (GridNumber (fin s m e)) (subst (λ (b : Bool). signed b (natAbs g) ≡ g) (sym (v .exact .0)) (signed-size g)) n) on
+
+pub round-trip : {g : ℤ} {a : BackAnswer} → onTable g ≡ true → ToMillimetres g a → Taken (a .mm) (at g)
+round-trip on (done {g} {x} _ v) = comes-back g x on v
+round-trip on (refused off) = absurd (tt-ff (sym on ∙ off))
+
+pub point-round-trip : {g h : ℤ} {a b : BackAnswer} → onTable g ≡ true → onTable h ≡ true → ToMillimetres g a → ToMillimetres h b
+    → PointToGrid (record { x = a .mm; y = b .mm }) (record { number = 0; place = 0; x = g; y = h })
+unfolding first pointFault pointAnswer
+point-round-trip {g} {h} p q r s = record { x = at g; y = at h; x-taken = round-trip p r; y-taken = round-trip q s; answer = refl }
+
+-- ---- on the table
+
+pub record PointOn (a : PointAnswer) : Type 0 where
+  pub x : onTable (a .x) ≡ true
+  pub y : onTable (a .y) ≡ true
+
+pub point-on-table : {p : PointMm} {a : PointAnswer} → PointToGrid p a → PointOn a
+unfolding pointAnswer onTable
+point-on-table r = let f = pointFault (r .x) (r .y) in subst PointOn (sym (r .answer)) (go f (eqb (f .number) 0))
+  where
+    go : (f : Refusal) (b : Bool) → PointOn (if b then record { number = 0; place = 0; x = r .x .grid; y = r .y .grid } else refusedPoint f)
+    go f true = record { x = taken-on (r .x-taken); y = taken-on (r .y-taken) }
+    go f false = record { x = refl; y = refl }
+
+pub record WindowOn (a : WindowAnswer) : Type 0 where
+  pub left : onTable (a .window .left) ≡ true
+  pub bottom : onTable (a .window .bottom) ≡ true
+  pub right : onTable (a .window .right) ≡ true
+  pub top : onTable (a .window .top) ≡ true
+
+pub window-on-table : {w : WindowMm} {a : WindowAnswer} → WindowToGrid w a → WindowOn a
+unfolding windowAnswer onTable
+window-on-table r = let f = windowFault (r .left) (r .bottom) (r .right) (r .top) in subst WindowOn (sym (r .answer)) (go f (eqb (f .number) 0))
+  where
+    go : (f : Refusal) (b : Bool)
+        → WindowOn (if b then record { number = 0; place = 0; window = record { left = r .left .grid; bottom = r .bottom .grid; right = r .right .grid; top = r .top .grid } } else refusedWindow f)
+    go f true = record { left = taken-on (r .left-taken); bottom = taken-on (r .bottom-taken); right = taken-on (r .right-taken); top = taken-on (r .top-taken) }
+    go f false = record { left = refl; bottom = refl; right = refl; top = refl }
+
+-- ---- worked examples, each float by its bits
+
+pub examples :
+    -- 511.96875
+    Taken (ofBits binary32 0x43ff_fc00) (at (pos 16383))
+    -- 511.984375, which is 16383.5 on the grid; the f32 below it; and both with the other sign
+    × Taken (ofBits binary32 0x43ff_fe00) (faulty tooFar) × Taken (ofBits binary32 0x43ff_fdff) (at (pos 16383))
+    × Taken (ofBits binary32 0xc3ff_fe00) (faulty tooFar) × Taken (ofBits binary32 0xc3ff_fdff) (at (negsuc 16382))
+    -- -0.0, and the smallest f32 above 0
+    × Taken (ofBits binary32 0x8000_0000) (at (pos 0)) × Taken (ofBits binary32 1) (at (pos 0))
+    -- 0.015625 and 0.046875, a half and one and a half on the grid; -0.046875
+    × Taken (ofBits binary32 0x3c80_0000) (at (pos 0)) × Taken (ofBits binary32 0x3d40_0000) (at (pos 2)) × Taken (ofBits binary32 0xbd40_0000) (at (negsuc 1))
+    -- a NaN, an infinity, and the greatest f32, of which 32 times overflows
+    × Taken (ofBits binary32 0x7fc0_0000) (faulty notANumber) × Taken (ofBits binary32 0xff80_0000) (faulty tooFar) × Taken (ofBits binary32 0x7f7f_ffff) (faulty tooFar)
+unfolding outcome ofBits
+examples = (taken _, taken _, taken _, taken _, taken _, taken _, taken _, taken _, taken _, taken _, taken _, taken _, taken _)
+
+-- the first faulty number decides: (511.96875, 511.984375) and (511.984375, NaN)
+pub point-examples :
+    PointToGrid (record { x = ofBits binary32 0x43ff_fc00; y = ofBits binary32 0x43ff_fe00 }) (record { number = tooFar; place = 1; x = pos 0; y = pos 0 })
+    × PointToGrid (record { x = ofBits binary32 0x43ff_fe00; y = ofBits binary32 0x7fc0_0000 }) (record { number = tooFar; place = 0; x = pos 0; y = pos 0 })
+unfolding outcome ofBits first pointFault pointAnswer
+point-examples = (to-point _ refl, to-point _ refl)
