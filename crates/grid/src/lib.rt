@@ -12,11 +12,21 @@ pub const WINDOW_OFF: u8 = 2;
 
 pub const WINDOW_BAD: u8 = 3;
 
+pub const ORDER_BAD: u8 = 4;
+
 pub const LENGTH_BAD: u8 = 5;
 
 pub const NUMBER_OFF: u8 = 6;
 
+pub const OUTLINE_BAD: u8 = 7;
+
 pub const OUTPUT_SHORT: u8 = 8;
+
+pub const NOT_A_NUMBER: u8 = 9;
+
+pub const TOO_FAR: u8 = 10;
+
+pub const DRAWING_BAD: u8 = 11;
 
 // A rectangle: its left, bottom, right and top side.
 #[repr(C)]
