@@ -12,7 +12,7 @@ use lib.Signed.{_<ℤ_, ltZ, ltZ-yes}
 use Rattle.whole.specs.Within.{Within}
 use Rattle.whole.proofs.Comparisons.{true-T, ff-tt}
 use Rattle.whole.specs.Choice.{if_then_else_}
-use Rattle.grid.specs.Table.{farthest, firstOff, sides, ends, WindowOnTable, StrokeOnTable}
+use Rattle.grid.specs.Table.{farthest, firstOff, sides, ends, WindowOnTable, StrokeOnTable, StrokesOnTable}
 use Rattle.grid.specs.Refusals.{windowOff, windowBad, lengthBad, numberOff, refuse, none, first, offTable, noArea, badStrokes, windowRefusal, strokeRefusal, strokesRefusal}
 use Rattle.grid.specs.declared.Window.{Window}
 use Rattle.grid.specs.declared.Stroke.{Stroke}
@@ -70,12 +70,6 @@ unfolding strokeRefusal
 stroke-on-table s e =
     let on = nothing-off numberOff (ends s) (omega arith) e in
     record { x1 = on 0 (omega arith); y1 = on 1 (omega arith); x2 = on 2 (omega arith); y2 = on 3 (omega arith) }
-
--- a list of strokes: its length, and each of its numbers
-pub record StrokesOnTable (zs : List ℤ) : Type 0 where
-  pub by-four : length zs % 4 ≡ 0
-  pub few : length zs ≤ 16384
-  pub on : (k : ℕ) → k < length zs → Within farthest (getD zs k (pos 0))
 
 pub strokes-on-table : (zs : List ℤ) → strokesRefusal zs .number ≡ 0 → StrokesOnTable zs
 unfolding strokesRefusal badStrokes

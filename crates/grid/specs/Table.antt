@@ -4,12 +4,15 @@
 --   firstOff zs   the index of the first number off the table; how many there are, if none is
 --   sides w       the four numbers of a window: left, bottom, right, top
 --   ends s        the four numbers of a stroke: x1, y1, x2, y2
+--   strokeAt zs p  the stroke whose first number stands at the place p of a list
 --   strokesOf zs  the strokes of a list, four numbers each
---   WindowOnTable w, StrokeOnTable s   what no call refuses: four numbers on the table, and a window has area
-use mathlib.Core.Bool.{Bool, true, false, _&&_}
+--   WindowOnTable w, StrokeOnTable s, StrokesOnTable zs   what no call refuses: numbers on the table, a window with area, a list of at most 4,096 strokes
+use mathlib.Core.Path.{_≡_}
+use mathlib.Core.Bool.{Bool, _&&_}
 use mathlib.Core.List.{List, [], _∷_}
-use Prim.Native.Nat.{ℕ, zero, suc}
+use Prim.Native.Nat.{ℕ, suc, _+_, _%_, _<_, _≤_}
 use lib.IntN.{ℤ, pos, negℤ}
+use lib.ListN.{length, getD}
 use lib.Signed.{leZ, _<ℤ_}
 use Rattle.whole.specs.Within.{Within}
 use Rattle.whole.specs.Choice.{if_then_else_}
@@ -32,6 +35,9 @@ sides w = w .left ∷ w .bottom ∷ w .right ∷ w .top ∷ []
 abbrev pub ends : Stroke → List ℤ
 ends s = s .x1 ∷ s .y1 ∷ s .x2 ∷ s .y2 ∷ []
 
+abbrev pub strokeAt : List ℤ → ℕ → Stroke
+strokeAt zs p = record { x1 = getD zs p (pos 0); y1 = getD zs (p + 1) (pos 0); x2 = getD zs (p + 2) (pos 0); y2 = getD zs (p + 3) (pos 0) }
+
 unfoldable pub strokesOf : List ℤ → List Stroke
 strokesOf (a ∷ b ∷ c ∷ d ∷ zs) = record { x1 = a; y1 = b; x2 = c; y2 = d } ∷ strokesOf zs
 strokesOf (a ∷ b ∷ c ∷ []) = []
@@ -52,3 +58,8 @@ pub record StrokeOnTable (s : Stroke) : Type 0 where
   pub y1 : Within farthest (s .y1)
   pub x2 : Within farthest (s .x2)
   pub y2 : Within farthest (s .y2)
+
+pub record StrokesOnTable (zs : List ℤ) : Type 0 where
+  pub by-four : length zs % 4 ≡ 0
+  pub few : length zs ≤ 16384
+  pub on : (k : ℕ) → k < length zs → Within farthest (getD zs k (pos 0))

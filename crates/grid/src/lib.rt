@@ -3,7 +3,7 @@ ghost use mathlib.Core.Path.{_≡_};
 ghost use mathlib.Core.List.{[], _∷_};
 ghost use Prim.Native.Nat.{_+_, _≤_};
 ghost use lib.ListN.{length};
-ghost use Rattle.grid.specs.Table.{onTable, firstOff};
+ghost use Rattle.grid.specs.Table.{onTable, firstOff, strokeAt};
 ghost use Rattle.grid.specs.Refusals.{windowRefusal, strokeRefusal, strokesRefusal};
 ghost use Rattle.grid.specs.Calls.{answered, written};
 
@@ -171,6 +171,19 @@ pub fn strokes_refusal(s: &[i32]) -> Refusal
     Refusal {
         number: 0,
         place: 0,
+    }
+}
+
+// The stroke whose first number stands at p.
+pub fn stroke_at(s: &[i32], p: usize) -> Stroke
+    requires { ⌜ p + 4 ≤ length (now s) ⌝ }
+    ensures { λ r. ⌜ r ≡ strokeAt (now (s .entry)) p ⌝ }
+{
+    Stroke {
+        x1: s[p],
+        y1: s[p + 1],
+        x2: s[p + 2],
+        y2: s[p + 3],
     }
 }
 

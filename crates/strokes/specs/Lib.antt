@@ -1,3 +1,2 @@
 pub mod Strokes
 pub mod Workers
-pub mod Batch

@@ -1,0 +1,105 @@
+// Many strokes against one rectangle: for each kept stroke its index and its two rounded points, into a lent output.
+use grid::Answer;
+use grid::Window;
+use strokes::Cut;
+ghost use mathlib.Core.Path.{_≡_};
+ghost use mathlib.Core.List.{List, [], _∷_};
+ghost use Prim.Native.Nat.{_+_, _≤_};
+ghost use lib.IntN.{ℤ};
+ghost use lib.ListN.{length};
+ghost use lib.Seq.{sets};
+ghost use Rattle.grid.specs.Calls.{written};
+ghost use Rattle.grid.specs.Table.{WindowOnTable, StrokesOnTable};
+ghost use Rattle.batch.specs.Batches.{RowsOf, Batch, Wrote};
+
+// Puts a kept stroke's index and points from n on.
+fn put(out: &mut [i32], n: usize, k: i32, c: Cut)
+    requires { ⌜ n + 5 ≤ length (now out) ⌝ }
+    ensures { λ _. ⌜ now (out .exit) ≡ sets (now (out .entry)) n (k ∷ c .ax ∷ c .ay ∷ c .bx ∷ c .by ∷ []) ⌝ }
+{
+    let ax = c.ax;
+    let ay = c.ay;
+    let bx = c.bx;
+    let by = c.by;
+    out[n] = k;
+    out[n + 1] = ax;
+    out[n + 2] = ay;
+    out[n + 3] = bx;
+    out[n + 4] = by;
+}
+
+// How many numbers the answer has.
+fn count_rows(w: Window, s: &[i32]) -> usize
+    requires { ⌜ WindowOnTable w ⌝ }
+    requires { ⌜ StrokesOnTable (now s) ⌝ }
+    ensures { λ r. ⌜ ((xs : List ℤ) → RowsOf w (now (s .entry)) xs → r ≡ length xs) ⌝ }
+{
+    let mut n = 0;
+    let mut p = 0;
+    while p < s.len() {
+        let c = strokes::cut_stroke(w, grid::stroke_at(s, p));
+        if c.kept {
+            n += 5;
+        }
+        p += 4;
+    }
+    n
+}
+
+// Writes the answer, for which there is room, and says how many numbers it has.
+fn write_rows(w: Window, s: &[i32], out: &mut [i32]) -> usize
+    requires { ⌜ WindowOnTable w ⌝ }
+    requires { ⌜ StrokesOnTable (now s) ⌝ }
+    requires { ⌜ ((xs : List ℤ) → RowsOf w (now s) xs → length xs ≤ length (now out)) ⌝ }
+    ensures { λ r. ⌜ Wrote w (now (s .entry)) r (now (out .entry)) (now (out .exit)) ⌝ }
+{
+    let mut n = 0;
+    let mut p = 0;
+    while p < s.len() {
+        let c = strokes::cut_stroke(w, grid::stroke_at(s, p));
+        if c.kept {
+            put(out, n, (p / 4) as i32, c);
+            n += 5;
+        }
+        p += 4;
+    }
+    n
+}
+
+// The batch. With room for every stroke given one pass is enough; else the answer is counted first.
+pub fn batch(w: Window, s: &[i32], out: &mut [i32]) -> Answer
+    ensures { λ r. ⌜ Batch w (now (s .entry)) r (now (out .entry)) (now (out .exit)) ⌝ }
+{
+    let a = grid::window_refusal(w);
+    if a.number != 0 {
+        return Answer {
+            number: a.number,
+            place: a.place,
+            count: 0,
+        };
+    }
+    let b = grid::strokes_refusal(s);
+    if b.number != 0 {
+        return Answer {
+            number: b.number,
+            place: b.place,
+            count: 0,
+        };
+    }
+    if out.len() < s.len() / 4 * 5 {
+        let n = count_rows(w, s);
+        if out.len() < n {
+            return Answer {
+                number: grid::OUTPUT_SHORT,
+                place: n,
+                count: 0,
+            };
+        }
+    }
+    let n = write_rows(w, s, out);
+    Answer {
+        number: 0,
+        place: 0,
+        count: n,
+    }
+}

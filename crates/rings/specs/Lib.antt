@@ -1,0 +1,5 @@
+pub mod Lists
+pub mod Points
+pub mod Rings
+pub mod Cuts
+pub mod Windows
