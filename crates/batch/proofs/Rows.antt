@@ -2,25 +2,28 @@
 use mathlib.Core.Path.{_≡_, refl, sym, ap, _∙_, subst}
 use mathlib.Core.Bool.{Bool, true, false}
 use mathlib.Core.List.{List, [], _∷_, _++_, map}
-use Prim.Native.Nat.{ℕ, zero, suc, _+_, _*_, _/_, _≤_, _<_}
+use Prim.Native.Nat.{ℕ, suc, _+_, _*_, _/_, _≤_, _<_}
 use native.Mathlib.Omega.{arith}
 use lib.IntN.{ℤ, pos}
-use lib.ListN.{length, drop, length-append}
+use lib.ListN.{length, getD, drop, length-append}
 use Rattle.whole.specs.Choice.{if_then_else_}
+use Rattle.whole.specs.Within.{Within}
 use Rattle.fraction.proofs.Computed.{lowestOf, lowestOf-is}
+use Rattle.grid.specs.declared.Answer.{Answer}
 use Rattle.grid.specs.declared.Stroke.{Stroke}
 use Rattle.grid.specs.declared.Window.{Window}
 use Rattle.grid.specs.Refusals.{none}
-use Rattle.grid.specs.Table.{strokeAt, strokesOf, WindowOnTable, StrokeOnTable, StrokesOnTable}
+use Rattle.grid.specs.Table.{farthest, strokeAt, strokesOf, WindowOnTable, StrokesOnTable}
+use Rattle.grid.proofs.Calls.{call-unique}
 use Rattle.grid.proofs.StrokeLists.{strokes-more, strokes-none, stroke-of-list}
-use Rattle.strokes.specs.Strokes.{Clipped, blank}
-use Rattle.strokes.specs.Workers.{CutIs, keptAnswer}
+use Rattle.strokes.specs.Strokes.{Clipped}
+use Rattle.strokes.specs.Workers.{CutIs}
 use Rattle.strokes.specs.declared.Cut.{Cut}
 use Rattle.strokes.specs.declared.StrokeAnswer.{StrokeAnswer}
 use Rattle.strokes.proofs.Answers.{nothing-kept}
 use Rattle.strokes.proofs.Computed.{clippedOf, clippedOf-is}
 use Rattle.strokes.proofs.Unique.{clipped-unique}
-use Rattle.batch.specs.Batches.{Each, row, rows, RowsOf}
+use Rattle.batch.specs.Batches.{Each, row, rows, RowsOf, Batch, batchRefusal}
 use Rattle.batch.specs.Batches as batches
 
 -- ---- one list of rows
@@ -30,3 +33,80 @@ each-unique (batches._and_ p ps) (batches._and_ q qs) = λ i. clipped-unique p q
 
 pub rows-unique : {w : Window} {zs xs ys : List ℤ} → RowsOf w zs xs → RowsOf w zs ys → xs ≡ ys
 rows-unique p q = p .are ∙ ap (rows 0) (each-unique (p .clipped) (q .clipped)) ∙ sym (q .are)
+
+-- two results of the batch are equal, answer and output
+pub batch-unique : {w : Window} {zs : List ℤ} {a b : Answer} {before after after′ : List ℤ} → Batch w zs a before after → Batch w zs b before after′ → (a ≡ b) × (after ≡ after′)
+batch-unique {w} {zs} p q = call-unique (batchRefusal w zs) (λ xs ys. rows-unique) p q
+
+-- ---- the rows of the computed answers
+module _ {w : Window} (on : WindowOnTable w) where
+  each-clipped : (zs : List ℤ) → ((k : ℕ) → k < length zs → Within farthest (getD zs k (pos 0))) → Each (Clipped w) (strokesOf zs) (map (clippedOf w) (strokesOf zs))
+  unfolding strokesOf
+  each-clipped [] h = batches.none
+  each-clipped (a ∷ []) h = batches.none
+  each-clipped (a ∷ b ∷ []) h = batches.none
+  each-clipped (a ∷ b ∷ c ∷ []) h = batches.none
+  each-clipped (a ∷ b ∷ c ∷ d ∷ zs) h =
+      batches._and_ (clippedOf-is on (record { x1 = h 0 (omega arith); y1 = h 1 (omega arith); x2 = h 2 (omega arith); y2 = h 3 (omega arith) }))
+      (each-clipped zs (λ k l. h (suc (suc (suc (suc k)))) (omega arith)))
+
+-- the computed rows of the strokes from the place p on
+abbrev pub rowsFrom : Window → List ℤ → ℕ → List ℤ
+rowsFrom w zs p = rows (p / 4) (map (clippedOf w) (strokesOf (drop p zs)))
+
+pub computed-rows : {w : Window} {zs : List ℤ} → WindowOnTable w → StrokesOnTable zs → RowsOf w zs (rowsFrom w zs 0)
+computed-rows {w} {zs} on t = record { answers = map (clippedOf w) (strokesOf zs); clipped = each-clipped on zs (t .on); are = refl }
+
+module _ (w : Window) (zs : List ℤ) (p : ℕ) where
+  pub rows-more : p + 4 ≤ length zs → rowsFrom w zs p ≡ row (p / 4) (clippedOf w (strokeAt zs p)) ++ rowsFrom w zs (p + 4)
+  unfolding rows
+  rows-more h = let next : (p + 4) / 4 ≡ suc (p / 4) = omega arith in rw (strokes-more zs p h, next)
+
+  pub rows-none : length zs ≤ p → rowsFrom w zs p ≡ []
+  unfolding rows
+  rows-none h = rw (strokes-none zs p h)
+
+-- ---- what is to be written from the place p on, by the cut of the stroke there
+module _ {w : Window} {zs : List ℤ} {c : Cut} {s : Stroke} (p : ℕ) (on : WindowOnTable w) (t : StrokesOnTable zs) (h : p + 4 ≤ length zs) (e : s ≡ strokeAt zs p) (k : CutIs w s c) where
+  first-row : {a : StrokeAnswer} → Clipped w (strokeAt zs p) a → rowsFrom w zs p ≡ row (p / 4) a ++ rowsFrom w zs (p + 4)
+  first-row q = rows-more w zs p h ∙ ap (λ (a : StrokeAnswer). row (p / 4) a ++ rowsFrom w zs (p + 4)) (clipped-unique (clippedOf-is on (stroke-of-list p t h)) q)
+
+  there : CutIs w (strokeAt zs p) c
+  there = subst (λ (s : Stroke). CutIs w s c) e k
+
+  pub rows-kept : c .kept ≡ true → rowsFrom w zs p ≡ (pos (p / 4) ∷ c .ax ∷ c .ay ∷ c .bx ∷ c .by ∷ []) ++ rowsFrom w zs (p + 4)
+  rows-kept e =
+      let n = there .kept e in
+      first-row
+      (n .answer (lowestOf (c .first .num) (c .first .den)) (lowestOf (c .last .num) (c .last .den)) (lowestOf-is _ (n .first .den)) (lowestOf-is _ (n .last .den)))
+
+  pub rows-missed : c .kept ≡ false → rowsFrom w zs p ≡ rowsFrom w zs (p + 4)
+  rows-missed e = first-row (nothing-kept (there .missed e))
+
+-- five numbers a stroke at the most
+row-short : (k : ℕ) (a : StrokeAnswer) → length (row k a) ≤ 5
+row-short k a = go (a .kept)
+  where
+    go : (b : Bool) → length (if b then pos k ∷ a .ax ∷ a .ay ∷ a .bx ∷ a .by ∷ [] else []) ≤ 5
+    go true = omega arith
+    go false = omega arith
+
+rows-short : (k : ℕ) (answers : List StrokeAnswer) → length (rows k answers) ≤ 5 * length answers
+unfolding rows
+rows-short k [] = omega arith
+rows-short k (a ∷ answers) = omega (arith, length-append (row k a) (rows (suc k) answers), row-short k a, rows-short (suc k) answers)
+
+strokes-short : (zs : List ℤ) → 4 * length (strokesOf zs) ≤ length zs
+unfolding strokesOf
+strokes-short [] = omega arith
+strokes-short (a ∷ []) = omega arith
+strokes-short (a ∷ b ∷ []) = omega arith
+strokes-short (a ∷ b ∷ c ∷ []) = omega arith
+strokes-short (a ∷ b ∷ c ∷ d ∷ zs) = omega (arith, strokes-short zs)
+
+pub rows-of-short : {w : Window} {zs xs : List ℤ} → RowsOf w zs xs → length xs ≤ length zs / 4 * 5
+rows-of-short {w} {zs} {xs} p = omega (arith, ap length (p .are), rows-short 0 (p .answers), strokes-short zs, each-length (p .clipped))
+  where
+    each-length : {ss : List Stroke} {ys : List StrokeAnswer} → Each (Clipped w) ss ys → length ys ≡ length ss
+    each-length batches.none = refl
+    each-length (batches._and_ p ps) = ap suc (each-length ps)

@@ -8,7 +8,6 @@ ghost use Prim.Native.Nat.{_+_, _≤_};
 ghost use lib.IntN.{ℤ};
 ghost use lib.ListN.{length};
 ghost use lib.Seq.{sets};
-ghost use Rattle.grid.specs.Calls.{written};
 ghost use Rattle.grid.specs.Table.{WindowOnTable, StrokesOnTable};
 ghost use Rattle.batch.specs.Batches.{RowsOf, Batch, Wrote};
 
@@ -34,16 +33,16 @@ fn count_rows(w: Window, s: &[i32]) -> usize
     requires { ⌜ StrokesOnTable (now s) ⌝ }
     ensures { λ r. ⌜ ((xs : List ℤ) → RowsOf w (now (s .entry)) xs → r ≡ length xs) ⌝ }
 {
-    let mut n = 0;
-    let mut p = 0;
-    while p < s.len() {
-        let c = strokes::cut_stroke(w, grid::stroke_at(s, p));
-        if c.kept {
-            n += 5;
+    let mut needed = 0;
+    let mut at = 0;
+    while at < s.len() {
+        let cut = strokes::cut_stroke(w, grid::stroke_at(s, at));
+        if cut.kept {
+            needed += 5;
         }
-        p += 4;
+        at += 4;
     }
-    n
+    needed
 }
 
 // Writes the answer, for which there is room, and says how many numbers it has.
@@ -87,11 +86,11 @@ pub fn batch(w: Window, s: &[i32], out: &mut [i32]) -> Answer
         };
     }
     if out.len() < s.len() / 4 * 5 {
-        let n = count_rows(w, s);
-        if out.len() < n {
+        let needed = count_rows(w, s);
+        if out.len() < needed {
             return Answer {
                 number: grid::OUTPUT_SHORT,
-                place: n,
+                place: needed,
                 count: 0,
             };
         }

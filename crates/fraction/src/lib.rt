@@ -61,6 +61,24 @@ pub fn lowest(num: i64, den: i64) -> Fraction
     }
 }
 
+// n/d in lowest terms, for numbers of 32 bits.
+pub fn lowest_small(n: u32, d: u32) -> Fraction
+    requires { ⌜ 0 < d ⌝ }
+    ensures { λ r. ⌜ LowestOf (pos n) (pos d) r ⌝ }
+{
+    let g = common(n, d);
+    if g == 1 {
+        return Fraction {
+            num: n as i64,
+            den: d as i64,
+        };
+    }
+    Fraction {
+        num: (n / g) as i64,
+        den: (d / g) as i64,
+    }
+}
+
 // Whether f is less than g.
 pub fn less(f: Fraction, g: Fraction) -> bool
     requires { ⌜ Comparable f g ⌝ }

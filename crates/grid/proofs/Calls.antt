@@ -1,15 +1,37 @@
--- Two results of a call are equal, answer and output, wherever the list that it gives is the only one: by whether it refuses.
+-- A call refuses, has too little room, or gives its list; and two results of a call are equal, answer and output, wherever the list that it gives is the only one.
 use mathlib.Core.Path.{_≡_, refl, sym, ap, _∙_}
 use mathlib.Core.Bool.{Bool, true, false}
 use mathlib.Core.List.{List}
-use Prim.Native.Nat.{ℕ}
-use borrow.Author.Tests.{eqb-true, eqb-false}
+use Prim.Native.Nat.{_<_, _≤_}
+use borrow.Author.Tests.{eqb-true, eqb-false, le-leb, lt-leb}
 use lib.Dec.{eqb}
 use lib.IntN.{ℤ}
 use lib.ListN.{length}
-use Rattle.grid.specs.Calls.{answered, written, Call}
+use Rattle.grid.specs.Calls.{refusedBy, answered, written, Call}
+use Rattle.grid.specs.Refusals.{outputShort}
 use Rattle.grid.specs.declared.Refusal.{Refusal}
 use Rattle.grid.specs.declared.Answer.{Answer}
+
+module _ {r : Refusal} {Gives : List ℤ → Type 0} {before : List ℤ} where
+  pub call-refused : {q : Refusal} → r ≡ q → (q .number ≡ 0 → ⊥) → Call r Gives (refusedBy q) before before
+  call-refused e n = record {
+    refused = λ _. record { answer = ap refusedBy (sym e); untouched = refl };
+    given = λ z. absurd (n (ap (λ (s : Refusal). s .number) (sym e) ∙ z));
+  }
+
+  pub call-short : (xs : List ℤ) → r .number ≡ 0 → Gives xs → length before < length xs → Call r Gives (record { number = outputShort; place = length xs; count = 0 }) before before
+  unfolding answered written
+  call-short xs z g h = record {
+    refused = λ n. absurd (n z);
+    given = λ _. record { numbers = xs; gives = g; answer = simp (lt-leb _ _ h); output = simp (lt-leb _ _ h) };
+  }
+
+  pub call-wrote : (xs : List ℤ) {after : List ℤ} → r .number ≡ 0 → Gives xs → length xs ≤ length before → after ≡ written xs before → Call r Gives (record { number = 0; place = 0; count = length xs }) before after
+  unfolding answered
+  call-wrote xs z g h e = record {
+    refused = λ n. absurd (n z);
+    given = λ _. record { numbers = xs; gives = g; answer = simp (le-leb _ _ h); output = e };
+  }
 
 pub call-unique : (r : Refusal) {Gives : List ℤ → Type 0} {a b : Answer} {before after after′ : List ℤ}
     → ((xs ys : List ℤ) → Gives xs → Gives ys → xs ≡ ys) → Call r Gives a before after → Call r Gives b before after′ → (a ≡ b) × (after ≡ after′)

@@ -1,8 +1,8 @@
 -- The first refusal that applies, and what is known of a window, a stroke or a list of strokes in which nothing is refused.
-use mathlib.Core.Path.{_≡_, refl, sym, ap, _∙_, subst}
+use mathlib.Core.Path.{_≡_, refl}
 use mathlib.Core.Bool.{Bool, true, false, _&&_}
 use mathlib.Core.List.{List, [], _∷_}
-use Prim.Native.Nat.{ℕ, zero, suc, _%_, _<_, _≤_}
+use Prim.Native.Nat.{ℕ, _%_, _<_}
 use native.Mathlib.Omega.{arith}
 use borrow.Author.Tests.{eq-eqb, ne-eqb, eqb-true, eqb-false, leb-true, ltb-false}
 use lib.Dec.{eqb, leb, ltb}
@@ -10,7 +10,7 @@ use lib.IntN.{ℤ, pos}
 use lib.ListN.{length, getD}
 use lib.Signed.{_<ℤ_, ltZ, ltZ-yes}
 use Rattle.whole.specs.Within.{Within}
-use Rattle.whole.proofs.Comparisons.{true-T, ff-tt}
+use Rattle.whole.proofs.Comparisons.{true-T}
 use Rattle.whole.specs.Choice.{if_then_else_}
 use Rattle.grid.specs.Table.{farthest, firstOff, sides, ends, WindowOnTable, StrokeOnTable, StrokesOnTable}
 use Rattle.grid.specs.Refusals.{windowOff, windowBad, lengthBad, numberOff, refuse, none, first, offTable, noArea, badStrokes, windowRefusal, strokeRefusal, strokesRefusal}

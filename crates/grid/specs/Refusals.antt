@@ -6,7 +6,7 @@
 --   noArea w       3 where left >= right or bottom >= top
 --   badStrokes zs  5 where a list is not a multiple of four numbers or has more than 4,096 strokes
 --   windowRefusal, strokeRefusal, strokesRefusal   what a call refuses in a window, a stroke, a list of strokes
-use mathlib.Core.Bool.{Bool, true, false, _&&_}
+use mathlib.Core.Bool.{_&&_}
 use mathlib.Core.List.{List, [], _∷_}
 use Prim.Native.Nat.{ℕ, _*_, _%_}
 use lib.Dec.{eqb, leb, ltb}

@@ -1,5 +1,5 @@
 -- Cutting a span of fractions by one condition p·t ≤ q, case by case: each case is a certificate over the cross products.
-use mathlib.Core.List.{List, [], _∷_}
+use mathlib.Core.List.{[], _∷_}
 use Prim.Native.Nat.{ℕ, _≤_}
 use lib.IntN.{ℤ, pos, _-ℤ_, _*ℤ_}
 use lib.Signed.{_≤ℤ_, _<ℤ_}

@@ -1,7 +1,6 @@
 // What a window keeps of a stroke, as a span of fractions: cut by one condition after the other, and brought to lowest terms once, at the end.
 use fraction::Fraction;
 ghost use mathlib.Core.Path.{_≡_};
-ghost use lib.IntN.{ℤ, pos};
 ghost use Rattle.whole.specs.Within.{Within};
 ghost use Rattle.fraction.specs.Fraction.{LowestOf, lessThan};
 ghost use Rattle.spans.specs.Parts.{Time};
@@ -70,5 +69,5 @@ pub fn lowest_part(t: Fraction) -> Fraction
     if t.num == t.den {
         return Fraction { num: 1, den: 1 };
     }
-    fraction::lowest(t.num, t.den)
+    fraction::lowest_small(t.num as u32, t.den as u32)
 }

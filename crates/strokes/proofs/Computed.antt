@@ -1,6 +1,6 @@
 -- The answer as a function, which satisfies the statement and so is the only answer that does. With it a worked example computes, and a loop over strokes has equations.
-use mathlib.Core.Path.{_≡_, refl, sym, subst, _∙_}
-use mathlib.Core.Bool.{Bool, true, false}
+use mathlib.Core.Path.{_≡_, refl}
+use mathlib.Core.Bool.{true}
 use mathlib.Core.List.{List, [], _∷_}
 use Prim.Native.Nat.{ℕ}
 use native.Mathlib.Omega.{arith}
@@ -25,7 +25,7 @@ use Rattle.spans.specs.declared.Span.{Span}
 use Rattle.spans.specs.Spans.{Proper, Sized, SpanOf}
 use Rattle.spans.proofs.Computed.{cutBy, cutBy-is}
 use Rattle.spans.proofs.Parts.{all, all-proper, all-sized}
-use Rattle.strokes.specs.Strokes.{Keeps, PointAt, Clipped, Clipping, strokeCallRefusal, blank}
+use Rattle.strokes.specs.Strokes.{Keeps, Clipped, Clipping, strokeCallRefusal, blank}
 use Rattle.strokes.specs.Workers.{CutAcross}
 use Rattle.strokes.specs.declared.StrokeAnswer.{StrokeAnswer}
 use Rattle.strokes.proofs.Answers.{nothing-kept, span-missed, span-kept}

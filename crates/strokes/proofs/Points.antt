@@ -1,10 +1,10 @@
 -- The stroke's points: at 0 and at 1 its own ends; rounded points never leave the window; and there is one for each fraction.
-use mathlib.Core.Path.{_≡_, refl, sym, ap, _∙_, subst}
+use mathlib.Core.Path.{_≡_}
 use mathlib.Core.List.{[], _∷_}
 use lib.IntN.{ℤ, pos, _*ℤ_, _+ℤ_, _-ℤ_}
 use lib.Signed.{_≤ℤ_, _<ℤ_}
 use Rattle.whole.proofs.Certificates.{eqn, eq-by}
-use Rattle.whole.proofs.Expressions.{var, con, _⊕_, _⊖_, _⊗_, x0, x1, x2, x3}
+use Rattle.whole.proofs.Expressions.{con, _⊕_, _⊖_, _⊗_, x0, x1, x2, x3}
 use Rattle.fraction.specs.declared.Fraction.{Fraction}
 use Rattle.fraction.specs.Fraction.{LowestOf}
 use Rattle.fraction.proofs.Rounding.{rounded-unique, rounded-exact, rounded-inside, rounded-same}

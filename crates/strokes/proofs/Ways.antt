@@ -1,12 +1,10 @@
 -- The way of one coordinate from a to b: plainly beyond lo or hi, plainly between them, and cut by the two conditions of its axis.
-use mathlib.Core.List.{List, [], _∷_}
-use Prim.Native.Nat.{ℕ, _≤_}
-use native.Mathlib.Omega.{arith}
+use mathlib.Core.List.{[], _∷_}
+use Prim.Native.Nat.{_≤_}
 use lib.IntN.{ℤ, pos, _-ℤ_, _*ℤ_}
 use lib.Signed.{_≤ℤ_, _<ℤ_}
-use Rattle.whole.specs.Within.{Within}
 use Rattle.whole.proofs.Certificates.{ge, clash, po, nn, le, _⊞_, _⊠_}
-use Rattle.whole.proofs.Expressions.{Expr, Env, var, con, _⊕_, _⊖_, _⊗_}
+use Rattle.whole.proofs.Expressions.{Expr, var, con, _⊕_, _⊖_, _⊗_}
 use Rattle.whole.proofs.Order.{next-≤}
 use Rattle.grid.specs.declared.Stroke.{Stroke}
 use Rattle.grid.specs.declared.Window.{Window}

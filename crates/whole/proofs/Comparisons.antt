@@ -5,10 +5,11 @@ use mathlib.Core.Logic.{⊎-elim}
 use mathlib.Core.Bool.{Bool, true, false, not}
 use Prim.Native.Nat.{ℕ, _^_, _<_}
 use lib.Dec.{T}
-use lib.IntN.{ℤ, pos, negsuc, negℤ}
-use lib.Signed.{_≤ℤ_, _<ℤ_, ltZ, leZ, ltZ-yes, ltZ-no, leZ-yes, mag}
+use lib.IntN.{ℤ, pos, negsuc, negℤ, natAbs}
+use lib.Signed.{_≤ℤ_, _<ℤ_, ltZ, leZ, ltZ-yes, ltZ-no, leZ-yes, mag, nonNeg, yes-nonNeg, pos-natAbs}
 use mir.Syntax.{Width}
-use mir.Val.{SFits, hbits, toZ, ofZ}
+use mir.Val.{SFits, Fits, hbits, toZ, ofZ}
+use mir.Val.{bits as width}
 use mir.Facts.{toZ-ofZ, T-not}
 use Rattle.whole.specs.Choice.{if_then_else_}
 use Rattle.whole.proofs.Naturals.{neg-plus, neg-minus}
@@ -94,3 +95,11 @@ plain P f h = subst P (toZ-ofZ f) h
 
 pub bits : {w : Width} {z : ℤ} (P : ℤ → Type 0) → SFits w z → P z → P (toZ w (ofZ w z))
 bits P f h = subst P (sym (toZ-ofZ f)) h
+
+-- ---- a number that is not negative, cast to an unsigned type: what the cast asks, and what it gives
+module _ (w : Width) {z : ℤ} (f : SFits w z) (h : pos 0 ≤ℤ z) where
+  pub cast-unsigned : (u : Width) → natAbs z < 2 ^ width u → T (nonNeg (toZ w (ofZ w z))) × Fits u (natAbs (toZ w (ofZ w z)))
+  cast-unsigned u l = subst (λ (y : ℤ). T (nonNeg y) × Fits u (natAbs y)) (sym (toZ-ofZ f)) (yes-nonNeg h, record { fits = l })
+
+  pub cast-is : pos (natAbs (toZ w (ofZ w z))) ≡ z
+  cast-is = ap (λ (y : ℤ). pos (natAbs y)) (toZ-ofZ f) ∙ pos-natAbs z (yes-nonNeg h)

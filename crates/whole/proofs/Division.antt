@@ -1,20 +1,15 @@
 -- Division of signed numbers: `quotZ` and `remZ` of the logic go toward zero; the whole number below a quotient is `Floor`. Each law is the one of ℕ with the signs put on.
 use mathlib.Core.Path.{_≡_, refl, sym, ap, _∙_, subst}
-use mathlib.Core.List.{List, [], _∷_}
-use Prim.Native.Nat.{ℕ, zero, suc, _+_, _*_, _/_, _%_, _^_, _<_, _≤_}
-use native.Mathlib.Nat.{div-add-mod, mod-lt, div-le-self, lt-of-le-of-lt, le-trans}
-use native.Mathlib.Omega.{arith}
+use mathlib.Core.List.{[], _∷_}
+use Prim.Native.Nat.{ℕ, zero, suc, _+_, _*_, _/_, _%_, _<_, _≤_}
+use native.Mathlib.Nat.{div-add-mod, mod-lt, div-le-self}
 use lib.IntN.{ℤ, pos, negsuc, negℤ, natAbs, _+ℤ_, _-ℤ_, _*ℤ_}
 use lib.Signed.{_≤ℤ_, _<ℤ_, quotZ, remZ}
-use mir.Syntax.{Width}
-use mir.Val.{SFits, hbits, toZ, ofZ}
-use mir.Facts.{toZ-ofZ}
 use Rattle.whole.proofs.Naturals.{neg-plus, neg-minus}
 use Rattle.whole.proofs.Expressions.{con, _⊕_, _⊖_, _⊗_, neg, x0, x1, x2, x3}
 use Rattle.whole.proofs.Polynomials.{ring}
-use Rattle.whole.proofs.Order.{zarith, sub-is, ≤-antisym, diff-≤}
-use Rattle.whole.proofs.Certificates.{ge, gt, ge-by, clash, eqn, _⊹_, eq-by, eq, po, le, lt, nn, _⊞_, _⊠_}
-use Rattle.whole.proofs.Ranges.{fits-abs}
+use Rattle.whole.proofs.Order.{zarith, ≤-antisym}
+use Rattle.whole.proofs.Certificates.{ge, gt, eq, po, le, lt, nn, _⊞_}
 
 -- ---- the sizes
 pub abs-neg : (x : ℤ) → natAbs (negℤ x) ≡ natAbs x

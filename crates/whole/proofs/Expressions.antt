@@ -1,10 +1,10 @@
 -- Expressions over ℤ, quoted. `den ρ e` computes to the expression itself; `P ρ e` and `N ρ e` are two naturals whose difference it is,
 -- so that an equation or an order between two expressions is one between naturals, which `omega` proves.
-use mathlib.Core.Path.{_≡_, refl, sym, ap, _∙_, subst}
+use mathlib.Core.Path.{_≡_, ap}
 use mathlib.Core.List.{List, [], _∷_}
 use Prim.Native.Nat.{ℕ, zero, suc, _+_, _*_, _-_, _<_, _≤_}
 use native.Mathlib.Omega.{arith}
-use lib.IntN.{ℤ, pos, negsuc, negℤ, _+ℤ_, _-ℤ_, _*ℤ_}
+use lib.IntN.{ℤ, pos, negℤ, _+ℤ_, _-ℤ_, _*ℤ_}
 use lib.Signed.{_≤ℤ_, _<ℤ_}
 use Rattle.whole.proofs.Naturals.{plus, minus, eq-of, eq-to, le-of, le-to, lt-of, lt-to, neg-plus, neg-minus, add-is, mul-is}
 

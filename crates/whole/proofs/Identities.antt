@@ -1,9 +1,9 @@
 -- The solver at work: identities of the plane and of space.
-use mathlib.Core.Path.{_≡_, refl, sym, ap, _∙_, subst}
-use mathlib.Core.List.{List, [], _∷_}
-use Prim.Native.Nat.{ℕ, zero, suc}
-use lib.IntN.{ℤ, pos, negsuc, negℤ, _+ℤ_, _-ℤ_, _*ℤ_}
-use Rattle.whole.proofs.Expressions.{Expr, var, con, _⊕_, _⊖_, _⊗_, neg, Env, at, means, x0, x1, x2, x3}
+use mathlib.Core.Path.{_≡_}
+use mathlib.Core.List.{[], _∷_}
+use Prim.Native.Nat.{ℕ, suc}
+use lib.IntN.{ℤ, _+ℤ_, _-ℤ_, _*ℤ_}
+use Rattle.whole.proofs.Expressions.{Expr, var, _⊕_, _⊖_, _⊗_, neg, Env, means, x0, x1, x2, x3}
 use Rattle.whole.proofs.Polynomials.{ring}
 
 abbrev pub cross : ℤ → ℤ → ℤ → ℤ → ℤ

@@ -1,16 +1,16 @@
 -- The order of ℤ, and proofs of inequalities by a certificate: `ge ρ a b C tt : means ρ a ≤ℤ means ρ b`, where C is a sum of products of what is not negative and the solver sees that b − a is that sum.
-use mathlib.Core.Path.{_≡_, refl, sym, ap, _∙_, subst}
+use mathlib.Core.Path.{_≡_, refl, sym, subst}
 use mathlib.Core.Logic.{_⊎_, inl, inr}
 use mathlib.Core.Bool.{Bool, true, false}
-use mathlib.Core.List.{List, [], _∷_}
+use mathlib.Core.List.{[], _∷_}
 use Prim.Native.Nat.{ℕ, zero, suc, _+_, _*_, _<_, _≤_, zero-le}
 use native.Mathlib.Omega.{arith}
-use lib.Dec.{T, leb, ltb, leb→le, le→leb, ltb→lt, lt→ltb}
+use lib.Dec.{T, leb, ltb, le→leb, lt→ltb}
 use lib.IntN.{ℤ, pos, negsuc, negℤ, _+ℤ_, _-ℤ_, _*ℤ_}
-use lib.Signed.{_≤ℤ_, _<ℤ_, leZ, ltZ, ltZ-yes, ltZ-no, leZ-yes}
+use lib.Signed.{_≤ℤ_, _<ℤ_, ltZ, ltZ-yes, ltZ-no}
 use Rattle.whole.proofs.Naturals.{plus, minus, eq-of, eq-to, le-of, le-to, lt-of, lt-to, neg-plus, neg-minus, add-is, mul-is}
-use Rattle.whole.proofs.Expressions.{Expr, var, con, _⊕_, _⊖_, _⊗_, neg, Env, at, means, eqN, leN, ltN, Nle, Nlt, Neq, x0, x1, x2, x3}
-use Rattle.whole.proofs.Polynomials.{ring, same}
+use Rattle.whole.proofs.Expressions.{con, _⊖_, _⊗_, neg, x0, x1}
+use Rattle.whole.proofs.Polynomials.{ring}
 
 -- ---- `omega` on ℤ: hypotheses and goals of ℤ are read through these, `omega zarith`; each sum, difference or product in them is an unknown, of which `omega (zarith, add-is x y, sub-is x y, mul-is x y)` tells
 pub sub-is : (x y : ℤ) → plus (x -ℤ y) + (minus x + plus y) ≡ minus (x -ℤ y) + (plus x + minus y)

@@ -1,59 +1,62 @@
+-- `batch::count_rows` meets its contract: the numbers counted, and those of the strokes from p on, are as many as the computed rows have. Assumes nothing.
+use Prim.Native.Nat.{_≤_, _-_, _+_, _*_, _%_}
+use mathlib.Core.Path.{_≡_, sym, ap, subst}
+use mathlib.Core.Logic.{⊎-elim}
+use native.Mathlib.Omega.{arith}
+use denote.Ref.{now}
+use lib.ListN.{length}
+use Rattle.grid.proofs.StrokeLists.{stroke-of-list}
+use Rattle.grid.specs.Table.{StrokeOnTable}
+use Rattle.batch.proofs.Rows.{rowsFrom, rows-none, rows-kept, rows-missed, computed-rows, rows-unique}
 use Rattle.batch.proofs.count_rows.Statement.{statement}
 use Rattle.batch.proofs.count_rows.Tie as tie
-use Rattle.batch.proofs.count_rows.Reads as reads
-use Rattle.batch.proofs.count_rows.Lts as lts
-use Rattle.grid.proofs.stroke_at.Reads as stroke-at-reads
-use Rattle.strokes.proofs.cut_stroke.Reads as cut-stroke-reads
 
 abbrev Inv-loop : tie.InvT-loop
-Inv-loop w s n₀ p₀ n p = ?
+Inv-loop w s needed₀ at₀ n p = (p % 4 ≡ 0) × (p ≤ length s) × (4 * n ≤ 5 * p) × (n + length (rowsFrom w s p) ≡ length (rowsFrom w s 0))
 
 abbrev μ-loop : tie.MeasureT-loop
-μ-loop w s n₀ p₀ n p = ?
+μ-loop w s needed₀ at₀ n p = length s - p
 
--- src/lib.rt:39:5
+-- a whole stroke is left
+whole : (c : tie.In-loop Inv-loop μ-loop) → c .before .loop .at + 4 ≤ length (now (c .before .before .args .s))
+whole c = omega (arith, c .before .before .pre .1 .by-four)
+
 loop-holds : tie.Need-loop-holds Inv-loop μ-loop
-loop-holds c = ?
+loop-holds c = (omega arith, omega arith, omega arith, omega arith)
 
--- src/lib.rt:40:40
 stroke-at-requires : tie.Need-stroke-at-requires Inv-loop μ-loop
-stroke-at-requires c κs = ?
+stroke-at-requires c κs = whole c
 
--- src/lib.rt:40:13
 cut-stroke-requires : tie.Need-cut-stroke-requires Inv-loop μ-loop
-cut-stroke-requires c κs = ?
+cut-stroke-requires c κs =
+    let a = c .before .before .before in
+    (a .pre .0, subst StrokeOnTable (sym (c .stroke-at .ensures)) (stroke-of-list (c .before .before .loop .at) (a .pre .1) (whole (c .before))))
 
--- src/lib.rt:42:13
-add-n : tie.Need-add-n Inv-loop μ-loop
-add-n c = ?
+add-needed : tie.Need-add-needed Inv-loop μ-loop
+add-needed c = omega (arith, c .before .before .before .before .before .pre .1 .few)
 
--- src/lib.rt:44:9
-add-p : tie.Need-add-p Inv-loop μ-loop
-add-p c = ?
+add-at : tie.Need-add-at Inv-loop μ-loop
+add-at c = omega (arith, c .before .before .before .before .before .pre .1 .few)
 
--- src/lib.rt:39:5
 loop-less : tie.Need-loop-less Inv-loop μ-loop
-loop-less c = ?
+loop-less c = omega arith
 
--- src/lib.rt:39:5
 loop-again : tie.Need-loop-again Inv-loop μ-loop
-loop-again c = ?
+loop-again c =
+    let k = c .before in
+    let b = k .before .before in
+    let a = b .before .before in
+    let p = b .before .loop .at in
+    ⊎-elim
+    (λ o. omega (arith, whole b, o .1, ap length (rows-kept p (a .pre .0) (a .pre .1) (whole b) (k .before .stroke-at .ensures) (k .cut-stroke .ensures) (o .0 .taken))))
+    (λ o. omega (arith, whole b, o .1, ap length (rows-missed p (a .pre .0) (a .pre .1) (whole b) (k .before .stroke-at .ensures) (k .cut-stroke .ensures) (o .0 .left))))
+    (c .if1 .came)
 
--- src/lib.rt:32:1
 returns : tie.Need-returns Inv-loop μ-loop
-returns c = ?
+returns c xs r =
+    let a = c .before .before in
+    let l = c .before .loop in
+    omega (arith, l .inv .3, ap length (rows-none (a .args .w) (now (a .args .s)) (l .at) (c .loop-test .left)), ap length (rows-unique (computed-rows (a .pre .0) (a .pre .1)) r))
 
 pub count-rows-spec : {M : Type 1} → statement M
-count-rows-spec =
-    tie.close
-    (tie.spec
-    Inv-loop
-    μ-loop
-    loop-holds
-    stroke-at-requires
-    cut-stroke-requires
-    add-n
-    add-p
-    loop-less
-    loop-again
-    returns)
+count-rows-spec = tie.close (tie.spec Inv-loop μ-loop loop-holds stroke-at-requires cut-stroke-requires add-needed add-at loop-less loop-again returns)

@@ -1,72 +1,65 @@
+-- `batch::put` meets its contract: five stores, one after the other. Assumes nothing.
+use native.Mathlib.Numerals.{towards-suc}
+use native.Mathlib.Omega.{arith}
 use borrow.Author.Needs.{needs}
+use lib.ListN.{length-set}
+use mir.Syntax.{w32}
+use mir.Facts.{toZ-ofZ}
+use Rattle.whole.proofs.Comparisons.{back}
 use Rattle.batch.proofs.put.Statement.{statement}
 use Rattle.batch.proofs.put.Tie as tie
-use Rattle.batch.proofs.put.Reads as reads
-use Rattle.batch.proofs.put.Lts as lts
 
--- src/lib.rt:24:5
 mul-k : tie.Need-mul-k
 mul-k c = search needs
 
--- src/lib.rt:24:5
 slice-set-from-k : tie.Need-slice-set-from-k
 slice-set-from-k c = search needs
 
--- src/lib.rt:25:9
 add-ax : tie.Need-add-ax
 add-ax c = search needs
 
--- src/lib.rt:25:5
 mul-ax : tie.Need-mul-ax
 mul-ax c = search needs
 
--- src/lib.rt:25:5
 slice-set-from-ax : tie.Need-slice-set-from-ax
-slice-set-from-ax c = ?
+slice-set-from-ax c = simp length-set (omega arith)
 
--- src/lib.rt:26:9
 add-ay : tie.Need-add-ay
 add-ay c = search needs
 
--- src/lib.rt:26:5
 mul-ay : tie.Need-mul-ay
 mul-ay c = search needs
 
--- src/lib.rt:26:5
 slice-set-from-ay : tie.Need-slice-set-from-ay
-slice-set-from-ay c = ?
+slice-set-from-ay c = simp length-set (omega arith)
 
--- src/lib.rt:27:9
 add-bx : tie.Need-add-bx
 add-bx c = search needs
 
--- src/lib.rt:27:5
 mul-bx : tie.Need-mul-bx
 mul-bx c = search needs
 
--- src/lib.rt:27:5
 slice-set-from-bx : tie.Need-slice-set-from-bx
-slice-set-from-bx c = ?
+slice-set-from-bx c = simp length-set (omega arith)
 
--- src/lib.rt:28:9
 add-by : tie.Need-add-by
 add-by c = search needs
 
--- src/lib.rt:28:5
 mul-by : tie.Need-mul-by
 mul-by c = search needs
 
--- src/lib.rt:28:5
 slice-set-from-by : tie.Need-slice-set-from-by
-slice-set-from-by c = ?
+slice-set-from-by c = simp length-set (omega arith)
 
--- src/lib.rt:16:1
 same-length : tie.Need-same-length
 same-length c = search needs
 
--- src/lib.rt:16:1
 returns : tie.Need-returns
-returns c = ?
+returns c =
+    let a = c .before .before .before .before in
+    let g = c .before .before .before .struct-told .given .1 .1 .1 in
+    simp (toZ-ofZ (a .fits .k), back w32 (a .args .c .ax) (g .0 .1), back w32 (a .args .c .ay) (g .1 .0 .1), back w32 (a .args .c .bx) (g .1 .1 .0 .1), back w32 (a .args .c .by) (g .1 .1 .1 .0 .1))
+    (simp towards-suc)
 
 pub put-spec : {M : Type 1} → statement M
 put-spec =

@@ -1,5 +1,5 @@
 -- `fraction::part_of` meets its contract: where run is d the number is n itself; else the quotient and its remainder say how far the answer is from run·n/d. Assumes nothing.
-use mathlib.Core.Path.{_≡_, ap, _∙_}
+use mathlib.Core.Path.{ap, _∙_}
 use Prim.Native.Nat.{_*_, _≤_}
 use native.Mathlib.Nat.{mul-le-mul, mul-comm}
 use native.Mathlib.Omega.{arith}

@@ -1,5 +1,4 @@
 -- `grid::give` meets its contract: without room nothing is written; with room, what `copy` ensures. Assumes nothing.
-use native.Mathlib.Omega.{arith}
 use borrow.Author.Needs.{needs}
 use borrow.Author.Tests.{le-leb, lt-leb}
 use Rattle.grid.specs.Calls.{answered, written}

@@ -1,5 +1,5 @@
 -- `strokes::across` meets its contract: two cuts, `cut-across`. Assumes nothing.
-use mathlib.Core.Path.{_≡_, sym, subst, subst₂}
+use mathlib.Core.Path.{sym, subst, subst₂}
 use mathlib.Core.List.{List, [], _∷_}
 use Prim.Native.Nat.{ℕ}
 use native.Mathlib.Omega.{arith}

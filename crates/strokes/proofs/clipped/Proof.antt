@@ -1,5 +1,5 @@
 -- `strokes::clipped` meets its contract: what `cut_stroke` leaves, its fractions in lowest terms, is the answer. Assumes nothing.
-use mathlib.Core.Path.{_≡_, sym, subst, transport}
+use mathlib.Core.Path.{sym, subst, transport}
 use mathlib.Core.Bool.{true}
 use native.Mathlib.Omega.{arith}
 use borrow.Author.Needs.{needs}

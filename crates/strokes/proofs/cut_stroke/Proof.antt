@@ -1,5 +1,5 @@
 -- `strokes::cut_stroke` meets its contract: each case of `plain_case` has its law. Assumes nothing.
-use mathlib.Core.Path.{_≡_, sym, subst}
+use mathlib.Core.Path.{sym, subst}
 use borrow.Author.Needs.{needs}
 use Rattle.strokes.specs.Workers.{Plainly, CutIs}
 use Rattle.strokes.proofs.Answers.{cut-missed, cut-whole}

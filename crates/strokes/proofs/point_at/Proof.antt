@@ -1,18 +1,18 @@
 -- `strokes::point_at` meets its contract: at 0 and at 1 the point is the stroke's own end; between, each coordinate is rounded. Assumes nothing.
-use mathlib.Core.Path.{_≡_, sym, ap, _∙_, subst₂, transport}
+use mathlib.Core.Path.{_≡_, sym, subst₂, transport}
 use Prim.Native.Nat.{ℕ, _<_, _≤_}
 use native.Mathlib.Omega.{arith}
 use lib.IntN.{ℤ, pos, natAbs}
-use lib.Signed.{yes-nonNeg, pos-natAbs, _≤ℤ_}
+use lib.Signed.{_≤ℤ_}
 use mir.Syntax.{w32, w64}
 use mir.Val.{SFits, toZ, ofZ}
-use mir.Facts.{toZ-ofZ, sfits-lit}
+use mir.Facts.{sfits-lit}
 use Rattle.whole.specs.Within.{Within}
-use Rattle.whole.proofs.Comparisons.{bits, bits-eq, back}
+use Rattle.whole.proofs.Comparisons.{bits-eq, back, cast-unsigned, cast-is}
 use Rattle.whole.proofs.Order.{zarith}
 use Rattle.whole.proofs.Ranges.{within-abs, fits-abs}
 use Rattle.fraction.specs.Rounding.{along, Rounded}
-use Rattle.grid.specs.Table.{farthest, StrokeOnTable}
+use Rattle.grid.specs.Table.{farthest}
 use Rattle.spans.proofs.Parts.{time-within}
 use Rattle.strokes.specs.Strokes.{PointAt}
 use Rattle.strokes.proofs.Reading.{read, read-is, read-on-table}
@@ -33,14 +33,11 @@ den-positive c = let h = c .pre .1 .0 .den in omega zarith
 abbrev cast : ℤ → ℕ
 cast z = natAbs (toZ w64 (ofZ w64 z))
 
-cast-is : {z : ℤ} → Within 32766 z → pos 0 ≤ℤ z → pos (cast z) ≡ z
-cast-is {z} h k = ap (λ (y : ℤ). pos (natAbs y)) (toZ-ofZ (small-fits h)) ∙ pos-natAbs z (yes-nonNeg k)
-
 num-is : (c : tie.Start) → pos (cast (c .args .t .num)) ≡ c .args .t .num
-num-is c = cast-is (num-small c) (c .pre .1 .0 .low)
+num-is c = cast-is w64 (small-fits (num-small c)) (c .pre .1 .0 .low)
 
 den-is : (c : tie.Start) → pos (cast (c .args .t .den)) ≡ c .args .t .den
-den-is c = cast-is (c .pre .1 .1) (den-positive c)
+den-is c = cast-is w64 (small-fits (c .pre .1 .1)) (den-positive c)
 
 den-range : (c : tie.Start) → (0 < cast (c .args .t .den)) × (cast (c .args .t .den) ≤ 32766)
 den-range c = (omega (zarith, den-is c, c .pre .1 .0 .den), omega (zarith, den-is c, c .pre .1 .1 .high))
@@ -67,12 +64,12 @@ returns-2 c =
 cast-n : tie.Need-cast-n
 cast-n c =
     let a = c .before .before .before .before .before .before .before .before in
-    rw (toZ-ofZ (small-fits (num-small a))) (yes-nonNeg (a .pre .1 .0 .low), record { fits = omega (arith, within-abs (num-small a)) })
+    cast-unsigned w64 (small-fits (num-small a)) (a .pre .1 .0 .low) w32 (omega (arith, within-abs (num-small a)))
 
 cast-d : tie.Need-cast-d
 cast-d c =
     let a = c .before .before .before .before .before .before .before .before .before .before in
-    rw (toZ-ofZ (small-fits (a .pre .1 .1))) (yes-nonNeg (den-positive a), record { fits = omega (arith, within-abs (a .pre .1 .1)) })
+    cast-unsigned w64 (small-fits (a .pre .1 .1)) (den-positive a) w32 (omega (arith, within-abs (a .pre .1 .1)))
 
 rounded-requires : tie.Need-rounded-requires
 rounded-requires c κs =
