@@ -78,7 +78,7 @@ module _ {w : Window} {zs : List ℤ} {c : Cut} {s : Stroke} (p : ℕ) (on : Win
   rows-kept e =
       let n = there .kept e in
       first-row
-      (n .answer (lowestOf (c .first .num) (c .first .den)) (lowestOf (c .last .num) (c .last .den)) (lowestOf-is _ (n .first .den)) (lowestOf-is _ (n .last .den)))
+      (n .answer (lowestOf (c .first .num) (c .first .den)) (lowestOf (c .last .num) (c .last .den)) (lowestOf-is _ (n .fractions .first .den)) (lowestOf-is _ (n .fractions .last .den)))
 
   pub rows-missed : c .kept ≡ false → rowsFrom w zs p ≡ rowsFrom w zs (p + 4)
   rows-missed e = first-row (nothing-kept (there .missed e))

@@ -1,6 +1,6 @@
 -- What is left of a stroke: nothing, all of it, or the part that a span of kept fractions leaves; and the answers of these.
-use mathlib.Core.Path.{refl}
-use mathlib.Core.Bool.{true}
+use mathlib.Core.Path.{_≡_, refl, sym, subst}
+use mathlib.Core.Bool.{Bool, true, false}
 use native.Mathlib.Omega.{arith}
 use lib.IntN.{ℤ, _*ℤ_}
 use lib.Signed.{_≤ℤ_, _<ℤ_}
@@ -13,9 +13,11 @@ use Rattle.spans.specs.declared.Span.{Span}
 use Rattle.spans.specs.Parts.{Time, zeroth, unit}
 use Rattle.spans.specs.Spans.{SpanOf}
 use Rattle.spans.proofs.Cutting.{in-time}
-use Rattle.spans.proofs.Parts.{all, all-proper, all-sized, in-all, in-first, in-last, part-missed, none-left, span-part}
+use Rattle.spans.proofs.Parts.{all, all-proper, all-sized, in-all, in-first, in-last, part-missed, none-left, span-part, lowest-zeroth, lowest-unit}
 use Rattle.strokes.specs.Strokes.{Keeps, PointAt, Clipped, blank}
-use Rattle.strokes.specs.Workers.{missedCut, wholeCut, CutIs}
+use Rattle.strokes.specs.Workers.{missedCut, wholeCut, wholeAnswer, CutIs, AnswerOf}
+use Rattle.strokes.specs.declared.Cut.{Cut}
+use Rattle.strokes.specs.declared.StrokeAnswer.{StrokeAnswer}
 use Rattle.strokes.proofs.Points.{point-start, point-finish, point-lowest}
 
 module _ {w : Window} {s : Stroke} where
@@ -55,10 +57,7 @@ module _ {w : Window} {s : Stroke} where
       span-kept a b = record {
         missed = λ e. absurd (tt-ff e);
         kept = λ e. record {
-          first = first-time;
-          last = last-time;
-          first-small = g .sized .d0;
-          last-small = g .sized .d1;
+          fractions = record { first = first-time; last = last-time; first-small = g .sized .d0; last-small = g .sized .d1 };
           answer = λ t u p q. record {
             number = refl;
             place = refl;
@@ -75,3 +74,14 @@ module _ {w : Window} {s : Stroke} where
 
   pub cut-whole : ((n d : ℤ) → Time n d → Keeps w s n d) → CutIs w s (wholeCut s)
   cut-whole always = span-kept (always-kept always) (omega zarith) (point-start {f = zeroth} (omega zarith) refl) (point-finish {f = unit} (omega zarith) refl)
+
+  -- ---- the answers of these
+  pub whole-answer : ((n d : ℤ) → Time n d → Keeps w s n d) → Clipped w s (wholeAnswer s)
+  whole-answer always = cut-whole always .kept refl .answer zeroth unit (lowest-zeroth refl) (lowest-unit refl)
+
+  pub cut-answer : {c : Cut} {a : StrokeAnswer} → CutIs w s c → AnswerOf c a → Clipped w s a
+  cut-answer {c} {a} p q = go (c .kept) refl
+    where
+      go : (k : Bool) → c .kept ≡ k → Clipped w s a
+      go true e = let r = q .kept e in subst (Clipped w s) (sym (r .answer)) (p .kept e .answer (a .t0) (a .t1) (r .first) (r .last))
+      go false e = subst (Clipped w s) (sym (q .missed e)) (nothing-kept (p .missed e))

@@ -3,8 +3,11 @@
 --   Plainly w s p             what p says of where the stroke lies is so; `Neither` says nothing
 --   missedCut, wholeCut s     what is left of a stroke that is missed, and of one that is kept whole
 --   keptAnswer c t u          the answer for a kept cut whose fractions in lowest terms are t and u
+--   wholeAnswer s             the answer for a stroke that is kept whole
+--   Fractions c               both fractions of a cut are from 0 to 1, with denominators not above 32,766
 --   Ends w s c                the ends of a kept cut are right: with its fractions in lowest terms it is the answer
 --   CutIs w s c               c is what the window leaves of the stroke
+--   Reduced c a, AnswerOf c a  a is the cut c with its fractions in lowest terms; so it is where c is kept, else nothing is kept
 use mathlib.Core.Path.{_≡_}
 use mathlib.Core.Bool.{true, false}
 use lib.IntN.{ℤ, pos}
@@ -14,10 +17,11 @@ use Rattle.fraction.specs.declared.Fraction.{Fraction}
 use Rattle.fraction.specs.Fraction.{LowestOf}
 use Rattle.grid.specs.declared.Stroke.{Stroke}
 use Rattle.grid.specs.declared.Window.{Window}
+use Rattle.grid.specs.Refusals.{none}
 use Rattle.spans.specs.declared.Span.{Span}
 use Rattle.spans.specs.Parts.{Time, zeroth, unit}
 use Rattle.spans.specs.Spans.{In, Proper, Sized}
-use Rattle.strokes.specs.Strokes.{Across, Keeps, Clipped}
+use Rattle.strokes.specs.Strokes.{Across, Keeps, Clipped, blank}
 use Rattle.strokes.specs.declared.Cut.{Cut}
 use Rattle.strokes.specs.declared.StrokeAnswer.{StrokeAnswer}
 use Rattle.strokes.specs.declared.Plain.{Plain}
@@ -54,13 +58,28 @@ keptAnswer c t u = record {
   by = c .by;
 }
 
-pub record Ends (w : Window) (s : Stroke) (c : Cut) : Type 0 where
+abbrev pub wholeAnswer : Stroke → StrokeAnswer
+wholeAnswer s = keptAnswer (wholeCut s) zeroth unit
+
+pub record Fractions (c : Cut) : Type 0 where
   pub first : Time (c .first .num) (c .first .den)
   pub last : Time (c .last .num) (c .last .den)
   pub first-small : Within 32766 (c .first .den)
   pub last-small : Within 32766 (c .last .den)
+
+pub record Ends (w : Window) (s : Stroke) (c : Cut) : Type 0 where
+  pub fractions : Fractions c
   pub answer : (t u : Fraction) → LowestOf (c .first .num) (c .first .den) t → LowestOf (c .last .num) (c .last .den) u → Clipped w s (keptAnswer c t u)
 
 pub record CutIs (w : Window) (s : Stroke) (c : Cut) : Type 0 where
   pub missed : c .kept ≡ false → (n d : ℤ) → Keeps w s n d → ⊥
   pub kept : c .kept ≡ true → Ends w s c
+
+pub record Reduced (c : Cut) (a : StrokeAnswer) : Type 0 where
+  pub first : LowestOf (c .first .num) (c .first .den) (a .t0)
+  pub last : LowestOf (c .last .num) (c .last .den) (a .t1)
+  pub answer : a ≡ keptAnswer c (a .t0) (a .t1)
+
+pub record AnswerOf (c : Cut) (a : StrokeAnswer) : Type 0 where
+  pub missed : c .kept ≡ false → a ≡ blank none
+  pub kept : c .kept ≡ true → Reduced c a

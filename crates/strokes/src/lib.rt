@@ -12,7 +12,7 @@ ghost use Rattle.grid.specs.Table.{farthest, WindowOnTable, StrokeOnTable};
 ghost use Rattle.spans.specs.Parts.{Time};
 ghost use Rattle.spans.specs.Spans.{Proper, Sized, SpanOf};
 ghost use Rattle.strokes.specs.Strokes.{Across, Keeps, PointAt, Clipped, Clipping, blank as Strokes·blank};
-ghost use Rattle.strokes.specs.Workers.{CutAcross, Plainly, missedCut, wholeCut, CutIs};
+ghost use Rattle.strokes.specs.Workers.{CutAcross, Plainly, missedCut, wholeCut, wholeAnswer, Fractions, CutIs, AnswerOf};
 
 // What a stroke call answers: a refusal's number and place, or whether the stroke is kept, from which fraction of its way to which,
 // and the two points there, rounded to the grid.
@@ -236,13 +236,11 @@ pub fn cut_stroke(w: Window, s: Stroke) -> Cut
     }
 }
 
-// Each fraction is brought to lowest terms once, at the end.
-fn clipped(w: Window, s: Stroke) -> StrokeAnswer
-    requires { ⌜ WindowOnTable w ⌝ }
-    requires { ⌜ StrokeOnTable s ⌝ }
-    ensures { λ r. ⌜ Clipped w s r ⌝ }
+// The answer of a cut: each fraction is brought to lowest terms once, here.
+fn answer_of(c: Cut) -> StrokeAnswer
+    requires { ⌜ (c .kept ≡ true → Fractions c) ⌝ }
+    ensures { λ r. ⌜ AnswerOf c r ⌝ }
 {
-    let c = cut_stroke(w, s);
     if !c.kept {
         return blank(0, 0);
     }
@@ -260,6 +258,36 @@ fn clipped(w: Window, s: Stroke) -> StrokeAnswer
         ay: c.ay,
         bx: c.bx,
         by: c.by,
+    }
+}
+
+// The answer of a stroke that is kept whole.
+fn whole_answer(s: Stroke) -> StrokeAnswer
+    ensures { λ r. ⌜ r ≡ wholeAnswer s ⌝ }
+{
+    StrokeAnswer {
+        number: 0,
+        place: 0,
+        kept: true,
+        t0: Fraction { num: 0, den: 1 },
+        t1: Fraction { num: 1, den: 1 },
+        ax: s.x1,
+        ay: s.y1,
+        bx: s.x2,
+        by: s.y2,
+    }
+}
+
+// The plain cases first: nothing is divided or reduced for them.
+fn clipped(w: Window, s: Stroke) -> StrokeAnswer
+    requires { ⌜ WindowOnTable w ⌝ }
+    requires { ⌜ StrokeOnTable s ⌝ }
+    ensures { λ r. ⌜ Clipped w s r ⌝ }
+{
+    match plain_case(w, s) {
+        Plain::Outside => blank(0, 0),
+        Plain::Inside => whole_answer(s),
+        Plain::Neither => answer_of(crossing(w, s)),
     }
 }
 
