@@ -66,16 +66,16 @@ pub fn lowest_small(n: u32, d: u32) -> Fraction
     requires { ⌜ 0 < d ⌝ }
     ensures { λ r. ⌜ LowestOf (pos n) (pos d) r ⌝ }
 {
-    let g = common(n, d);
-    if g == 1 {
+    let divisor = common(n, d);
+    if divisor == 1 {
         return Fraction {
             num: n as i64,
             den: d as i64,
         };
     }
     Fraction {
-        num: (n / g) as i64,
-        den: (d / g) as i64,
+        num: (n / divisor) as i64,
+        den: (d / divisor) as i64,
     }
 }
 
