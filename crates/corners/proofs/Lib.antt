@@ -1,0 +1,9 @@
+pub mod Places
+pub mod Convexity
+pub mod Walking
+pub mod Edges
+pub mod Refusals
+pub mod Answers
+pub mod Computed
+pub mod Examples
+pub mod Rectangles

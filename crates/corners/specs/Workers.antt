@@ -1,0 +1,64 @@
+-- What the workers behind the corner calls promise each other.
+--   CornersOnTable zs         zs are three corners or more, two numbers each, all on the table
+--   CornerOnTable a           both numbers of a corner are on the table
+--   Short w                   a way no longer than the table, across and up
+--   cornerAt zs i             the corner whose two numbers stand at i
+--   wayFrom a b               the way from a to b
+--   crossOf a b               the cross product of two ways: positive where b turns left from a, 0 where they are parallel
+--   turnsLeft a b             b turns left from a
+--   keepsTurning base seen edge next step   seen from the first corner the next one lies left of the first edge and of the latest corner, and the step to it turns left from the latest edge
+--   start s, finish s         where a stroke starts, and where it ends
+--   edgeP a b s, edgeQ a b s  the p and the q of an edge: the stroke's point at t is left of or on the edge from a to b where p·t ≤ q
+use mathlib.Core.Path.{_≡_}
+use mathlib.Core.Bool.{Bool, _&&_}
+use mathlib.Core.List.{List}
+use Prim.Native.Nat.{ℕ, _+_, _*_, _%_, _≤_, _<_}
+use lib.IntN.{ℤ, pos, _-ℤ_, _*ℤ_}
+use lib.ListN.{length, getD}
+use lib.Signed.{ltZ}
+use Rattle.whole.specs.Within.{Within}
+use Rattle.grid.specs.Table.{farthest}
+use Rattle.grid.specs.declared.Stroke.{Stroke}
+use Rattle.corners.specs.Corners.{fewest}
+use Rattle.corners.specs.declared.Corner.{Corner}
+use Rattle.corners.specs.declared.Way.{Way}
+
+pub record CornersOnTable (zs : List ℤ) : Type 0 where
+  pub even : length zs % 2 ≡ 0
+  pub three : 2 * fewest ≤ length zs
+  pub on : (k : ℕ) → k < length zs → Within farthest (getD zs k (pos 0))
+
+pub record CornerOnTable (a : Corner) : Type 0 where
+  pub x : Within farthest (a .x)
+  pub y : Within farthest (a .y)
+
+pub record Short (w : Way) : Type 0 where
+  pub x : Within (2 * farthest) (w .x)
+  pub y : Within (2 * farthest) (w .y)
+
+abbrev pub cornerAt : List ℤ → ℕ → Corner
+cornerAt zs i = record { x = getD zs i (pos 0); y = getD zs (i + 1) (pos 0) }
+
+abbrev pub wayFrom : Corner → Corner → Way
+wayFrom a b = record { x = b .x -ℤ a .x; y = b .y -ℤ a .y }
+
+abbrev pub crossOf : Way → Way → ℤ
+crossOf a b = a .x *ℤ b .y -ℤ a .y *ℤ b .x
+
+unfoldable pub turnsLeft : Way → Way → Bool
+turnsLeft a b = ltZ (pos 0) (crossOf a b)
+
+unfoldable pub keepsTurning : Way → Way → Way → Way → Way → Bool
+keepsTurning base seen edge next step = (turnsLeft base next && turnsLeft seen next) && turnsLeft edge step
+
+abbrev pub start : Stroke → Corner
+start s = record { x = s .x1; y = s .y1 }
+
+abbrev pub finish : Stroke → Corner
+finish s = record { x = s .x2; y = s .y2 }
+
+abbrev pub edgeP : Corner → Corner → Stroke → ℤ
+edgeP a b s = crossOf (wayFrom (start s) (finish s)) (wayFrom a b)
+
+abbrev pub edgeQ : Corner → Corner → Stroke → ℤ
+edgeQ a b s = crossOf (wayFrom a b) (wayFrom a (start s))

@@ -1,0 +1,74 @@
+//! The lines on which the two programs are compared. First come the worked examples, the same for every
+//! seed, then each family's fixed list, the few long lines, and random lines up to the count.
+
+mod batches;
+mod corner_windows;
+mod drawing_faults;
+mod drawings;
+mod examples;
+mod flaws;
+mod floats;
+mod line;
+mod long;
+mod malformed;
+mod numbers;
+mod outline_limits;
+mod outlines;
+mod room;
+mod shapes;
+mod sketch;
+mod slips;
+mod stroke_kinds;
+mod strokes;
+mod windows;
+
+use crate::random::Random;
+
+/// At least the fixed lists and the long lines, else exactly `count` lines.
+pub fn lot(seed: u64, count: usize) -> Vec<Vec<u8>> {
+    let mut random = Random::new(seed);
+    let mut lot = fixed();
+    lot.extend(long::lines(&mut random));
+    while lot.len() + 1 < count {
+        let line = any(&mut random);
+        lot.push(line);
+    }
+    // The last line has no newline, so it must not be an empty one.
+    lot.push(strokes::line(&mut random));
+    lot
+}
+
+fn fixed() -> Vec<Vec<u8>> {
+    let lists = [
+        examples::lines(),
+        floats::fixed(),
+        strokes::fixed(),
+        corner_windows::fixed(),
+        batches::fixed(),
+        outline_limits::lines(),
+        drawing_faults::lines(),
+        malformed::lines(),
+    ];
+    lists.concat()
+}
+
+/// A line of some family; every twentieth or so is spoiled as a line of the desk.
+fn any(random: &mut Random) -> Vec<u8> {
+    let line = well_formed(random);
+    if random.one_in(20) {
+        slips::slip(random, line)
+    } else {
+        line
+    }
+}
+
+fn well_formed(random: &mut Random) -> Vec<u8> {
+    match random.below(100) {
+        0..=13 => floats::line(random),
+        14..=45 => strokes::line(random),
+        46..=59 => corner_windows::line(random),
+        60..=70 => batches::line(random),
+        71..=88 => outlines::line(random),
+        _ => drawings::line(random),
+    }
+}

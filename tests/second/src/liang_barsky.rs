@@ -1,0 +1,54 @@
+//! A stroke against a rectangle: the kept t, and the two ends rounded to the grid.
+
+use crate::fraction::Fraction;
+use crate::kept::{self, Bound};
+use crate::rectangle::{self, Rectangle};
+use crate::refusal::{at, lowest, Refusal};
+use crate::rounding::half_toward;
+use crate::stroke::Stroke;
+use crate::table;
+
+#[derive(Clone, Copy, Debug, PartialEq, Eq)]
+pub struct Kept {
+    pub t0: Fraction,
+    pub t1: Fraction,
+    pub first: [i128; 2],
+    pub last: [i128; 2],
+}
+
+/// The refusals of a single stroke against a rectangle: 2, 3, 6.
+pub fn taken(window: [i32; 4], stroke: [i32; 4]) -> Result<(), Refusal> {
+    let [range, area] = rectangle::faults(window);
+    lowest(&[range, area, at(table::first_off(&stroke), 6)])
+}
+
+pub fn clip(window: [i32; 4], stroke: [i32; 4]) -> Option<Kept> {
+    let stroke = Stroke::of(stroke);
+    let (t0, t1) = kept::ends(&bounds(Rectangle::of(window), stroke))?;
+    Some(Kept {
+        t0,
+        t1,
+        first: rounded(stroke, t0),
+        last: rounded(stroke, t1),
+    })
+}
+
+fn bounds(window: Rectangle, stroke: Stroke) -> [Bound; 4] {
+    let Stroke { x1, y1, dx, dy } = stroke;
+    let pairs = [
+        (-dx, x1 - window.left),
+        (dx, window.right - x1),
+        (-dy, y1 - window.bottom),
+        (dy, window.top - y1),
+    ];
+    pairs.map(|(p, q)| Bound { p, q })
+}
+
+/// Each coordinate by itself; a half falls toward the start of the whole stroke.
+fn rounded(stroke: Stroke, t: Fraction) -> [i128; 2] {
+    let point = stroke.at(t);
+    [
+        half_toward(stroke.x1, point.x),
+        half_toward(stroke.y1, point.y),
+    ]
+}

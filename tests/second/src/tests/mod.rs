@@ -1,0 +1,15 @@
+//! The second program against the printed examples, and against itself by other ways to the same answer.
+
+mod agreement;
+mod desk;
+mod passes;
+mod worked;
+
+use crate::answer::answer;
+
+/// Lines and their answers in turn.
+fn expect(pairs: &[(&str, &str)]) {
+    for (line, expected) in pairs {
+        assert_eq!(answer(line.as_bytes()), *expected, "{line}");
+    }
+}
