@@ -1,4 +1,4 @@
--- Corner windows: strict convexity in document 01's words, and what the Cyrus-Beck call promises.
+-- Corner windows: strict convexity by place, and what the Cyrus-Beck call promises.
 --   gridPoint x y          the point (x, y), as a point of the plane
 --   cornersOf zs           the corners of a list of numbers, x and y each
 --   every n f              f at every place below n

@@ -1,0 +1,10 @@
+pub mod Everywhere
+pub mod Decided
+pub mod Forms
+pub mod Sides
+pub mod Crossings
+pub mod Shortenings
+pub mod Pieces
+pub mod Runs
+pub mod Computed
+pub mod Worked

@@ -1,0 +1,67 @@
+-- `codes::shortened` meets its contract: the decision is by the trailing zeros of the end's code, so the crossing is the step that the rule takes. Assumes nothing.
+use mathlib.Core.Path.{_≡_}
+use Prim.Native.Nat.{ℕ}
+use Rattle.codes.specs.Codes.{Side, number, lowestBit, shortenStart, shortenEnd}
+use Rattle.codes.specs.Steps.{decided, start, end}
+use Rattle.codes.specs.Workers.{sideOf}
+use Rattle.codes.proofs.Pieces.{decided-start, decided-end, start-apart, start-ends, end-apart, end-ends}
+use Rattle.codes.proofs.shortened.Statement.{statement}
+use Rattle.codes.proofs.shortened.Tie as tie
+
+-- what is decided, and the side of the lowest set bit of each code
+abbrev what : tie.Start → ℕ
+what c = decided (c .args .w) (c .args .s) (c .args .p .start) (c .args .p .end)
+
+abbrev side-a : tie.Start → Side
+side-a c = sideOf (lowestBit (c .args .p .a))
+
+abbrev side-b : tie.Start → Side
+side-b c = sideOf (lowestBit (c .args .p .b))
+
+starts : (c : tie.Then1) → what (c .before) ≡ shortenStart (number (side-a (c .before)))
+starts c = let q = c .before .pre .1 .1 in decided-start (q .0) (q .1 .0) (q .1 .1) (c .if1 .taken)
+
+ends : (c : tie.Else1) → what (c .before) ≡ shortenEnd (number (side-b (c .before)))
+ends c = let q = c .before .pre .1 .1 in decided-end (q .0) (q .1 .0) (c .if1 .left)
+
+crossing-requires : tie.Need-crossing-requires
+crossing-requires c κs =
+    let a = c .before .before in
+    (a .pre .0, (a .pre .1 .0, start-apart (a .pre .1 .1 .0) (side-a a) (starts (c .before))))
+
+code-requires : tie.Need-code-requires
+code-requires c κs =
+    let t = c .before .before .before in
+    let a = t .before in
+    (a .pre .0, (a .pre .1 .0, start-ends (a .pre .1 .1 .0) (side-a a) (starts t) (c .before .crossing .ensures) .start))
+
+returns : tie.Need-returns
+returns c =
+    let t = c .before .before .before .before in
+    let a = t .before in
+    let h = a .pre .1 .1 .0 in
+    let m = c .before .before .crossing .ensures in
+    record { step = start (side-a a) (starts t) (m .line); piece = record { ends = start-ends h (side-a a) (starts t) m; a = c .code .ensures; b = h .b } }
+
+crossing-requires-2 : tie.Need-crossing-requires-2
+crossing-requires-2 c κs =
+    let t = c .before .before in
+    let a = t .before in
+    (a .pre .0, (a .pre .1 .0, end-apart (a .pre .1 .1 .0) (side-b a) (ends t)))
+
+code-requires-2 : tie.Need-code-requires-2
+code-requires-2 c κs =
+    let t = c .before .before .before in
+    let a = t .before in
+    (a .pre .0, (a .pre .1 .0, end-ends (a .pre .1 .1 .0) (side-b a) (ends t) (c .crossing2 .ensures) .end))
+
+returns-2 : tie.Need-returns-2
+returns-2 c =
+    let t = c .before .before .before .before in
+    let a = t .before in
+    let h = a .pre .1 .1 .0 in
+    let m = c .before .crossing2 .ensures in
+    record { step = end (side-b a) (ends t) (m .line); piece = record { ends = end-ends h (side-b a) (ends t) m; a = h .a; b = c .code2 .ensures } }
+
+pub shortened-spec : {M : Type 1} → statement M
+shortened-spec = tie.close (tie.spec crossing-requires code-requires returns crossing-requires-2 code-requires-2 returns-2)

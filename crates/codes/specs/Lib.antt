@@ -1,0 +1,3 @@
+pub mod Codes
+pub mod Steps
+pub mod Workers

@@ -1,0 +1,236 @@
+// Position codes and the Cohen-Sutherland rule, with the count of its shortenings.
+mod decisions;
+
+use decisions::DECISIONS;
+use decisions::KEEP;
+use decisions::MISSED;
+use decisions::SHORTEN_END;
+use fraction::Fraction;
+use grid::Refusal;
+use grid::Stroke;
+use grid::Window;
+use strokes::StrokeAnswer;
+ghost use mathlib.Core.Path.{_≡_};
+ghost use Prim.Native.Nat.{_<_, _≤_};
+ghost use Rattle.whole.specs.Choice.{if_then_else_};
+ghost use Rattle.whole.specs.Within.{Within};
+ghost use Rattle.grid.specs.Table.{farthest, WindowOnTable, StrokeOnTable};
+ghost use Rattle.grid.specs.Refusals.{none};
+ghost use Rattle.strokes.specs.Strokes.{blank as Strokes·blank};
+ghost use Rattle.codes.specs.Codes.{code as Codes·code, decision as Codes·decision};
+ghost use Rattle.codes.specs.Steps.{decided as Steps·decided, CohenSutherland};
+ghost use Rattle.codes.specs.Workers.{OnWay, outsideOf, Ends, sideOf, Apart, Meeting, Crossing, PieceOf, Shortened, Kept, Finished};
+
+// The bits of a position code.
+const LEFT: u8 = 1;
+
+const RIGHT: u8 = 2;
+
+const BELOW: u8 = 4;
+
+const ABOVE: u8 = 8;
+
+// A stroke call's answer, and how often the rule shortened the stroke.
+#[repr(C)]
+pub struct CountedAnswer {
+    pub answer: StrokeAnswer,
+    pub shortenings: u32,
+}
+
+// The part of a stroke from one fraction of its way to another, with the codes a and b of its two points.
+struct Piece {
+    start: Fraction,
+    end: Fraction,
+    a: u8,
+    b: u8,
+}
+
+fn mark(beyond: bool, bit: u8) -> u8
+    ensures { λ r. ⌜ r ≡ (if beyond then bit else 0) ⌝ }
+{
+    if beyond { bit } else { 0 }
+}
+
+// The bits of one coordinate at t of the way from a to b. On the border it is inside.
+fn outside(lo: i32, hi: i32, a: i32, b: i32, t: Fraction, under: u8, over: u8) -> u8
+    requires { ⌜ Within farthest lo ⌝ }
+    requires { ⌜ Within farthest hi ⌝ }
+    requires { ⌜ Within farthest a ⌝ }
+    requires { ⌜ Within farthest b ⌝ }
+    requires { ⌜ OnWay t ⌝ }
+    ensures { λ r. ⌜ r ≡ outsideOf lo hi a b t under over ⌝ }
+{
+    let x = a as i64 * t.den + t.num * (b - a) as i64;
+    mark(x < lo as i64 * t.den, under) | mark(hi as i64 * t.den < x, over)
+}
+
+// The code of the stroke's exact point at t.
+fn code(w: Window, s: Stroke, t: Fraction) -> u8
+    requires { ⌜ WindowOnTable w ⌝ }
+    requires { ⌜ StrokeOnTable s ⌝ }
+    requires { ⌜ OnWay t ⌝ }
+    ensures { λ r. ⌜ r ≡ Codes·code w s t ⌝ }
+{
+    outside(w.left, w.right, s.x1, s.x2, t, LEFT, RIGHT)
+        | outside(w.bottom, w.top, s.y1, s.y2, t, BELOW, ABOVE)
+}
+
+fn decision(a: u8, b: u8) -> u8
+    requires { ⌜ a < 16 ⌝ }
+    requires { ⌜ b < 16 ⌝ }
+    ensures { λ r. ⌜ r ≡ Codes·decision a b ⌝ }
+{
+    DECISIONS[16 * (a as usize) + b as usize]
+}
+
+// The fraction of the way from a to b at which it is at c.
+fn meeting(c: i32, a: i32, b: i32) -> Fraction
+    requires { ⌜ Within farthest c ⌝ }
+    requires { ⌜ Within farthest a ⌝ }
+    requires { ⌜ Within farthest b ⌝ }
+    requires { ⌜ (a ≡ b → ⊥) ⌝ }
+    ensures { λ r. ⌜ Meeting c a b r ⌝ }
+{
+    let n = (c - a) as i64;
+    let d = (b - a) as i64;
+    if d < 0 {
+        return Fraction { num: -n, den: -d };
+    }
+    Fraction { num: n, den: d }
+}
+
+// Where the stroke meets the line of a side.
+fn crossing(w: Window, s: Stroke, side: u32) -> Fraction
+    requires { ⌜ WindowOnTable w ⌝ }
+    requires { ⌜ StrokeOnTable s ⌝ }
+    requires { ⌜ Apart s (sideOf side) ⌝ }
+    ensures { λ r. ⌜ Crossing w s (sideOf side) r ⌝ }
+{
+    match side {
+        0 => meeting(w.left, s.x1, s.x2),
+        1 => meeting(w.right, s.x1, s.x2),
+        2 => meeting(w.bottom, s.y1, s.y2),
+        _ => meeting(w.top, s.y1, s.y2),
+    }
+}
+
+// One shortening: the start's before the end's, against the side of the lowest set bit.
+fn shortened(w: Window, s: Stroke, p: Piece, decided: u8) -> Piece
+    requires { ⌜ WindowOnTable w ⌝ }
+    requires { ⌜ StrokeOnTable s ⌝ }
+    requires { ⌜ PieceOf w s p ⌝ }
+    requires { ⌜ decided ≡ Steps·decided w s (p .start) (p .end) ⌝ }
+    requires { ⌜ 2 ≤ decided ⌝ }
+    ensures { λ r. ⌜ Shortened w s p r ⌝ }
+{
+    if decided < SHORTEN_END {
+        let start = crossing(w, s, u8::trailing_zeros(p.a));
+        let end = p.end;
+        return Piece {
+            start,
+            end,
+            a: code(w, s, start),
+            b: p.b,
+        };
+    }
+    let start = p.start;
+    let end = crossing(w, s, u8::trailing_zeros(p.b));
+    Piece {
+        start,
+        end,
+        a: p.a,
+        b: code(w, s, end),
+    }
+}
+
+// What is refused by r was never shortened.
+fn refused(r: Refusal) -> CountedAnswer
+    ensures { λ q. ⌜ q ≡ record { answer = Strokes·blank r; shortenings = 0 } ⌝ }
+{
+    CountedAnswer {
+        answer: strokes::blank(r.number, r.place),
+        shortenings: 0,
+    }
+}
+
+fn missed(shortenings: u32) -> CountedAnswer
+    ensures { λ q. ⌜ q ≡ record { answer = Strokes·blank none; shortenings = shortenings } ⌝ }
+{
+    CountedAnswer {
+        answer: strokes::blank(0, 0),
+        shortenings,
+    }
+}
+
+// A stroke that is kept from start to end: the fractions are brought to lowest terms, and the points there are rounded.
+fn kept(s: Stroke, start: Fraction, end: Fraction, shortenings: u32) -> CountedAnswer
+    requires { ⌜ StrokeOnTable s ⌝ }
+    requires { ⌜ Ends start end ⌝ }
+    ensures { λ q. ⌜ Kept s start end shortenings q ⌝ }
+{
+    let a = strokes::point_at(s, start);
+    let b = strokes::point_at(s, end);
+    let t0 = spans::lowest_part(start);
+    let t1 = spans::lowest_part(end);
+    let answer = StrokeAnswer {
+        number: 0,
+        place: 0,
+        kept: true,
+        t0,
+        t1,
+        ax: a.x,
+        ay: a.y,
+        bx: b.x,
+        by: b.y,
+    };
+    CountedAnswer {
+        answer,
+        shortenings,
+    }
+}
+
+// The rule on a window and a stroke in which nothing is refused.
+fn clipped(w: Window, s: Stroke) -> CountedAnswer
+    requires { ⌜ WindowOnTable w ⌝ }
+    requires { ⌜ StrokeOnTable s ⌝ }
+    ensures { λ q. ⌜ Finished w s q ⌝ }
+{
+    let start = Fraction { num: 0, den: 1 };
+    let end = Fraction { num: 1, den: 1 };
+    let a = code(w, s, start);
+    let b = code(w, s, end);
+    // most strokes are plainly in or out, and need no table
+    if a | b == 0 {
+        return kept(s, start, end, 0);
+    }
+    if a & b != 0 {
+        return missed(0);
+    }
+    let mut p = Piece { start, end, a, b };
+    let mut decided = decision(a, b);
+    let mut shortenings = 0;
+    while MISSED < decided {
+        p = shortened(w, s, p, decided);
+        decided = decision(p.a, p.b);
+        shortenings += 1;
+    }
+    if decided == KEEP {
+        return kept(s, p.start, p.end, shortenings);
+    }
+    missed(shortenings)
+}
+
+// A stroke against a rectangle by the Cohen-Sutherland rule.
+pub fn cohen_sutherland(w: Window, s: Stroke) -> CountedAnswer
+    ensures { λ q. ⌜ CohenSutherland w s q ⌝ }
+{
+    let window = grid::window_refusal(w);
+    if window.number != 0 {
+        return refused(window);
+    }
+    let stroke = grid::stroke_refusal(s);
+    if stroke.number != 0 {
+        return refused(stroke);
+    }
+    clipped(w, s)
+}
