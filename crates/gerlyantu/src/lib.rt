@@ -1,0 +1,66 @@
+// Every public call, for C programs to link: the same call under the prefix gerlyantu_, with the same statement.
+use codes::CountedAnswer;
+use corners::CornerAnswer;
+use grid::Answer;
+use grid::Stroke;
+use grid::Window;
+use intake::BackAnswer;
+use intake::PointAnswer;
+use intake::PointMm;
+use intake::WindowAnswer;
+use intake::WindowMm;
+use strokes::StrokeAnswer;
+ghost use Rattle.batch.specs.Batches.{Batch};
+ghost use Rattle.codes.specs.Steps.{CohenSutherland};
+ghost use Rattle.corners.specs.Corners.{CyrusBeck};
+ghost use Rattle.intake.specs.Millimetres.{PointToGrid, WindowToGrid, ToMillimetres};
+ghost use Rattle.strokes.specs.Strokes.{Clipping};
+
+#[no_mangle]
+pub extern "C" fn gerlyantu_point_to_grid(p: PointMm) -> PointAnswer
+    ensures { λ r. ⌜ PointToGrid p r ⌝ }
+{
+    intake::point_to_grid(p)
+}
+
+#[no_mangle]
+pub extern "C" fn gerlyantu_window_to_grid(w: WindowMm) -> WindowAnswer
+    ensures { λ r. ⌜ WindowToGrid w r ⌝ }
+{
+    intake::window_to_grid(w)
+}
+
+#[no_mangle]
+pub extern "C" fn gerlyantu_to_millimetres(g: i32) -> BackAnswer
+    ensures { λ r. ⌜ ToMillimetres g r ⌝ }
+{
+    intake::to_millimetres(g)
+}
+
+#[no_mangle]
+pub extern "C" fn gerlyantu_liang_barsky(w: Window, s: Stroke) -> StrokeAnswer
+    ensures { λ r. ⌜ Clipping w s r ⌝ }
+{
+    strokes::liang_barsky(w, s)
+}
+
+#[no_mangle]
+pub extern "C" fn gerlyantu_cohen_sutherland(w: Window, s: Stroke) -> CountedAnswer
+    ensures { λ r. ⌜ CohenSutherland w s r ⌝ }
+{
+    codes::cohen_sutherland(w, s)
+}
+
+#[no_mangle]
+pub extern "C" fn gerlyantu_batch(w: Window, strokes: &[i32], out: &mut [i32]) -> Answer
+    ensures { λ r. ⌜ Batch w (now (strokes .entry)) r (now (out .entry)) (now (out .exit)) ⌝ }
+{
+    batch::batch(w, strokes, out)
+}
+
+#[no_mangle]
+pub extern "C" fn gerlyantu_cyrus_beck(corners: &[i32], s: Stroke) -> CornerAnswer
+    ensures { λ r. ⌜ CyrusBeck (now (corners .entry)) s r ⌝ }
+{
+    corners::cyrus_beck(corners, s)
+}
