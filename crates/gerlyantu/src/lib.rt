@@ -1,6 +1,7 @@
 // Every public call, for C programs to link: the same call under the prefix gerlyantu_, with the same statement.
 use codes::CountedAnswer;
 use corners::CornerAnswer;
+use drawing::DrawingAnswer;
 use grid::Answer;
 use grid::Stroke;
 use grid::Window;
@@ -13,6 +14,7 @@ use strokes::StrokeAnswer;
 ghost use Rattle.batch.specs.Batches.{Batch};
 ghost use Rattle.codes.specs.Steps.{CohenSutherland};
 ghost use Rattle.corners.specs.Corners.{CyrusBeck};
+ghost use Rattle.drawing.specs.Drawings.{ReadDrawing};
 ghost use Rattle.intake.specs.Millimetres.{PointToGrid, WindowToGrid, ToMillimetres};
 ghost use Rattle.strokes.specs.Strokes.{Clipping};
 
@@ -63,4 +65,11 @@ pub extern "C" fn gerlyantu_cyrus_beck(corners: &[i32], s: Stroke) -> CornerAnsw
     ensures { λ r. ⌜ CyrusBeck (now (corners .entry)) s r ⌝ }
 {
     corners::cyrus_beck(corners, s)
+}
+
+#[no_mangle]
+pub extern "C" fn gerlyantu_read_drawing(bytes: &[u8], out: &mut [i32]) -> DrawingAnswer
+    ensures { λ r. ⌜ ReadDrawing (now (bytes .entry)) r (now (out .entry)) (now (out .exit)) ⌝ }
+{
+    drawing::read_drawing(bytes, out)
 }

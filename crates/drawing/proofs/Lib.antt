@@ -1,0 +1,10 @@
+pub mod Patterns
+pub mod Computed
+pub mod Points
+pub mod Turns
+pub mod Walks
+pub mod Heads
+pub mod Strokes
+pub mod Progress
+pub mod Readings
+pub mod Theorems

@@ -1,0 +1,78 @@
+-- What the contract of the drawing file means; no function's proof needs this file.
+--   means, means-unique      every byte string has a meaning, and one only
+--   never-both               so no byte string is both a fault and a drawing
+--   read, read-unique        every call has a result, and one only: answer and output
+--   enough                   a walk of more steps than there are bytes means the same
+--   few-strokes              a drawing has no more than 4,096 strokes
+--   example, example-read    the worked example: what its 40 bytes mean, and its reading
+use mathlib.Core.Path.{_≡_, refl, sym, _∙_}
+use mathlib.Core.List.{List, [], _∷_}
+use Prim.Native.Nat.{ℕ, _≤_}
+use native.Mathlib.Omega.{arith}
+use lib.Ieee.{ofBits}
+use lib.IntN.{ℤ, pos, negsuc}
+use lib.ListN.{length}
+use Rattle.grid.specs.Refusals.{first, noArea, mostStrokes}
+use Rattle.grid.specs.Calls.{answered, written}
+use Rattle.grid.specs.declared.Stroke.{Stroke}
+use Rattle.grid.specs.declared.Window.{Window}
+use Rattle.intake.specs.Millimetres.{pointFault, pointAnswer, windowFault, windowAnswer}
+use Rattle.intake.proofs.Outcome.{outcome}
+use Rattle.drawing.specs.Intake.{Intake}
+use Rattle.drawing.specs.Format.{numberAt, floatAt, headFault, recordAt}
+use Rattle.drawing.specs.Pen.{equal, same, after, turnAt}
+use Rattle.drawing.specs.Drawings.{Drawing, fault, drawn, walk, meaning, Means, numbersOf, ReadDrawing}
+use Rattle.drawing.specs.declared.DrawingAnswer.{DrawingAnswer}
+use Rattle.drawing.specs.declared.pen.Pen.{Pen}
+use Rattle.drawing.proofs.Computed.{computed, is-computed, by-computed}
+use Rattle.drawing.proofs.Walks.{steps-agree}
+use Rattle.drawing.proofs.Strokes.{kept}
+use Rattle.drawing.proofs.Readings.{readAnswer, readOutput, to-reading, reading-is}
+
+module _ (bs : List ℕ) where
+  -- ---- one meaning
+
+  pub means : Means bs (meaning computed bs)
+  means = by-computed refl
+
+  pub means-unique : {d e : Drawing} → Means bs d → Means bs e → d ≡ e
+  means-unique p q = is-computed p ∙ sym (is-computed q)
+
+  pub never-both : {place : ℕ} {w : Window} {ss : List Stroke} → Means bs (fault place) → Means bs (drawn w ss) → ⊥
+  never-both {place} {w} {ss} p q = let e : fault place ≡ drawn w ss = means-unique p q in let z : _≡_ {A = ℕ} 0 1 = cc in omega arith
+
+  pub few-strokes : {w : Window} {ss : List Stroke} → Means bs (drawn w ss) → length ss ≤ mostStrokes
+  few-strokes {w} {ss} p = kept computed bs w ss (sym (is-computed p)) .1
+
+  -- the number of steps is no limit
+  pub enough : (intake : Intake) (w : Window) (n at : ℕ) (pen : Pen) → length bs ≤ n → walk intake bs w n at pen ≡ walk intake bs w (length bs) at pen
+  enough intake w n at pen h = steps-agree intake bs w n (length bs) at pen (omega arith) (omega arith)
+
+  -- ---- one result
+
+  pub read : (out : List ℤ) → ReadDrawing bs (readAnswer (meaning computed bs) (length out)) out (readOutput (meaning computed bs) out)
+  read out = to-reading bs refl refl (refl, refl)
+
+  pub read-unique : {a b : DrawingAnswer} {out after after′ : List ℤ} → ReadDrawing bs a out after → ReadDrawing bs b out after′ → (a ≡ b) × (after ≡ after′)
+  read-unique p q = (reading-is bs p .0 ∙ sym (reading-is bs q .0), reading-is bs p .1 ∙ sym (reading-is bs q .1))
+
+-- ---- the worked example: window 0 0 0.3125 0.3125, move to (-0.15625, 0.15625), line to (0.46875, 0.15625), close
+
+abbrev pub forty : List ℕ
+forty =
+    0 ∷ 0 ∷ 0 ∷ 36 ∷ 1 ∷ 0 ∷ 0 ∷ 0 ∷ 0 ∷ 0 ∷ 0 ∷ 0 ∷ 0 ∷ 0x3e ∷ 0xa0 ∷ 0 ∷ 0 ∷ 0x3e ∷ 0xa0 ∷ 0 ∷ 0
+    ∷ 0x4d ∷ 0xbe ∷ 0x20 ∷ 0 ∷ 0 ∷ 0x3e ∷ 0x20 ∷ 0 ∷ 0 ∷ 0x4c ∷ 0x3e ∷ 0xf0 ∷ 0 ∷ 0 ∷ 0x3e ∷ 0x20 ∷ 0 ∷ 0 ∷ 0x5a ∷ []
+
+abbrev pub square : Window
+square = record { left = pos 0; bottom = pos 0; right = pos 10; top = pos 10 }
+
+pub example : Means forty (drawn square (record { x1 = negsuc 4; y1 = pos 5; x2 = pos 15; y2 = pos 5 } ∷ record { x1 = pos 15; y1 = pos 5; x2 = negsuc 4; y2 = pos 5 } ∷ []))
+unfolding meaning walk turnAt recordAt after equal same headFault numberAt floatAt ofBits outcome first pointFault pointAnswer windowFault windowAnswer
+example = by-computed refl
+
+-- and its reading into an output of nine numbers, of which the last stays
+pub example-read : ReadDrawing forty (record { number = 0; place = 0; window = square; count = 2 })
+    (pos 7 ∷ pos 7 ∷ pos 7 ∷ pos 7 ∷ pos 7 ∷ pos 7 ∷ pos 7 ∷ pos 7 ∷ pos 7 ∷ [])
+    (negsuc 4 ∷ pos 5 ∷ pos 15 ∷ pos 5 ∷ pos 15 ∷ pos 5 ∷ negsuc 4 ∷ pos 5 ∷ pos 7 ∷ [])
+unfolding readAnswer readOutput answered written noArea numbersOf
+example-read = to-reading forty (sym (is-computed example)) refl (refl, refl)

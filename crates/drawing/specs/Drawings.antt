@@ -1,0 +1,97 @@
+-- What a drawing's bytes mean, and the call that reads them.
+--   Drawing             a fault and its place, or a window and strokes in order
+--   walk intake bs w n at pen   what n records mean from `at` on, in a drawing with the window w, as the pen stands there
+--   meaning intake bs     what the bytes mean. There are no more records than bytes
+--   Means bs d          d is what the bytes mean
+--   numbers d           the strokes' numbers, four each
+--   told d              the answer for a drawing whose window has area and whose strokes have room
+--   Drawable bs room    the bytes mean a drawing whose strokes have room in an output of so many numbers
+--   ReadDrawing bs a before after   the call on the bytes bs: its answer a, and its output before and after
+use mathlib.Core.Path.{_≡_}
+use mathlib.Core.List.{List, [], _∷_, _++_}
+use Prim.Native.Nat.{ℕ, zero, suc, _+_, _*_, _≤_}
+use lib.Dec.{eqb}
+use lib.IntN.{ℤ, pos}
+use lib.ListN.{length}
+use Rattle.whole.specs.Choice.{if_then_else_}
+use Rattle.grid.specs.Table.{ends}
+use Rattle.grid.specs.Refusals.{refuse, noArea, drawingBad}
+use Rattle.grid.specs.Calls.{Call}
+use Rattle.grid.specs.declared.Window.{Window}
+use Rattle.grid.specs.declared.Stroke.{Stroke}
+use Rattle.grid.specs.declared.Refusal.{Refusal}
+use Rattle.grid.specs.declared.Answer.{Answer}
+use Rattle.drawing.specs.Intake.{Intake, ByIntake}
+use Rattle.drawing.specs.Format.{headSize, headFault, windowAt}
+use Rattle.drawing.specs.Pen.{fresh, turnAt, stroke}
+use Rattle.drawing.specs.declared.pen.Pen.{Pen}
+use Rattle.drawing.specs.declared.pen.Turn.{Turn}
+use Rattle.drawing.specs.declared.pen.Turn.the-variants as Turn
+use Rattle.drawing.specs.declared.DrawingAnswer.{DrawingAnswer}
+
+pub data Drawing : Type 0 where
+  fault : ℕ → Drawing
+  drawn : Window → List Stroke → Drawing
+
+-- ---- the records in order
+
+abbrev pub inFront : Stroke → Drawing → Drawing
+inFront s (fault place) = fault place
+inFront s (drawn w ss) = drawn w (s ∷ ss)
+
+abbrev pub onward : Window → Pen → (ℕ → Pen → Drawing) → Turn → Drawing
+onward w pen rest Turn.End = drawn w []
+onward w pen rest (Turn.Fault place) = fault place
+onward w pen rest (Turn.Goes to next) = rest next to
+onward w pen rest (Turn.Draws to next) = inFront (stroke pen to) (rest next to)
+
+unfoldable pub walk : Intake → List ℕ → Window → ℕ → ℕ → Pen → Drawing
+walk intake bs w zero at pen = drawn w []
+walk intake bs w (suc n) at pen = onward w pen (walk intake bs w n) (turnAt intake bs at pen)
+
+-- ---- the whole file
+
+unfoldable pub meaning : Intake → List ℕ → Drawing
+meaning intake bs =
+    if eqb (headFault bs) headSize
+    then if eqb (intake .window (windowAt bs) .number) 0
+    then walk intake bs (intake .window (windowAt bs) .window) (length bs) headSize fresh
+    else fault (5 + 4 * intake .window (windowAt bs) .place)
+    else fault (headFault bs)
+
+abbrev pub Means : List ℕ → Drawing → Type 0
+Means bs d = ByIntake (λ intake. meaning intake bs) d
+
+-- ---- the call
+
+unfoldable pub numbersOf : List Stroke → List ℤ
+numbersOf [] = []
+numbersOf (s ∷ ss) = ends s ++ numbersOf ss
+
+abbrev pub numbers : Drawing → List ℤ
+numbers (fault place) = []
+numbers (drawn w ss) = numbersOf ss
+
+abbrev pub refusal : Drawing → Refusal
+refusal (fault place) = refuse drawingBad 0
+refusal (drawn w ss) = noArea w
+
+abbrev pub refused : Refusal → DrawingAnswer
+refused r = record { number = r .number; place = r .place; window = record { left = pos 0; bottom = pos 0; right = pos 0; top = pos 0 }; count = 0 }
+
+abbrev pub told : Drawing → DrawingAnswer
+told (fault place) = refused (refuse drawingBad 0)
+told (drawn w ss) = record { number = 0; place = 0; window = w; count = length ss }
+
+pub record Drawable (bs : List ℕ) (room : ℕ) : Type 0 where
+  pub window : Window
+  pub strokes : List Stroke
+  pub means : Means bs (drawn window strokes)
+  pub has-room : 4 * length strokes ≤ room
+
+pub record ReadDrawing (bs : List ℕ) (a : DrawingAnswer) (before after : List ℤ) : Type 0 where
+  pub drawing : Drawing
+  pub means : Means bs drawing
+  pub call : Answer
+  pub gives : Call (refusal drawing) (λ xs. xs ≡ numbers drawing) call before after
+  pub answer : a ≡ (if eqb (call .number) 0 then told drawing else refused (refuse (call .number) (call .place)))

@@ -1,0 +1,4 @@
+pub mod Intake
+pub mod Format
+pub mod Pen
+pub mod Drawings

@@ -1,0 +1,152 @@
+// The drawing file: the strokes that its bytes draw.
+ghost use mathlib.Core.Path.{_≡_};
+ghost use Prim.Native.Nat.{_+_, _≤_};
+ghost use lib.ListN.{length};
+ghost use lib.Seq.{sets};
+ghost use Rattle.grid.specs.Table.{ends};
+ghost use Rattle.grid.specs.Refusals.{refuse};
+ghost use Rattle.grid.specs.Calls.{written};
+ghost use Rattle.drawing.specs.Intake.{ByIntake};
+ghost use Rattle.drawing.specs.Format.{mostBytes, headSize};
+ghost use Rattle.drawing.specs.Pen.{fresh};
+ghost use Rattle.drawing.specs.Drawings.{walk, meaning, numbers, refused, told, Drawable, ReadDrawing};
+
+mod format;
+mod pen;
+mod reader;
+
+use grid::Stroke;
+use grid::Window;
+use pen::Turn;
+
+// A refusal's number and place, or the window of a drawing and how many strokes it has.
+#[repr(C)]
+pub struct DrawingAnswer {
+    pub number: u8,
+    pub place: usize,
+    pub window: Window,
+    pub count: usize,
+}
+
+// A refusal: every other field is 0.
+fn refused(number: u8, place: usize) -> DrawingAnswer
+    ensures { λ r. ⌜ r ≡ refused (refuse number place) ⌝ }
+{
+    DrawingAnswer {
+        number,
+        place,
+        window: Window {
+            left: 0,
+            bottom: 0,
+            right: 0,
+            top: 0,
+        },
+        count: 0,
+    }
+}
+
+// The first pass over the records: how many strokes they make, or that there is a fault.
+fn count_strokes(bytes: &[u8], window: Window) -> DrawingAnswer
+    requires { ⌜ length (now bytes) ≤ mostBytes ⌝ }
+    ensures { λ r. ⌜ ByIntake (λ intake. told (walk intake (now (bytes .entry)) window (length (now (bytes .entry))) headSize fresh)) r ⌝ }
+{
+    let mut pen = pen::fresh();
+    let mut at: usize = format::HEAD_SIZE;
+    loop {
+        match pen::turn_at(bytes, at, pen) {
+            Turn::End => {
+                return DrawingAnswer {
+                    number: 0,
+                    place: 0,
+                    window,
+                    count: pen.strokes,
+                };
+            }
+            Turn::Fault(_) => {
+                return refused(grid::DRAWING_BAD, 0);
+            }
+            Turn::Goes(to, next) | Turn::Draws(to, next) => {
+                pen = to;
+                at = next;
+            }
+        }
+    }
+}
+
+// What the bytes mean: the window and how many strokes, or that there is a fault.
+fn survey(bytes: &[u8]) -> DrawingAnswer
+    ensures { λ r. ⌜ ByIntake (λ intake. told (meaning intake (now (bytes .entry)))) r ⌝ }
+{
+    if format::head_fault(bytes) != format::HEAD_SIZE {
+        return refused(grid::DRAWING_BAD, 0);
+    }
+    let w = intake::window_to_grid(format::window_at(bytes));
+    if w.number != 0 {
+        return refused(grid::DRAWING_BAD, 0);
+    }
+    count_strokes(bytes, w.window)
+}
+
+// Puts the four numbers of a stroke from place n of the output on.
+fn put(out: &mut [i32], n: usize, s: Stroke)
+    requires { ⌜ n + 4 ≤ length (now out) ⌝ }
+    ensures { λ _. ⌜ now (out .exit) ≡ sets (now (out .entry)) n (ends s) ⌝ }
+{
+    let x1 = s.x1;
+    let y1 = s.y1;
+    let x2 = s.x2;
+    let y2 = s.y2;
+    out[n] = x1;
+    out[n + 1] = y1;
+    out[n + 2] = x2;
+    out[n + 3] = y2;
+}
+
+// The second pass over the records: the strokes are written.
+fn write_strokes(bytes: &[u8], out: &mut [i32])
+    requires { ⌜ Drawable (now bytes) (length (now out)) ⌝ }
+    ensures { λ _. ⌜ ByIntake (λ intake. written (numbers (meaning intake (now (bytes .entry)))) (now (out .entry))) (now (out .exit)) ⌝ }
+{
+    let mut pen = pen::fresh();
+    let mut at: usize = format::HEAD_SIZE;
+    loop {
+        match pen::turn_at(bytes, at, pen) {
+            Turn::End => {
+                return;
+            }
+            // The first pass found none.
+            Turn::Fault(_) => {
+                return;
+            }
+            Turn::Goes(to, next) => {
+                pen = to;
+                at = next;
+            }
+            Turn::Draws(to, next) => {
+                put(out, 4 * pen.strokes, pen::stroke(pen, to));
+                pen = to;
+                at = next;
+            }
+        }
+    }
+}
+
+// Reads a drawing and writes its strokes in order, four numbers each.
+pub fn read_drawing(bytes: &[u8], out: &mut [i32]) -> DrawingAnswer
+    ensures { λ r. ⌜ ReadDrawing (now (bytes .entry)) r (now (out .entry)) (now (out .exit)) ⌝ }
+{
+    let found = survey(bytes);
+    if found.number != 0 {
+        return found;
+    }
+    let area = grid::window_refusal(found.window);
+    if area.number != 0 {
+        return refused(area.number, area.place);
+    }
+    let needed = 4 * found.count;
+    if out.len() < needed {
+        return refused(grid::OUTPUT_SHORT, needed);
+    }
+    write_strokes(bytes, out);
+    found
+}
