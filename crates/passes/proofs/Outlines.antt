@@ -1,0 +1,132 @@
+-- The corners of an outline and its edges, by their places in its list of numbers.
+use mathlib.Core.Path.{_≡_, refl, sym, ap, _∙_, subst}
+use mathlib.Core.List.{List, [], _∷_}
+use mathlib.Core.Logic.{⊎-elim, _≢_}
+use Prim.Native.Nat.{ℕ, zero, suc, _+_, _*_, _/_, _^_, _<_, _≤_}
+use native.Mathlib.Nat.{eq-or-lt-of-le}
+use native.Mathlib.Omega.{arith}
+use borrow.Author.Tests.{eq-eqb, ne-eqb}
+use lib.IntN.{ℤ, pos}
+use lib.ListN.{length, getD}
+use lib.Signed.{mag}
+use mir.Syntax.{w32}
+use mir.Val.{toZ, ofZ}
+use Rattle.whole.proofs.Comparisons.{back}
+use Rattle.grid.specs.declared.Window.{Window}
+use Rattle.grid.specs.declared.Stroke.{Stroke}
+use Rattle.grid.specs.Table.{strokeAt, WindowOnTable, StrokeOnTable}
+use Rattle.rings.specs.Lists.{All, ∅, _◂_}
+use Rattle.rings.specs.Points.{through, Real, Proper}
+use Rattle.rings.specs.Rings.{at, Edge, along, closing, Ring}
+use Rattle.corners.specs.Corners.{gridPoint, cornersOf, next}
+use Rattle.passes.specs.Outlines.{OutlineOnTable}
+use Rattle.passes.specs.Tags.{stroke, lineOf, edgeOf, Names, edge, side}
+use Rattle.passes.proofs.Sides.{side-real, side-on-table}
+
+-- ---- four numbers as they are read
+pub read-stroke : (a b c d : ℤ) → mag a < 2 ^ 31 → mag b < 2 ^ 31 → mag c < 2 ^ 31 → mag d < 2 ^ 31
+    → stroke (toZ w32 (ofZ w32 a)) (toZ w32 (ofZ w32 b)) (toZ w32 (ofZ w32 c)) (toZ w32 (ofZ w32 d)) ≡ stroke a b c d
+read-stroke a b c d ha hb hc hd = λ i. stroke (back w32 a ha i) (back w32 b hb i) (back w32 c hc i) (back w32 d hd i)
+
+-- ---- the next corner
+next-on : (n k : ℕ) → suc k < n → next n k ≡ suc k
+unfolding next
+next-on n k h = simp (ne-eqb (suc k) n (λ e. omega arith))
+
+next-round : (n k : ℕ) → suc k ≡ n → next n k ≡ 0
+unfolding next
+next-round n k e = simp (eq-eqb (suc k) n e)
+
+pub edge-on : (zs : List ℤ) (k : ℕ) → suc k < length zs / 2 → strokeAt zs (2 * k) ≡ edgeOf zs k
+unfolding edgeOf
+edge-on zs k h =
+    let a : 2 * k + 2 ≡ 2 * suc k = omega arith in
+    let b : 2 * k + 3 ≡ 2 * suc k + 1 = omega arith in
+    rw (next-on (length zs / 2) k h) (λ i. stroke (getD zs (2 * k) (pos 0)) (getD zs (2 * k + 1) (pos 0)) (getD zs (a i) (pos 0)) (getD zs (b i) (pos 0)))
+
+pub edge-round : (zs : List ℤ) (k : ℕ) → suc k ≡ length zs / 2 → stroke (getD zs (2 * k) (pos 0)) (getD zs (2 * k + 1) (pos 0)) (getD zs 0 (pos 0)) (getD zs 1 (pos 0)) ≡ edgeOf zs k
+unfolding edgeOf
+edge-round zs k h = rw (next-round (length zs / 2) k h)
+
+-- ---- the corners
+pub corner-count : (zs : List ℤ) → length (cornersOf zs) ≡ length zs / 2
+unfolding cornersOf
+corner-count [] = refl
+corner-count (x ∷ []) = refl
+corner-count (x ∷ y ∷ zs) = let e = corner-count zs in omega arith
+
+pub corner-at : (zs : List ℤ) (k : ℕ) → k < length zs / 2 → at (cornersOf zs) k ≡ gridPoint (getD zs (2 * k) (pos 0)) (getD zs (2 * k + 1) (pos 0))
+unfolding cornersOf
+corner-at [] k h = absurd (omega arith)
+corner-at (x ∷ []) k h = absurd (omega arith)
+corner-at (x ∷ y ∷ zs) zero h = refl
+corner-at (x ∷ y ∷ zs) (suc k) h =
+    let e : 2 * suc k ≡ suc (suc (2 * k)) = omega arith in
+    let f : 2 * suc k + 1 ≡ suc (suc (2 * k + 1)) = omega arith in
+    corner-at zs k (omega arith) ∙ sym (λ i. gridPoint (getD (x ∷ y ∷ zs) (e i) (pos 0)) (getD (x ∷ y ∷ zs) (f i) (pos 0)))
+
+-- ---- each line that a tag names is that of a stroke on the table, and real
+corners-proper : (zs : List ℤ) → All Proper (cornersOf zs)
+unfolding cornersOf
+corners-proper [] = ∅
+corners-proper (x ∷ []) = ∅
+corners-proper (x ∷ y ∷ zs) = record { lt = tt } ◂ corners-proper zs
+
+-- of three corners or more, one that an edge does not join
+record Third (n k j : ℕ) : Type 0 where
+  place : ℕ
+  fits : place < n
+  first : place ≢ k
+  second : place ≢ j
+
+third : {n k j : ℕ} → 3 ≤ n → Edge n k j → Third n k j
+third h (along {i = zero} l) = record { place = 2; fits = omega arith; first = λ e. omega arith; second = λ e. omega arith }
+third h (along {i = suc i} l) = record { place = 0; fits = omega arith; first = λ e. omega arith; second = λ e. omega arith }
+third h (closing e) = record { place = 1; fits = omega arith; first = λ d. omega arith; second = λ d. omega arith }
+
+next-edge : {n k : ℕ} → k < n → Edge n k (next n k)
+next-edge {n} {k} h = ⊎-elim (λ e. subst (Edge n k) (sym (next-round n k e)) (closing e)) (λ l. subst (Edge n k) (sym (next-on n k l)) (along l)) (eq-or-lt-of-le h)
+
+pub edge-from : {n k j : ℕ} → Edge n k j → k < n
+edge-from (along l) = omega arith
+edge-from (closing e) = omega arith
+
+pub edge-below : {n k j : ℕ} → Edge n k j → j < n
+edge-below (along l) = l
+edge-below (closing e) = omega arith
+
+edge-next : {n k j : ℕ} → Edge n k j → next n k ≡ j
+edge-next {n} (along {i = k} l) = next-on n k l
+edge-next {n} (closing {i = k} e) = next-round n k e
+
+pub edge-line : (zs : List ℤ) {k j : ℕ} → Edge (length zs / 2) k j → lineOf (edgeOf zs k) ≡ through (at (cornersOf zs) k) (at (cornersOf zs) j)
+unfolding edgeOf
+edge-line zs {k} {j} e =
+    ap (λ (i : ℕ). through (gridPoint (getD zs (2 * k) (pos 0)) (getD zs (2 * k + 1) (pos 0))) (gridPoint (getD zs (2 * i) (pos 0)) (getD zs (2 * i + 1) (pos 0)))) (edge-next e)
+    ∙ (λ i. through (sym (corner-at zs k (edge-from e)) i) (sym (corner-at zs j (edge-below e)) i))
+
+module _ {zs : List ℤ} (o : OutlineOnTable zs) where
+  pub outline-ring : Ring (cornersOf zs)
+  outline-ring = record { three = omega (arith, corner-count zs, o .three); proper = corners-proper zs; convex = o .convex }
+
+  edge-real : (k : ℕ) → k < length zs / 2 → Real (lineOf (edgeOf zs k))
+  edge-real k h =
+      let j = next (length zs / 2) k in
+      let e = subst (λ (n : ℕ). Edge n k j) (sym (corner-count zs)) (next-edge h) in
+      let m = third (outline-ring .three) e in
+      subst Real (sym (edge-line zs (next-edge h))) (at (cornersOf zs) (m .place), o .convex .left-of k j (m .place) e (m .fits) (m .first) (m .second) .left)
+
+  edge-on-table : (k : ℕ) → k < length zs / 2 → StrokeOnTable (edgeOf zs k)
+  unfolding edgeOf
+  edge-on-table k h =
+      let l = edge-below (next-edge h) in
+      let j = next (length zs / 2) k in
+      record { x1 = o .on (2 * k) (omega arith); y1 = o .on (2 * k + 1) (omega arith); x2 = o .on (2 * j) (omega arith); y2 = o .on (2 * j + 1) (omega arith) }
+
+pub named-on-table : {w : Window} {zs : List ℤ} {a : ℤ} {e : Stroke} → WindowOnTable w → OutlineOnTable zs → Names w zs a e → StrokeOnTable e
+named-on-table t o (edge k h) = edge-on-table o k h
+named-on-table {w} t o (side s h) = side-on-table w s t
+
+pub named-real : {w : Window} {zs : List ℤ} {a : ℤ} {e : Stroke} → OutlineOnTable zs → Names w zs a e → Real (lineOf e)
+named-real o (edge k h) = edge-real o k h
+named-real {w} o (side s h) = side-real w s

@@ -1,0 +1,37 @@
+-- The sides of a window, and the orders in which an outline is cut along them.
+--   sideLine w k      the line of side k: 0 left, 1 right, 2 bottom, 3 top; what is in it is where the window lies
+--   sidesIn o         the four sides in the order o: of their arrangements in dictionary order that at place o, from 0 to 23
+--   linesIn o w       the lines of a window's sides in the order o
+use mathlib.Core.List.{List, [], _∷_, map}
+use Prim.Native.Nat.{ℕ, zero, suc, _/_, _%_}
+use Rattle.grid.specs.declared.Window.{Window}
+use Rattle.rings.specs.Points.{Line}
+use Rattle.rings.specs.Windows.{left-side, right-side, bottom-side, top-side}
+
+abbrev pub sideLine : Window → ℕ → Line
+sideLine w zero = left-side (w .left)
+sideLine w (suc zero) = right-side (w .right)
+sideLine w (suc (suc zero)) = bottom-side (w .bottom)
+sideLine w (suc (suc (suc k))) = top-side (w .top)
+
+-- the member at a place, and the others in their order
+abbrev pub member : ℕ → List ℕ → ℕ
+member k [] = 0
+member zero (x ∷ xs) = x
+member (suc k) (x ∷ xs) = member k xs
+
+abbrev pub without : ℕ → List ℕ → List ℕ
+without k [] = []
+without zero (x ∷ xs) = xs
+without (suc k) (x ∷ xs) = x ∷ without k xs
+
+-- the first side stays for six orders, the second for two, the third for one
+unfoldable pub sidesIn : ℕ → List ℕ
+sidesIn o =
+    let all : List ℕ = 0 ∷ 1 ∷ 2 ∷ 3 ∷ [] in
+    let three = without (o / 6) all in
+    let two = without (o % 6 / 2) three in
+    member (o / 6) all ∷ member (o % 6 / 2) three ∷ member (o % 2) two ∷ without (o % 2) two
+
+unfoldable pub linesIn : ℕ → Window → List Line
+linesIn o w = map (sideLine w) (sidesIn o)
