@@ -1,6 +1,7 @@
 -- A test of two signed integers, as a condition leaves it: an equation of the flag, about what the machine reads back from the bits. Here it becomes an order of ℤ.
 -- At a literal k give `sfits-lit {z = k} tt`.
 use mathlib.Core.Path.{_≡_, refl, sym, ap, _∙_, subst}
+use mathlib.Core.Logic.{⊎-elim}
 use mathlib.Core.Bool.{Bool, true, false, not}
 use Prim.Native.Nat.{ℕ, _^_, _<_}
 use lib.Dec.{T}
@@ -9,10 +10,10 @@ use lib.Signed.{_≤ℤ_, _<ℤ_, ltZ, leZ, ltZ-yes, ltZ-no, leZ-yes, mag, nonNe
 use mir.Syntax.{Width}
 use mir.Val.{SFits, Fits, hbits, toZ, ofZ}
 use mir.Val.{bits as width}
-use mir.Facts.{toZ-ofZ}
+use mir.Facts.{toZ-ofZ, T-not}
 use Rattle.whole.specs.Choice.{if_then_else_}
 use Rattle.whole.proofs.Naturals.{neg-plus, neg-minus}
-use Rattle.whole.proofs.Order.{zarith}
+use Rattle.whole.proofs.Order.{zarith, ≤-total}
 
 pub true-T : {b : Bool} → b ≡ true → T b
 true-T e = subst T (sym e) tt
@@ -32,6 +33,9 @@ by-test true P f g = f refl
 by-test false P f g = g refl
 
 -- ---- a test of two numbers that are x and y
+not-le : (a b : ℤ) → T (not (leZ a b)) → b <ℤ a
+not-le a b t = ⊎-elim (λ h. absurd (T-not (leZ a b) (h .le) t)) (λ h. h) (≤-total a b)
+
 module _ {a b x y : ℤ} (p : a ≡ x) (q : b ≡ y) where
   pub lt-yes : ltZ a b ≡ true → x <ℤ y
   lt-yes e = ltZ-yes (true-T (sym (λ i. ltZ (p i) (q i)) ∙ e))
@@ -41,6 +45,9 @@ module _ {a b x y : ℤ} (p : a ≡ x) (q : b ≡ y) where
 
   pub le-yes : leZ a b ≡ true → x ≤ℤ y
   le-yes e = leZ-yes (true-T (sym (λ i. leZ (p i) (q i)) ∙ e))
+
+  pub le-no : leZ a b ≡ false → y <ℤ x
+  le-no e = not-le x y (false-T (sym (λ i. leZ (p i) (q i)) ∙ e))
 
 -- ---- of two numbers that fit the width, as they are read
 module _ (w : Width) {x y : ℤ} (fx : SFits w x) (fy : SFits w y) where
