@@ -1,0 +1,14 @@
+pub mod Numbers
+pub mod Unique
+pub mod Passes
+pub mod Widths
+pub mod Memory
+pub mod Lowest
+pub mod Writing
+pub mod Traces
+pub mod Lines
+pub mod Denominators
+pub mod Refusals
+pub mod Computed
+pub mod Examples
+pub mod Giving

@@ -1,0 +1,117 @@
+-- Corners written into an output: one after the other, some behind others, and a whole ring for which there is room or is not.
+use mathlib.Core.Path.{_≡_, sym, ap, _∙_, subst, subst₂}
+use mathlib.Core.List.{List, [], _∷_, _++_, append-assoc, append-nil}
+use Prim.Native.Nat.{ℕ, suc, _+_, _-_, _*_, _≤_, _<_, _^_}
+use native.Mathlib.Numerals.{add-one}
+use native.Mathlib.Omega.{arith}
+use borrow.Author.Tests.{le-leb, lt-leb}
+use lib.IntN.{ℤ}
+use lib.ListN.{length, take, drop, length-append, length-drop, drop-of-length-le}
+use lib.Seq.{take-all, take-at, drop-at, drop-drop}
+use lib.Signed.{mag}
+use mir.Syntax.{w32}
+use mir.Val.{toZ, ofZ}
+use Rattle.whole.proofs.Comparisons.{back}
+use Rattle.fraction.proofs.LowestTerms.{lowest-of-unique}
+use Rattle.fraction.proofs.Computed.{lowestOf, lowestOf-is}
+use Rattle.grid.specs.Calls.{answered, written}
+use Rattle.grid.specs.Refusals.{outputShort}
+use Rattle.grid.proofs.Fill.{Filled, filled-put}
+use Rattle.rings.specs.Lists.{All, Turned}
+use Rattle.rings.specs.Points.{Point, Proper}
+use Rattle.rings.specs.Rings.{Ring}
+use Rattle.rings.proofs.Lists.{turned-length, turned-all}
+use Rattle.rings.proofs.Theorems.{start}
+use Rattle.passes.specs.Memory.{pointIn, ringFrom, ringIn}
+use Rattle.passes.proofs.Memories.{ring-length}
+use Rattle.outlines.specs.Outlines.{RingNumbers}
+use Rattle.outlines.specs.Workers.{LowestAt, startedAt, WroteFraction, Wrote, GaveRing}
+use Rattle.outlines.proofs.Lowest.{lowest-starts}
+use Rattle.outlines.proofs.Memory.{turned-at}
+use Rattle.outlines.proofs.Numbers.{numbersOf, numbers-of, numbers-length, numbers-append}
+
+-- two numbers as they are read
+pub read-fraction : {k : ℕ} {before after : List ℤ} (n d : ℤ) → mag n < 2 ^ 31 → mag d < 2 ^ 31
+    → WroteFraction (toZ w32 (ofZ w32 n)) (toZ w32 (ofZ w32 d)) k before after → WroteFraction n d k before after
+read-fraction {k} {before} {after} n d hn hd = subst₂ (λ (n d : ℤ). WroteFraction n d k before after) (back w32 n hn) (back w32 d hd)
+
+module _ (m : List ℤ) where
+  pub numbers-room : (i n : ℕ) → All Proper (ringFrom m i n) → length (numbersOf (ringFrom m i n)) ≡ 4 * n
+  numbers-room i n a = numbers-length (numbers-of a) ∙ ap (λ (k : ℕ). 4 * k) (ring-length m i n)
+
+  pub none-left : {n : ℕ} (i : ℕ) → n ≡ 0 → numbersOf (ringFrom m i n) ≡ []
+  unfolding numbersOf ringFrom
+  none-left i e = ap (λ (n : ℕ). numbersOf (ringFrom m i n)) e
+
+  -- those from place i on are still to come, and the two fractions of that corner are written
+  module _ {i to k : ℕ} {out out₁ out₂ : List ℤ} (l : i < to) (h : Proper (pointIn m i))
+      (x : WroteFraction (pointIn m i .X) (pointIn m i .W) k out out₁) (y : WroteFraction (pointIn m i .Y) (pointIn m i .W) (k + 2) out₁ out₂) where
+    due : numbersOf (ringFrom m i (to - i))
+        ≡ (x .fraction .num ∷ x .fraction .den ∷ []) ++ ((y .fraction .num ∷ y .fraction .den ∷ []) ++ numbersOf (ringFrom m (i + 1) (to - (i + 1))))
+    unfolding numbersOf ringFrom
+    due =
+        let e : to - i ≡ suc (to - (i + 1)) = omega arith in
+        let f : lowestOf (pointIn m i .X) (pointIn m i .W) ≡ x .fraction = lowest-of-unique h (lowestOf-is _ h) (x .lowest) in
+        let g : lowestOf (pointIn m i .Y) (pointIn m i .W) ≡ y .fraction = lowest-of-unique h (lowestOf-is _ h) (y .lowest) in
+        ap (λ (n : ℕ). numbersOf (ringFrom m i n)) e
+        ∙ (λ t. f t .num ∷ f t .den ∷ g t .num ∷ g t .den ∷ numbersOf (ringFrom m (sym (add-one i) t) (to - (i + 1))))
+
+    pub next-corner : {K out₀ : List ℤ} → length K ≤ length out₀ → Filled K (numbersOf (ringFrom m i (to - i))) out out₀ k → Filled K (numbersOf (ringFrom m (i + 1) (to - (i + 1)))) out₂ out₀ (k + 4)
+    next-corner {K} {out₀} r s =
+        let ys = y .fraction .num ∷ y .fraction .den ∷ [] in
+        let rest = numbersOf (ringFrom m (i + 1) (to - (i + 1))) in
+        let one = filled-put (x .fraction .num ∷ x .fraction .den ∷ []) (rw due at s) r in
+        let two = filled-put ys (subst (λ (zs : List ℤ). Filled K (ys ++ rest) zs out₀ (k + 2)) (sym (x .output)) one) r in
+        let e : k + 2 + 2 ≡ k + 4 = omega arith in
+        rw (y .output, ← e) two
+
+-- ---- some corners written from the front, and then others behind them
+room : (xs out : List ℤ) → length xs ≤ length out → written xs out ≡ xs ++ drop (length xs) out
+unfolding written
+room xs out h = simp (le-leb _ _ h)
+
+pub wrote-rest : {r s : List Point} {out out₁ ys : List ℤ} (k : ℕ) → 4 * length r ≡ k → k + 4 * length s ≤ length out → Wrote r out out₁
+    → Wrote s (take (length out₁ - k) (drop k out₁)) ys → Wrote (r ++ s) out (take k out₁ ++ (ys ++ drop (length out₁ - k) (drop k out₁)))
+wrote-rest {r} {s} {out} {out₁} {ys} k e h p q =
+    let xs = p .numbers in
+    let zs = q .numbers in
+    let lx : length xs ≡ k = numbers-length (p .are) ∙ e in
+    let lz : length zs ≡ 4 * length s = numbers-length (q .are) in
+    let o : out₁ ≡ xs ++ drop k out = p .output ∙ room xs out (omega arith) ∙ ap (λ (n : ℕ). xs ++ drop n out) lx in
+    let front : take k out₁ ≡ xs = ap (take k) o ∙ take-at xs (drop k out) k lx in
+    let back : drop k out₁ ≡ drop k out = ap (drop k) o ∙ drop-at xs (drop k out) k lx in
+    let part : take (length out₁ - k) (drop k out₁) ≡ drop k out = take-all (length out₁ - k) (drop k out₁) (omega (arith, length-drop k out₁)) ∙ back in
+    let none : drop (length out₁ - k) (drop k out₁) ≡ [] = drop-of-length-le (drop k out₁) {i = length out₁ - k} (omega (arith, length-drop k out₁)) in
+    let y : ys ≡ zs ++ drop (length zs) (drop k out) = q .output ∙ ap (written zs) part ∙ room zs (drop k out) (omega (arith, length-drop k out)) in record {
+      numbers = xs ++ zs;
+      are = numbers-append (p .are) (q .are);
+      output =
+          (λ t. front t ++ (y t ++ none t))
+          ∙ ap (λ (l : List ℤ). xs ++ l) (append-nil (zs ++ drop (length zs) (drop k out)) ∙ ap (λ (l : List ℤ). zs ++ l) (drop-drop (length zs) k out))
+          ∙ sym (append-assoc xs zs (drop (k + length zs) out))
+          ∙ ap (λ (n : ℕ). (xs ++ zs) ++ drop n out) (sym (length-append xs zs ∙ ap (λ (n : ℕ). n + length zs) lx))
+          ∙ sym (room (xs ++ zs) out (omega (arith, length-append xs zs)));
+    }
+
+-- ---- a ring given into an output
+module _ (m : List ℤ) (n : ℕ) (g : Ring (ringIn m n)) where
+  -- as many numbers wherever it is started
+  four-a-corner : {s : List Point} {xs : List ℤ} → Turned (ringIn m n) s → RingNumbers s xs → length xs ≡ 4 * n
+  four-a-corner t p = numbers-length p ∙ ap (λ (k : ℕ). 4 * k) (turned-length t ∙ ring-length m 0 n)
+
+  pub gave-short : {before : List ℤ} → length before < 4 * n → GaveRing (ringIn m n) (record { number = outputShort; place = 4 * n; count = 0 }) before before
+  unfolding answered written
+  gave-short {before} h =
+      let s = start (ringIn m n) g in
+      let p = numbers-of (turned-all (s .1) (g .proper)) in
+      let e : length (numbersOf (s .0)) ≡ 4 * n = four-a-corner (s .1) p in
+      record { corners = s .0; turned = s .1; starts = s .2; numbers = numbersOf (s .0); are = p; answer = simp (e, lt-leb _ _ h); output = simp (e, lt-leb _ _ h) }
+
+  pub gave-wrote : {k : ℕ} {before after : List ℤ} → LowestAt m n k → 4 * n ≤ length before → Wrote (startedAt m n k) before after
+      → GaveRing (ringIn m n) (record { number = 0; place = 0; count = 4 * n }) before after
+  unfolding answered
+  gave-wrote {k} {before} {after} l h w =
+      let below = l .inside in
+      let t : Turned (ringIn m n) (startedAt m n k) = turned-at m (omega arith) in
+      let e : length (w .numbers) ≡ 4 * n = four-a-corner t (w .are) in
+      record { corners = startedAt m n k; turned = t; starts = lowest-starts m g l; numbers = w .numbers; are = w .are; answer = simp (e, le-leb _ _ h); output = w .output }

@@ -1,0 +1,2 @@
+pub mod Outlines
+pub mod Workers

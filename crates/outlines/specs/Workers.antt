@@ -1,0 +1,53 @@
+-- What the workers behind the outline call promise each other.
+--   Decides b P           b is true exactly when P holds
+--   LowestAt m n k        of the first n corners in the memory m none comes before that at place k
+--   startedAt m n k       these corners, started at place k
+--   WroteFraction n d k before after   n/d in lowest terms is written at place k, the numerator before the denominator
+--   Wrote r before after  the numbers of the corners r are written from the front, and the rest is as it was
+--   GaveRing r a before after   the ring r, started, is given into an output: the answer a, and the output before and after
+use mathlib.Core.Path.{_≡_}
+use mathlib.Core.Bool.{Bool, true, false}
+use mathlib.Core.List.{List, [], _∷_, _++_}
+use Prim.Native.Nat.{ℕ, _<_, _-_}
+use lib.IntN.{ℤ}
+use lib.ListN.{length}
+use lib.Seq.{sets}
+use Rattle.fraction.specs.Fraction.{LowestOf}
+use Rattle.fraction.specs.declared.Fraction.{Fraction}
+use Rattle.grid.specs.Calls.{answered, written}
+use Rattle.grid.specs.declared.Answer.{Answer}
+use Rattle.rings.specs.Lists.{Turned}
+use Rattle.rings.specs.Points.{Point, Before}
+use Rattle.rings.specs.Rings.{Starts}
+use Rattle.passes.specs.Memory.{pointIn, ringFrom}
+use Rattle.outlines.specs.Outlines.{RingNumbers}
+
+pub record Decides (b : Bool) (P : Type 0) : Type 0 where
+  pub yes : b ≡ true → P
+  pub no : b ≡ false → P → ⊥
+
+pub record LowestAt (m : List ℤ) (n k : ℕ) : Type 0 where
+  pub inside : k < n
+  pub least : (i : ℕ) → i < n → Before (pointIn m i) (pointIn m k) → ⊥
+
+abbrev pub startedAt : List ℤ → ℕ → ℕ → List Point
+startedAt m n k = ringFrom m k (n - k) ++ ringFrom m 0 k
+
+pub record WroteFraction (n d : ℤ) (k : ℕ) (before after : List ℤ) : Type 0 where
+  pub fraction : Fraction
+  pub lowest : LowestOf n d fraction
+  pub output : after ≡ sets before k (fraction .num ∷ fraction .den ∷ [])
+
+pub record Wrote (r : List Point) (before after : List ℤ) : Type 0 where
+  pub numbers : List ℤ
+  pub are : RingNumbers r numbers
+  pub output : after ≡ written numbers before
+
+pub record GaveRing (r : List Point) (a : Answer) (before after : List ℤ) : Type 0 where
+  pub corners : List Point
+  pub turned : Turned r corners
+  pub starts : Starts corners
+  pub numbers : List ℤ
+  pub are : RingNumbers corners numbers
+  pub answer : a ≡ answered numbers (length before)
+  pub output : after ≡ written numbers before

@@ -1,0 +1,219 @@
+// An outline against a rectangle, in any of the 24 side orders: the ring of what they have in common.
+use grid::Answer;
+use grid::Refusal;
+use grid::Window;
+ghost use mathlib.Core.Path.{_≡_};
+ghost use Prim.Native.Nat.{_+_, _-_, _*_, _<_, _≤_};
+ghost use lib.IntN.{pos};
+ghost use lib.ListN.{length};
+ghost use lib.Signed.{_<ℤ_};
+ghost use Rattle.grid.specs.Calls.{Given};
+ghost use Rattle.grid.specs.Table.{WindowOnTable};
+ghost use Rattle.rings.specs.Lists.{All};
+ghost use Rattle.rings.specs.Points.{Proper, Before};
+ghost use Rattle.rings.specs.Rings.{Ring};
+ghost use Rattle.passes.specs.Memory.{pointIn, ringFrom, ringIn};
+ghost use Rattle.passes.specs.Outlines.{OutlineOnTable};
+ghost use Rattle.outlines.specs.Outlines.{rightCount, outlineRefusal, Clipped, Outline};
+ghost use Rattle.outlines.specs.Workers.{Decides, LowestAt, startedAt, WroteFraction, Wrote, GaveRing};
+
+// Whether so many numbers are an outline.
+fn right_count(n: usize) -> bool
+    ensures { λ r. ⌜ r ≡ rightCount n ⌝ }
+{
+    if n % 2 == 0 {
+        if 6 <= n {
+            return n <= 128;
+        }
+    }
+    false
+}
+
+// What the call refuses.
+fn refusal(w: Window, order: u32, outline: &[i32]) -> Refusal
+    ensures { λ r. ⌜ r ≡ outlineRefusal w order (now (outline .entry)) ⌝ }
+{
+    let first = grid::window_refusal(w);
+    if first.number != 0 {
+        return first;
+    }
+    if 23 < order {
+        return Refusal {
+            number: grid::ORDER_BAD,
+            place: 0,
+        };
+    }
+    if !right_count(outline.len()) {
+        return Refusal {
+            number: grid::LENGTH_BAD,
+            place: 0,
+        };
+    }
+    let off = grid::first_off(outline);
+    if off < outline.len() {
+        return Refusal {
+            number: grid::NUMBER_OFF,
+            place: off,
+        };
+    }
+    if !corners::strictly_convex(outline) {
+        return Refusal {
+            number: grid::OUTLINE_BAD,
+            place: 0,
+        };
+    }
+    Refusal {
+        number: 0,
+        place: 0,
+    }
+}
+
+// Whether the corner at place i lies lower than that at place j, or as low and further left.
+fn comes_before(m: &[i32], i: usize, j: usize) -> bool
+    requires { ⌜ 4 * i + 4 ≤ length (now m) ⌝ }
+    requires { ⌜ 4 * j + 4 ≤ length (now m) ⌝ }
+    ensures { λ r. ⌜ Decides r (Before (pointIn (now (m .entry)) i) (pointIn (now (m .entry)) j)) ⌝ }
+{
+    let p = 4 * i;
+    let q = 4 * j;
+    let u = m[p + 2] as i64;
+    let v = m[q + 2] as i64;
+    let a = (m[p + 1] as i64) * v;
+    let b = (m[q + 1] as i64) * u;
+    if a == b {
+        return (m[p] as i64) * v < (m[q] as i64) * u;
+    }
+    a < b
+}
+
+// The place of the lowest of the first n corners, of those the leftmost.
+fn lowest_corner(m: &[i32], n: usize) -> usize
+    requires { ⌜ 0 < n ⌝ }
+    requires { ⌜ 4 * n ≤ length (now m) ⌝ }
+    requires { ⌜ All Proper (ringIn (now m) n) ⌝ }
+    ensures { λ r. ⌜ LowestAt (now (m .entry)) n r ⌝ }
+{
+    let mut lowest = 0;
+    let mut i = 1;
+    while i < n {
+        if comes_before(m, i, lowest) {
+            lowest = i;
+        }
+        i += 1;
+    }
+    lowest
+}
+
+// Writes n/d in lowest terms at place k of out, the numerator before the denominator.
+fn write_fraction(n: i32, d: i32, out: &mut [i32], k: usize)
+    requires { ⌜ pos 0 <ℤ d ⌝ }
+    requires { ⌜ k + 2 ≤ length (now out) ⌝ }
+    ensures { λ _. ⌜ WroteFraction n d k (now (out .entry)) (now (out .exit)) ⌝ }
+{
+    if d == 1 {
+        out[k] = n;
+        out[k + 1] = d;
+        return;
+    }
+    let f = fraction::lowest(n as i64, d as i64);
+    let num = f.num as i32;
+    let den = f.den as i32;
+    out[k] = num;
+    out[k + 1] = den;
+}
+
+// Writes the corners from one place up to another, four numbers each, from the front of out.
+fn write_corners(m: &[i32], from: usize, to: usize, out: &mut [i32])
+    requires { ⌜ from ≤ to ⌝ }
+    requires { ⌜ 4 * to ≤ length (now m) ⌝ }
+    requires { ⌜ All Proper (ringFrom (now m) from (to - from)) ⌝ }
+    requires { ⌜ 4 * (to - from) ≤ length (now out) ⌝ }
+    ensures { λ _. ⌜ Wrote (ringFrom (now (m .entry)) from (to - from)) (now (out .entry)) (now (out .exit)) ⌝ }
+{
+    let mut i = from;
+    let mut k = 0;
+    while i < to {
+        let p = 4 * i;
+        let w = m[p + 2];
+        write_fraction(m[p], w, out, k);
+        write_fraction(m[p + 1], w, out, k + 2);
+        i += 1;
+        k += 4;
+    }
+}
+
+// Writes the first n corners from the front of out, started at a place.
+fn write_ring(m: &[i32], n: usize, start: usize, out: &mut [i32])
+    requires { ⌜ start ≤ n ⌝ }
+    requires { ⌜ 4 * n ≤ length (now m) ⌝ }
+    requires { ⌜ All Proper (ringIn (now m) n) ⌝ }
+    requires { ⌜ 4 * n ≤ length (now out) ⌝ }
+    ensures { λ _. ⌜ Wrote (startedAt (now (m .entry)) n start) (now (out .entry)) (now (out .exit)) ⌝ }
+{
+    let rest = 4 * (n - start);
+    write_corners(m, start, n, out);
+    write_corners(m, 0, start, &mut out[rest..]);
+}
+
+// Gives the ring of the first n corners into a lent output, or refuses where it has no room there.
+fn give_ring(m: &[i32], n: usize, out: &mut [i32]) -> Answer
+    requires { ⌜ 4 * n ≤ length (now m) ⌝ }
+    requires { ⌜ Ring (ringIn (now m) n) ⌝ }
+    ensures { λ r. ⌜ GaveRing (ringIn (now (m .entry)) n) r (now (out .entry)) (now (out .exit)) ⌝ }
+{
+    let need = 4 * n;
+    if out.len() < need {
+        return Answer {
+            number: grid::OUTPUT_SHORT,
+            place: need,
+            count: 0,
+        };
+    }
+    let start = lowest_corner(m, n);
+    write_ring(m, n, start, out);
+    Answer {
+        number: 0,
+        place: 0,
+        count: need,
+    }
+}
+
+// What the passes leave of an outline, given into a lent output.
+fn clipped(w: Window, order: u32, outline: &[i32], out: &mut [i32]) -> Answer
+    requires { ⌜ WindowOnTable w ⌝ }
+    requires { ⌜ order ≤ 23 ⌝ }
+    requires { ⌜ OutlineOnTable (now outline) ⌝ }
+    ensures { λ r. ⌜ Given (Clipped w order (now (outline .entry))) r (now (out .entry)) (now (out .exit)) ⌝ }
+{
+    let mut a = [0i32; 272];
+    let mut b = [0i32; 272];
+    let left = passes::run(w, order, outline, &mut a, &mut b);
+    let n = left.count;
+    if n == 0 {
+        return Answer {
+            number: 0,
+            place: 0,
+            count: 0,
+        };
+    }
+    if left.second {
+        return give_ring(&b, n, out);
+    }
+    give_ring(&a, n, out)
+}
+
+// What a window keeps of a strictly convex outline, cut along the window's sides in one of the 24 orders. The outline is x y x y ..,
+// counterclockwise; the ring is written as four numbers a corner.
+pub fn clip_outline(w: Window, order: u32, outline: &[i32], out: &mut [i32]) -> Answer
+    ensures { λ r. ⌜ Outline w order (now (outline .entry)) r (now (out .entry)) (now (out .exit)) ⌝ }
+{
+    let r = refusal(w, order, outline);
+    if r.number != 0 {
+        return Answer {
+            number: r.number,
+            place: r.place,
+            count: 0,
+        };
+    }
+    clipped(w, order, outline, out)
+}
