@@ -7,4 +7,3 @@ pub mod Shortenings
 pub mod Pieces
 pub mod Runs
 pub mod Computed
-pub mod Worked

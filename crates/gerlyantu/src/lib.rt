@@ -16,6 +16,7 @@ ghost use Rattle.codes.specs.Steps.{CohenSutherland};
 ghost use Rattle.corners.specs.Corners.{CyrusBeck};
 ghost use Rattle.drawing.specs.Drawings.{ReadDrawing};
 ghost use Rattle.intake.specs.Millimetres.{PointToGrid, WindowToGrid, ToMillimetres};
+ghost use Rattle.outlines.specs.Outlines.{Outline};
 ghost use Rattle.strokes.specs.Strokes.{Clipping};
 
 #[no_mangle]
@@ -72,4 +73,11 @@ pub extern "C" fn gerlyantu_read_drawing(bytes: &[u8], out: &mut [i32]) -> Drawi
     ensures { λ r. ⌜ ReadDrawing (now (bytes .entry)) r (now (out .entry)) (now (out .exit)) ⌝ }
 {
     drawing::read_drawing(bytes, out)
+}
+
+#[no_mangle]
+pub extern "C" fn gerlyantu_clip_outline(w: Window, order: u32, outline: &[i32], out: &mut [i32]) -> Answer
+    ensures { λ r. ⌜ Outline w order (now (outline .entry)) r (now (out .entry)) (now (out .exit)) ⌝ }
+{
+    outlines::clip_outline(w, order, outline, out)
 }
