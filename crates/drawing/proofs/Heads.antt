@@ -4,7 +4,7 @@ use mathlib.Core.Bool.{Bool, true, false, not, _||_}
 use mathlib.Core.List.{List}
 use Prim.Native.Nat.{ℕ, _+_, _≤_}
 use native.Mathlib.Omega.{arith}
-use borrow.Author.Tests.{eq-eqb, eqb-true, ltb-false}
+use borrow.Author.Tests.{eqb-true, ltb-false}
 use lib.Dec.{eqb, ltb}
 use lib.ListN.{length, getD}
 use Rattle.whole.proofs.Comparisons.{by-test, tt-ff}
@@ -34,10 +34,6 @@ module _ (intake : Intake) (bs : List ℕ) where
   -- what the records mean
   abbrev pub records : Drawing
   records = rest intake bs (intake .window (windowAt bs) .window) headSize fresh
-
-  pub means-records : headFault bs ≡ headSize → intake .window (windowAt bs) .number ≡ 0 → meaning intake bs ≡ records
-  unfolding meaning
-  means-records h k = simp (eq-eqb _ _ h, eq-eqb _ _ k)
 
   pub record Opened (d : Drawing) : Type 0 where
     pub head : headFault bs ≡ headSize

@@ -6,5 +6,6 @@ pub mod Walks
 pub mod Heads
 pub mod Strokes
 pub mod Progress
+pub mod OnTable
 pub mod Readings
 pub mod Theorems

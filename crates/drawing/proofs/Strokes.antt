@@ -31,19 +31,19 @@ one-less : (w : Window) (n : ℕ) (s : Stroke) (d : Drawing) → Keeps w (n + 1)
 one-less w n s (fault place) k = tt
 one-less w n s (drawn v ss) k = (k .0, omega arith)
 
-module _ (intake : Intake) (bs : List ℕ) (w : Window) where
-  turn-keeps : (n at : ℕ) (pen : Pen) (r : ℕ → Pen → Drawing) → pen .strokes ≤ mostStrokes → ((next : ℕ) (to : Pen) → to .strokes ≤ mostStrokes → Keeps w (to .strokes) (r next to))
-      → (t : Turn) → Leaves n at pen t → Keeps w (pen .strokes) (onward w pen r t)
-  turn-keeps n at pen r h k Turn.End l = (refl, omega arith)
-  turn-keeps n at pen r h k (Turn.Fault place) l = tt
-  turn-keeps n at pen r h k (Turn.Goes to next) l = subst (λ (m : ℕ). Keeps w m (r next to)) (l .2) (k next to (omega arith))
-  turn-keeps n at pen r h k (Turn.Draws to next) l =
-      one-less w (pen .strokes) (stroke pen to) (r next to) (subst (λ (m : ℕ). Keeps w m (r next to)) (l .2) (k next to (omega arith)))
+turn-keeps : (w : Window) (n at : ℕ) (pen : Pen) (r : ℕ → Pen → Drawing) → pen .strokes ≤ mostStrokes → ((next : ℕ) (to : Pen) → to .strokes ≤ mostStrokes → Keeps w (to .strokes) (r next to))
+    → (t : Turn) → Leaves n at pen t → Keeps w (pen .strokes) (onward w pen r t)
+turn-keeps w n at pen r h k Turn.End l = (refl, omega arith)
+turn-keeps w n at pen r h k (Turn.Fault place) l = tt
+turn-keeps w n at pen r h k (Turn.Goes to next) l = subst (λ (m : ℕ). Keeps w m (r next to)) (l .2) (k next to (omega arith))
+turn-keeps w n at pen r h k (Turn.Draws to next) l =
+    one-less w (pen .strokes) (stroke pen to) (r next to) (subst (λ (m : ℕ). Keeps w m (r next to)) (l .2) (k next to (omega arith)))
 
+module _ (intake : Intake) (bs : List ℕ) (w : Window) where
   walk-keeps : (n at : ℕ) (pen : Pen) → pen .strokes ≤ mostStrokes → Keeps w (pen .strokes) (walk intake bs w n at pen)
   unfolding walk
   walk-keeps zero at pen h = (refl, omega arith)
-  walk-keeps (suc n) at pen h = turn-keeps (length bs) at pen (walk intake bs w n) h (walk-keeps n) (turnAt intake bs at pen) (leaves intake bs at pen)
+  walk-keeps (suc n) at pen h = turn-keeps w (length bs) at pen (walk intake bs w n) h (walk-keeps n) (turnAt intake bs at pen) (leaves intake bs at pen)
 
 pub kept : (intake : Intake) (bs : List ℕ) (w : Window) (ss : List Stroke) → meaning intake bs ≡ drawn w ss → (w ≡ intake .window (windowAt bs) .window) × (length ss ≤ mostStrokes)
 kept intake bs w ss e =

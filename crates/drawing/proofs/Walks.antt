@@ -19,19 +19,19 @@ use Rattle.drawing.specs.declared.pen.Turn.{Turn}
 use Rattle.drawing.specs.declared.pen.Turn.the-variants as Turn
 use Rattle.drawing.proofs.Turns.{Leaves, leaves, led}
 
+-- a turn leads forward, so two walks that agree further on agree here
+agree : (w : Window) (n at : ℕ) (pen : Pen) (r s : ℕ → Pen → Drawing) → ((next : ℕ) (to : Pen) → at < next → r next to ≡ s next to) → (t : Turn) → Leaves n at pen t
+    → onward w pen r t ≡ onward w pen s t
+agree w n at pen r s h Turn.End l = refl
+agree w n at pen r s h (Turn.Fault place) l = refl
+agree w n at pen r s h (Turn.Goes to next) l = h next to (l .0)
+agree w n at pen r s h (Turn.Draws to next) l = ap (inFront (stroke pen to)) (h next to (l .0))
+
 module _ (intake : Intake) (bs : List ℕ) (w : Window) where
   -- past the bytes there is no record
   over : (at : ℕ) (pen : Pen) → length bs ≤ at → turnAt intake bs at pen ≡ Turn.End
   unfolding turnAt recordAt
   over at pen h = simp (le-leb _ _ h)
-
-  -- a turn leads forward, so two walks that agree further on agree here
-  agree : (at : ℕ) (pen : Pen) (r s : ℕ → Pen → Drawing) → ((next : ℕ) (to : Pen) → at < next → r next to ≡ s next to) → (t : Turn) → Leaves (length bs) at pen t
-      → onward w pen r t ≡ onward w pen s t
-  agree at pen r s h Turn.End l = refl
-  agree at pen r s h (Turn.Fault place) l = refl
-  agree at pen r s h (Turn.Goes to next) l = h next to (l .0)
-  agree at pen r s h (Turn.Draws to next) l = ap (inFront (stroke pen to)) (h next to (l .0))
 
   pub steps-agree : (n m at : ℕ) (pen : Pen) → length bs ≤ at + n → length bs ≤ at + m → walk intake bs w n at pen ≡ walk intake bs w m at pen
   unfolding walk
@@ -39,7 +39,7 @@ module _ (intake : Intake) (bs : List ℕ) (w : Window) where
   steps-agree zero (suc m) at pen h k = simp (over at pen (omega arith))
   steps-agree (suc n) zero at pen h k = simp (over at pen (omega arith))
   steps-agree (suc n) (suc m) at pen h k =
-      agree at pen (walk intake bs w n) (walk intake bs w m) (λ next to l. steps-agree n m next to (omega arith) (omega arith)) (turnAt intake bs at pen) (leaves intake bs at pen)
+      agree w (length bs) at pen (walk intake bs w n) (walk intake bs w m) (λ next to l. steps-agree n m next to (omega arith) (omega arith)) (turnAt intake bs at pen) (leaves intake bs at pen)
 
   -- what is left of the drawing
   abbrev pub rest : ℕ → Pen → Drawing

@@ -1,11 +1,16 @@
 -- What a drawing's bytes mean, and the call that reads them.
---   Drawing             a fault and its place, or a window and strokes in order
---   walk intake bs w n at pen   what n records mean from `at` on, in a drawing with the window w, as the pen stands there
---   meaning intake bs     what the bytes mean. There are no more records than bytes
---   Means bs d          d is what the bytes mean
---   numbers d           the strokes' numbers, four each
---   told d              the answer for a drawing whose window has area and whose strokes have room
---   Drawable bs room    the bytes mean a drawing whose strokes have room in an output of so many numbers
+--   Drawing              a fault and its place, the byte where the first one shows; or a window and strokes in order
+--   inFront s d          d with the stroke s in front
+--   onward w pen rest t  what the records mean from a turn t on, where `rest` is what they mean after it
+--   walk intake bs w n at pen   what n records from `at` on mean in a drawing with the window w, with the pen as it is there
+--   windowed intake bs a what the records mean after a window that the intake answered by a: a refused one is a fault at that number's first byte
+--   meaning intake bs    what the bytes mean. They have no more records than bytes
+--   Means bs d           d is what the bytes mean
+--   numbersOf ss, numbers d   the strokes' numbers, four each
+--   refusal d            what is refused before the output's room is looked at: 11 is decided first, then 3
+--   refused r            the answer that refuses by r: every other field is 0
+--   told d               the answer for d where nothing but a fault is refused
+--   Drawable bs room     the bytes mean a drawing whose strokes have room in an output of so many numbers
 --   ReadDrawing bs a before after   the call on the bytes bs: its answer a, and its output before and after
 use mathlib.Core.Path.{_≡_}
 use mathlib.Core.List.{List, [], _∷_, _++_}
@@ -21,6 +26,7 @@ use Rattle.grid.specs.declared.Window.{Window}
 use Rattle.grid.specs.declared.Stroke.{Stroke}
 use Rattle.grid.specs.declared.Refusal.{Refusal}
 use Rattle.grid.specs.declared.Answer.{Answer}
+use Rattle.intake.specs.declared.WindowAnswer.{WindowAnswer}
 use Rattle.drawing.specs.Intake.{Intake, ByIntake}
 use Rattle.drawing.specs.Format.{headSize, headFault, windowAt}
 use Rattle.drawing.specs.Pen.{fresh, turnAt, stroke}
@@ -51,13 +57,11 @@ walk intake bs w (suc n) at pen = onward w pen (walk intake bs w n) (turnAt inta
 
 -- ---- the whole file
 
+abbrev pub windowed : Intake → List ℕ → WindowAnswer → Drawing
+windowed intake bs a = if eqb (a .number) 0 then walk intake bs (a .window) (length bs) headSize fresh else fault (5 + 4 * a .place)
+
 unfoldable pub meaning : Intake → List ℕ → Drawing
-meaning intake bs =
-    if eqb (headFault bs) headSize
-    then if eqb (intake .window (windowAt bs) .number) 0
-    then walk intake bs (intake .window (windowAt bs) .window) (length bs) headSize fresh
-    else fault (5 + 4 * intake .window (windowAt bs) .place)
-    else fault (headFault bs)
+meaning intake bs = if eqb (headFault bs) headSize then windowed intake bs (intake .window (windowAt bs)) else fault (headFault bs)
 
 abbrev pub Means : List ℕ → Drawing → Type 0
 Means bs d = ByIntake (λ intake. meaning intake bs) d

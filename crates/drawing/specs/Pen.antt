@@ -1,13 +1,13 @@
--- The pen: what a record does to it. `intake` answers its points.
---   same p q         p and q are one grid point
---   fresh            the pen before the first record
---   begun pen at t   t, or a fault at the record's first byte before any move
---   limited pen at t t, or a fault at the record's first byte where the pen has drawn as many strokes as a drawing may have
---   landed a at go   go at the point that the intake answers, or a fault at the first byte of the number that it refuses
---   drawnTo pen p    the pen after a stroke to p
+-- The pen: what a record does to it, where `intake` answers its points.
+--   same p q           p and q are one grid point
+--   fresh              the pen before the first record
+--   begun pen at t     t, but a fault at the record's first byte before any move
+--   limited pen at t   t, but a fault at the record's first byte after as many strokes as a drawing may have
+--   landed a at go     go at the point that the intake answered by a; a refused one is a fault at that number's first byte
+--   drawnTo pen p      the pen after a stroke to p
 --   after intake at next pen s   what the step s does, whose record goes from `at` to `next`
 --   turnAt intake bs at pen      what the record at `at` does
---   stroke pen to              the stroke from where the pen is to where it is as `to`
+--   stroke pen to      the stroke that takes the pen to where it is as `to`
 use mathlib.Core.Bool.{Bool, true, false, _&&_}
 use mathlib.Core.List.{List}
 use Prim.Native.Nat.{ℕ, _+_, _*_}

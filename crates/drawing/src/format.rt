@@ -2,7 +2,7 @@
 ghost use mathlib.Core.Path.{_≡_};
 ghost use Prim.Native.Nat.{_+_, _≤_};
 ghost use lib.ListN.{length};
-ghost use Rattle.drawing.specs.Format.{number32, numberAt, floatAt, headFault, windowAt, recordAt};
+ghost use Rattle.drawing.specs.Format.{number32, numberAt, floatAt, headSize, headFault, windowAt, recordAt};
 use intake::WindowMm;
 
 // A step of the pen.
@@ -58,7 +58,7 @@ fn float_at(s: &[u8], at: usize) -> f32
     ensures { λ r. ⌜ r ≡ floatAt (now (s .entry)) at ⌝ }
 {
     let bits = number_at(s, at);
-    // Without the sign, a NaN's pattern is above that of the infinity.
+    // Without the sign, the patterns of the NaN are above that of the infinity.
     if 0x7f80_0000 < bits % 0x8000_0000 {
         return 0.0 / 0.0;
     }
@@ -93,7 +93,7 @@ pub fn head_fault(s: &[u8]) -> usize
 
 // The window of the head, in millimetres.
 pub fn window_at(s: &[u8]) -> WindowMm
-    requires { ⌜ 21 ≤ length (now s) ⌝ }
+    requires { ⌜ headSize ≤ length (now s) ⌝ }
     ensures { λ r. ⌜ r ≡ windowAt (now (s .entry)) ⌝ }
 {
     WindowMm {

@@ -1,10 +1,12 @@
 // The drawing file: the strokes that its bytes draw.
 ghost use mathlib.Core.Path.{_≡_};
 ghost use Prim.Native.Nat.{_+_, _≤_};
+ghost use lib.Dec.{eqb, leb};
 ghost use lib.ListN.{length};
 ghost use lib.Seq.{sets};
+ghost use Rattle.whole.specs.Choice.{if_then_else_};
 ghost use Rattle.grid.specs.Table.{ends};
-ghost use Rattle.grid.specs.Refusals.{refuse};
+ghost use Rattle.grid.specs.Refusals.{outputShort, refuse, none};
 ghost use Rattle.grid.specs.Calls.{written};
 ghost use Rattle.drawing.specs.Intake.{ByIntake};
 ghost use Rattle.drawing.specs.Format.{mostBytes, headSize};
@@ -15,6 +17,7 @@ mod format;
 mod pen;
 mod reader;
 
+use grid::Refusal;
 use grid::Stroke;
 use grid::Window;
 use pen::Turn;
@@ -131,6 +134,32 @@ fn write_strokes(bytes: &[u8], out: &mut [i32])
     }
 }
 
+// The refusal of an output that is shorter than needed.
+fn no_room(needed: usize, room: usize) -> Refusal
+    ensures { λ r. ⌜ r ≡ (if leb needed room then none else refuse outputShort needed) ⌝ }
+{
+    if room < needed {
+        return Refusal {
+            number: grid::OUTPUT_SHORT,
+            place: needed,
+        };
+    }
+    Refusal {
+        number: 0,
+        place: 0,
+    }
+}
+
+// Of two refusals the first that applies.
+fn first_of(a: Refusal, b: Refusal) -> Refusal
+    ensures { λ r. ⌜ r ≡ (if eqb (a .number) 0 then b else a) ⌝ }
+{
+    if a.number != 0 {
+        return a;
+    }
+    b
+}
+
 // Reads a drawing and writes its strokes in order, four numbers each.
 pub fn read_drawing(bytes: &[u8], out: &mut [i32]) -> DrawingAnswer
     ensures { λ r. ⌜ ReadDrawing (now (bytes .entry)) r (now (out .entry)) (now (out .exit)) ⌝ }
@@ -140,12 +169,10 @@ pub fn read_drawing(bytes: &[u8], out: &mut [i32]) -> DrawingAnswer
         return found;
     }
     let area = grid::window_refusal(found.window);
-    if area.number != 0 {
-        return refused(area.number, area.place);
-    }
-    let needed = 4 * found.count;
-    if out.len() < needed {
-        return refused(grid::OUTPUT_SHORT, needed);
+    let room = no_room(4 * found.count, out.len());
+    let refusal = first_of(area, room);
+    if refusal.number != 0 {
+        return refused(refusal.number, refusal.place);
     }
     write_strokes(bytes, out);
     found

@@ -1,11 +1,11 @@
 // The pen: what a record does to it.
 ghost use mathlib.Core.Path.{_≡_};
-ghost use Prim.Native.Nat.{_+_, _<_, _≤_};
-ghost use Rattle.drawing.specs.Format.{mostBytes};
+ghost use Prim.Native.Nat.{_<_, _≤_};
 ghost use lib.ListN.{length};
-ghost use Rattle.drawing.specs.Pen.{same, fresh, drawnTo, after, turnAt, stroke};
-ghost use Rattle.drawing.specs.Intake.{ByIntake};
 ghost use Rattle.grid.specs.Refusals.{mostStrokes};
+ghost use Rattle.drawing.specs.Intake.{ByIntake};
+ghost use Rattle.drawing.specs.Format.{mostBytes};
+ghost use Rattle.drawing.specs.Pen.{same, fresh, drawnTo, after, turnAt, stroke};
 use crate::format::Found;
 use crate::format::Step;
 use crate::reader;
@@ -30,7 +30,7 @@ pub struct Pen {
 pub enum Turn {
     // There is no record.
     End,
-    // A fault, and its place.
+    // A fault, and the byte where it shows.
     Fault(usize),
     // The pen goes without a stroke; the place of the next record.
     Goes(Pen, usize),
@@ -64,7 +64,7 @@ pub fn fresh() -> Pen
     }
 }
 
-// A stroke to the point p.
+// The pen after a stroke to p.
 fn drawn_to(pen: Pen, p: Point) -> Pen
     requires { ⌜ pen .strokes < mostStrokes ⌝ }
     ensures { λ r. ⌜ r ≡ drawnTo pen p ⌝ }
@@ -78,7 +78,7 @@ fn drawn_to(pen: Pen, p: Point) -> Pen
     }
 }
 
-// A move.
+// A move to a point in millimetres.
 fn move_to(at: usize, next: usize, pen: Pen, x: f32, y: f32) -> Turn
     requires { ⌜ at ≤ mostBytes ⌝ }
     ensures { λ r. ⌜ ByIntake (λ intake. after intake at next pen (Step.Move x y)) r ⌝ }
@@ -99,7 +99,7 @@ fn move_to(at: usize, next: usize, pen: Pen, x: f32, y: f32) -> Turn
     )
 }
 
-// A line.
+// A line to a point in millimetres.
 fn line_to(at: usize, next: usize, pen: Pen, x: f32, y: f32) -> Turn
     requires { ⌜ at ≤ mostBytes ⌝ }
     ensures { λ r. ⌜ ByIntake (λ intake. after intake at next pen (Step.Line x y)) r ⌝ }
@@ -117,7 +117,7 @@ fn line_to(at: usize, next: usize, pen: Pen, x: f32, y: f32) -> Turn
     Turn::Fault(at)
 }
 
-// A close.
+// A close, back to the figure's start.
 fn close(at: usize, next: usize, pen: Pen) -> Turn
     ensures { λ r. ⌜ ByIntake (λ intake. after intake at next pen Step.Close) r ⌝ }
 {
@@ -157,7 +157,7 @@ pub fn turn_at(bytes: &[u8], at: usize, pen: Pen) -> Turn
     }
 }
 
-// The stroke from where the pen is to where it is as to.
+// The stroke that takes the pen to where it is as to.
 pub fn stroke(pen: Pen, to: Pen) -> Stroke
     ensures { λ r. ⌜ r ≡ stroke pen to ⌝ }
 {

@@ -76,7 +76,12 @@ pub extern "C" fn gerlyantu_read_drawing(bytes: &[u8], out: &mut [i32]) -> Drawi
 }
 
 #[no_mangle]
-pub extern "C" fn gerlyantu_clip_outline(w: Window, order: u32, outline: &[i32], out: &mut [i32]) -> Answer
+pub extern "C" fn gerlyantu_clip_outline(
+    w: Window,
+    order: u32,
+    outline: &[i32],
+    out: &mut [i32],
+) -> Answer
     ensures { λ r. ⌜ Outline w order (now (outline .entry)) r (now (out .entry)) (now (out .exit)) ⌝ }
 {
     outlines::clip_outline(w, order, outline, out)

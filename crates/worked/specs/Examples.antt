@@ -84,13 +84,13 @@ table =
     ∷ stroke (from (pos 11) (pos 10) (pos 11) (pos 10)) (missed 0)
     -- H
     ∷ outline (pos 5 ∷ negsuc 1 ∷ pos 12 ∷ pos 5 ∷ pos 5 ∷ pos 12 ∷ negsuc 1 ∷ pos 5 ∷ []) (gave 32)
-      (corners (pos 3 ∷ pos 0 ∷ pos 7 ∷ pos 0 ∷ pos 10 ∷ pos 3 ∷ pos 10 ∷ pos 7 ∷ pos 7 ∷ pos 10 ∷ pos 3 ∷ pos 10 ∷ pos 0 ∷ pos 7 ∷ pos 0 ∷ pos 3 ∷ []))
+    (corners (pos 3 ∷ pos 0 ∷ pos 7 ∷ pos 0 ∷ pos 10 ∷ pos 3 ∷ pos 10 ∷ pos 7 ∷ pos 7 ∷ pos 10 ∷ pos 3 ∷ pos 10 ∷ pos 0 ∷ pos 7 ∷ pos 0 ∷ pos 3 ∷ []))
     -- I
     ∷ outline (negsuc 0 ∷ pos 0 ∷ pos 2 ∷ pos 1 ∷ negsuc 0 ∷ pos 2 ∷ []) (gave 12)
-      (corners (pos 0 ∷ []) ++ (pos 1 ∷ pos 3 ∷ corners (pos 2 ∷ pos 1 ∷ pos 0 ∷ []) ++ (pos 5 ∷ pos 3 ∷ zeros 20)))
+    (corners (pos 0 ∷ []) ++ (pos 1 ∷ pos 3 ∷ corners (pos 2 ∷ pos 1 ∷ pos 0 ∷ []) ++ (pos 5 ∷ pos 3 ∷ zeros 20)))
     -- J
     ∷ outline (negsuc 4 ∷ pos 0 ∷ pos 15 ∷ pos 0 ∷ pos 5 ∷ pos 20 ∷ []) (gave 16)
-      (corners (pos 0 ∷ pos 0 ∷ pos 10 ∷ pos 0 ∷ pos 10 ∷ pos 10 ∷ pos 0 ∷ pos 10 ∷ []) ++ zeros 16)
+    (corners (pos 0 ∷ pos 0 ∷ pos 10 ∷ pos 0 ∷ pos 10 ∷ pos 10 ∷ pos 0 ∷ pos 10 ∷ []) ++ zeros 16)
     -- K
     ∷ outline (negsuc 3 ∷ pos 0 ∷ pos 0 ∷ pos 2 ∷ negsuc 3 ∷ pos 4 ∷ []) (gave 0) (zeros 32)
     -- L
