@@ -21,18 +21,18 @@ use Rattle.grid.proofs.Calls.{call-refused}
 use Rattle.rings.specs.Lists.{All, ∅, _◂_, Turned}
 use Rattle.rings.specs.Points.{Point, Line, value, In, Over, Out, Proper, Before, lower, level}
 use Rattle.rings.specs.Rings.{Ring, Starts}
-use Rattle.rings.specs.Cuts.{Across, leaves, enters, Kept, stays, goes, Added, crossed, uncrossed, Pass, ends, goes-on, CutBy, empty, round, Cuts, no-more, cut, gone, Outcome, area}
+use Rattle.rings.specs.Cuts.{Across, leaves, enters, Kept, stays, goes, Added, crossed, uncrossed, Pass, ends, goes-on, CutBy, empty, round, Cuts, no-more, cut, gone}
 use Rattle.rings.proofs.Before.{before-asym, before-trans}
 use Rattle.rings.proofs.Lists.{all-zip, all-tail, turned-all}
 use Rattle.rings.proofs.Passes.{meet, meet-crossing, flip-crossing}
 use Rattle.rings.proofs.Start.{turned-ring}
-use Rattle.rings.proofs.Theorems.{all-cuts, starts-at}
+use Rattle.rings.proofs.Theorems.{starts-at}
 use Rattle.corners.specs.Corners.{cornersOf}
 use Rattle.passes.specs.Orders.{linesIn}
 use Rattle.outlines.specs.Outlines.{outlineRefusal, Clipped, Outline}
 use Rattle.outlines.specs.Workers.{Decides}
 use Rattle.outlines.proofs.Lowest.{by-width}
-use Rattle.outlines.proofs.Passes.{lines-real, ring-passed, none-passed}
+use Rattle.outlines.proofs.Passes.{cuts-ring, ring-passed, none-passed}
 use Rattle.outlines.proofs.Refusals.{nothing-refused}
 use Rattle.outlines.proofs.Unique.{outline-unique}
 use Rattle.outlines.proofs.Numbers.{numbersOf, numbers-of}
@@ -191,15 +191,12 @@ outline-of : (w : Window) (o : ℕ) (zs : List ℤ) → o ≤ 23 → Ring (corne
 unfolding outlineOf ringOf
 outline-of w o zs h g = go (cutsOf (linesIn o w) (cornersOf zs)) (cuts-of (linesIn o w) (cornersOf zs))
   where
-    of : {t : List Point} → Outcome (linesIn o w) (cornersOf zs) (some t) → Ring t
-    of (area l) = l .ring
-
     go : (k : Option (List Point)) → Cuts (linesIn o w) (cornersOf zs) k → Clipped w o zs (ringOf k)
-    go none c = none-passed w h g c
+    go none c = none-passed w h zs g c
     go (some t) c =
-        let k = of (all-cuts (lines-real w h) g c) in
+        let k = cuts-ring w h zs g c in
         let s = start-of t k in
-        ring-passed w h g c (s .0) (s .1) (numbers-of (turned-all (s .0) (k .proper)))
+        ring-passed w h zs g c (s .0) (s .1) (numbers-of (turned-all (s .0) (k .proper)))
 
 -- ---- the answer and the output
 unfoldable pub answerOf : Window → ℕ → List ℤ → ℕ → Answer

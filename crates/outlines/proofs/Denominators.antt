@@ -152,12 +152,12 @@ small-given : {w : Window} {zs xs : List ℤ} → ((k : ℕ) → k < length zs �
 small-given {w} {zs} {xs} on g p = let c = some-result (linesIn 0 w) (cornersOf zs) (lines-real w (omega arith)) g in go (c .0) (c .1)
   where
     go : (o : Option (List Point)) → Result (linesIn 0 w) (cornersOf zs) o → SmallDenominators xs
-    go none (cuts.none-left c) = subst SmallDenominators (gives-unique (none-passed {o = 0} w (omega arith) g c .gives) p) no-fraction
+    go none (cuts.none-left c) = subst SmallDenominators (gives-unique (none-passed {o = 0} w (omega arith) zs g c .gives) p) no-fraction
     go (some s) (started c t st) =
         let traced = all-order (lines-arranged 0 w (omega arith)) (sides-traced (w .left) (w .bottom) (w .right) (w .top)) in
         let fine = turned-all t (all-fine (cuts-traced Along Fine traced (outline-along zs on g) c)) in
         let numbers = numbers-of (all-map (λ v f. f .proper) fine) in
-        subst SmallDenominators (gives-unique (ring-passed {o = 0} w (omega arith) g c t st numbers .gives) p) (small-numbers fine numbers)
+        subst SmallDenominators (gives-unique (ring-passed {o = 0} w (omega arith) zs g c t st numbers .gives) p) (small-numbers fine numbers)
 
 pub denominators : (w : Window) (o : ℕ) (zs : List ℤ) {xs : List ℤ} → outlineRefusal w o zs .number ≡ 0 → OutlineGives w zs xs → SmallDenominators xs
 denominators w o zs e = let t = nothing-refused w o zs e in small-given (t .corners .on) (t .ring)

@@ -10,10 +10,8 @@ use lib.ListN.{length}
 use Rattle.grid.specs.Calls.{answered, written, Given}
 use Rattle.grid.specs.declared.Answer.{Answer}
 use Rattle.grid.specs.declared.Window.{Window}
-use Rattle.rings.specs.Points.{Point}
 use Rattle.rings.specs.Rings.{Ring}
-use Rattle.rings.specs.Cuts.{Cuts, Outcome, area}
-use Rattle.rings.proofs.Theorems.{all-cuts}
+use Rattle.rings.specs.Cuts.{Cuts}
 use Rattle.corners.specs.Corners.{cornersOf}
 use Rattle.corners.proofs.Places.{count}
 use Rattle.passes.specs.Memory.{ringIn}
@@ -25,7 +23,7 @@ use Rattle.passes.specs.declared.Left.{Left}
 use Rattle.passes.proofs.Outlines.{outline-ring}
 use Rattle.outlines.specs.Outlines.{Clipped}
 use Rattle.outlines.specs.Workers.{GaveRing}
-use Rattle.outlines.proofs.Passes.{lines-real, ring-passed, none-passed}
+use Rattle.outlines.proofs.Passes.{cuts-ring, ring-passed, none-passed}
 
 -- the passes left the ring of the first n corners in the memory m
 pub record LeftRing (w : Window) (o : ℕ) (zs m : List ℤ) (n : ℕ) : Type 0 where
@@ -36,19 +34,12 @@ pub record LeftRing (w : Window) (o : ℕ) (zs m : List ℤ) (n : ℕ) : Type 0 
 module _ {w : Window} {o : ℕ} {zs : List ℤ} (h : o ≤ 23) (t : OutlineOnTable zs) where
   pub left-ring : {a b : List ℤ} {l : Left} → Ran w o zs a b l → (l .count ≡ 0 → ⊥) → LeftRing w o zs (heldBy l a b) (l .count)
   left-ring (passes.no-area z c) n = absurd (n z)
-  left-ring (passes.area three few c small) n = record {
-    cuts = c;
-    ring = of (all-cuts (lines-real w h) (outline-ring t) c);
-    few = omega (arith, count zs, t .few);
-  }
-    where
-      of : {s : List Point} → Outcome (linesIn o w) (cornersOf zs) (some s) → Ring s
-      of (area r) = r .ring
+  left-ring (passes.area three few c small) n = record { cuts = c; ring = cuts-ring w h zs (outline-ring t) c; few = omega (arith, count zs, t .few) }
 
   pub give-left : {m : List ℤ} {n : ℕ} {a : Answer} {before after : List ℤ} → LeftRing w o zs m n → GaveRing (ringIn m n) a before after → Given (Clipped w o zs) a before after
-  give-left l g = record { numbers = g .numbers; gives = ring-passed w h (outline-ring t) (l .cuts) (g .turned) (g .starts) (g .are); answer = g .answer; output = g .output }
+  give-left l g = record { numbers = g .numbers; gives = ring-passed w h zs (outline-ring t) (l .cuts) (g .turned) (g .starts) (g .are); answer = g .answer; output = g .output }
 
   pub give-none : {a b out : List ℤ} {l : Left} → Ran w o zs a b l → l .count ≡ 0 → Given (Clipped w o zs) (record { number = 0; place = 0; count = 0 }) out out
   unfolding answered written
-  give-none {out} (passes.no-area z c) e = record { numbers = []; gives = none-passed w h (outline-ring t) c; answer = simp (le-leb 0 (length out) zero-le); output = simp (le-leb 0 (length out) zero-le) }
+  give-none {out} (passes.no-area z c) e = record { numbers = []; gives = none-passed w h zs (outline-ring t) c; answer = simp (le-leb 0 (length out) zero-le); output = simp (le-leb 0 (length out) zero-le) }
   give-none (passes.area three few c small) e = absurd (omega arith)

@@ -10,5 +10,4 @@ pub mod Lines
 pub mod Denominators
 pub mod Refusals
 pub mod Computed
-pub mod Examples
 pub mod Giving

@@ -15,7 +15,7 @@ use Rattle.rings.specs.Cuts as cuts
 use Rattle.rings.specs.Windows.{InWindow}
 use Rattle.rings.proofs.Lists.{turned-length}
 use Rattle.rings.proofs.Orders.{all-order}
-use Rattle.rings.proofs.Theorems.{cuts-length, result-outcome, sides-real, in-window}
+use Rattle.rings.proofs.Theorems.{all-cuts, cuts-length, result-outcome, sides-real, in-window}
 use Rattle.corners.specs.Corners.{cornersOf}
 use Rattle.passes.specs.Orders.{linesIn}
 use Rattle.passes.proofs.Orders.{lines-arranged, lines-length}
@@ -31,9 +31,15 @@ module _ {o : ℕ} (w : Window) (h : o ≤ 23) where
       let k = in-window (w .left) (w .bottom) (w .right) (w .top) p in
       (λ i. k .0 (all-order (Permᴰ·symm d) i), λ i. all-order d (k .1 i))
 
-  module _ {zs : List ℤ} (g : Ring (cornersOf zs)) where
+  module _ (zs : List ℤ) (g : Ring (cornersOf zs)) where
+    pub cuts-ring : {t : List Point} → Cuts (linesIn o w) (cornersOf zs) (some t) → Ring t
+    cuts-ring {t} c = of (all-cuts lines-real g c)
+      where
+        of : Outcome (linesIn o w) (cornersOf zs) (some t) → Ring t
+        of (cuts.area l) = l .ring
+
     pub ring-passed : {t s : List Point} {xs : List ℤ} → Cuts (linesIn o w) (cornersOf zs) (some t) → Turned t s → Starts s → RingNumbers s xs → Clipped w o zs xs
-    ring-passed {t} {s} {xs} c u st n = record { gives = of (result-outcome lines-real g (started c u st)); passed = ring-left (started c u st) n }
+    ring-passed {t} {s} {xs} c u st n = record { gives = of (result-outcome lines-real g (started c u st)); passes = ring-left (started c u st) n }
       where
         of : Outcome (linesIn o w) (cornersOf zs) (some s) → OutlineGives w zs xs
         of (cuts.area l) = area (record {
@@ -49,7 +55,7 @@ module _ {o : ℕ} (w : Window) (h : o ≤ 23) where
         })
 
     pub none-passed : Cuts (linesIn o w) (cornersOf zs) none → Clipped w o zs []
-    none-passed c = record { gives = of (result-outcome lines-real g (cuts.none-left c)); passed = none-left (cuts.none-left c) }
+    none-passed c = record { gives = of (result-outcome lines-real g (cuts.none-left c)); passes = none-left (cuts.none-left c) }
       where
         of : Outcome (linesIn o w) (cornersOf zs) none → OutlineGives w zs []
         of (cuts.no-area n) = no-area (record { nothing = refl; line = n .line; real = n .real; flat = λ p _ k. n .flat p (k .outline) (lines-window p .1 (k .window)) })

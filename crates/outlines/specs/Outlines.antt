@@ -1,19 +1,20 @@
--- An outline against a rectangle: what the call refuses, and the ring that it gives.
+-- An outline against a rectangle: what the call refuses, the ring that it gives, and the passes by which it is found.
+--   lastOrder, most        the side orders are 0 to 23; an outline has 3 to 64 corners
 --   badOrder o             4 where the side order is above 23
 --   rightCount n           so many numbers are 3 to 64 corners
 --   badOutline zs          5 where an outline is of odd length or wrong count
 --   notConvex zs           7 where its corners are not strictly convex counterclockwise
 --   outlineRefusal w o zs  what the call refuses: 2, 3, 4, 5, 6, then 7
---   Common w zs p          p lies in the outline zs and in the closed window w
 --   CornerNumbers p a b c d  a/b and c/d are x and y of the corner p, as fractions in lowest terms
 --   RingNumbers r xs       xs are the numbers of the corners r one after the other, four a corner
 --   SmallDenominators xs   no denominator in xs passes 32,766
+--   Common w zs p          p lies in the outline zs and in the closed window w
 --   OutlineRing w zs xs    xs are the numbers of the ring of exactly the points in common, counterclockwise, started at the lowest corner, of those the leftmost
 --   OutlineNoArea w zs xs  there are no numbers, and the points in common all lie on one line
 --   OutlineGives w zs xs   the one or the other
---   Passed w o zs xs       xs are the numbers of what is left after one pass a side, in the order o
+--   ByPasses w o zs xs     xs are the numbers of what one pass a side leaves, in the order o
 --   Clipped w o zs xs      xs is right for a window, an order and an outline in which nothing is refused
---   Outline w o zs a before after   the call's answer a is right, and its output before and after, refusals included
+--   Outline w o zs a before after   the answer a is right, and so is the output before and after the call, refusals included
 use mathlib.Core.Path.{_≡_}
 use mathlib.Core.Bool.{Bool, _&&_}
 use mathlib.Core.List.{List, [], _∷_}
@@ -99,14 +100,14 @@ pub data OutlineGives (w : Window) (zs xs : List ℤ) : Type 0 where
   no-area : OutlineNoArea w zs xs → OutlineGives w zs xs
 
 -- ---- the passes
-pub data Passed (w : Window) (o : ℕ) (zs : List ℤ) : List ℤ → Type 0 where
-  ring-left : {r : List Point} {xs : List ℤ} → Result (linesIn o w) (cornersOf zs) (some r) → RingNumbers r xs → Passed w o zs xs
-  none-left : Result (linesIn o w) (cornersOf zs) none → Passed w o zs []
+pub data ByPasses (w : Window) (o : ℕ) (zs : List ℤ) : List ℤ → Type 0 where
+  ring-left : {r : List Point} {xs : List ℤ} → Result (linesIn o w) (cornersOf zs) (some r) → RingNumbers r xs → ByPasses w o zs xs
+  none-left : Result (linesIn o w) (cornersOf zs) none → ByPasses w o zs []
 
 -- ---- the call
 pub record Clipped (w : Window) (o : ℕ) (zs xs : List ℤ) : Type 0 where
   pub gives : OutlineGives w zs xs
-  pub passed : Passed w o zs xs
+  pub passes : ByPasses w o zs xs
 
 abbrev pub Outline : Window → ℕ → List ℤ → Answer → List ℤ → List ℤ → Type 0
 Outline w o zs = Call (outlineRefusal w o zs) (Clipped w o zs)

@@ -1,11 +1,11 @@
 -- `outlines::clip_outline` meets its contract: refused by its refusal, or clipped. Assumes nothing.
 use mathlib.Core.Path.{_≡_, sym, ap, _∙_}
+use borrow.Author.Needs.{needs}
 use denote.Ref.{now}
 use Rattle.grid.specs.declared.Refusal.{Refusal}
 use Rattle.grid.proofs.Calls.{call-refused}
 use Rattle.outlines.specs.Outlines.{outlineRefusal}
 use Rattle.outlines.proofs.Refusals.{nothing-refused}
-use borrow.Author.Needs.{needs}
 use Rattle.outlines.proofs.clip_outline.Statement.{statement}
 use Rattle.outlines.proofs.clip_outline.Tie as tie
 

@@ -3,11 +3,11 @@ use mathlib.Core.Path.{_≡_, subst}
 use mathlib.Core.Bool.{Bool}
 use mathlib.Core.List.{List}
 use native.Mathlib.Omega.{arith}
+use borrow.Author.Needs.{needs}
 use denote.Ref.{now}
 use lib.IntN.{ℤ}
 use Rattle.whole.specs.Choice.{if_then_else_}
 use Rattle.outlines.proofs.Giving.{LeftRing, left-ring, give-left, give-none}
-use borrow.Author.Needs.{needs}
 use Rattle.outlines.proofs.clipped.Statement.{statement}
 use Rattle.outlines.proofs.clipped.Tie as tie
 
