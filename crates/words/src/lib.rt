@@ -1,0 +1,290 @@
+// Words of a line: where they end, the numbers that they are, and numbers written as words.
+ghost use mathlib.Core.Path.{_≡_};
+ghost use mathlib.Core.Bool.{false, not};
+ghost use Prim.Native.Nat.{_+_, _≤_, _<_, _^_};
+ghost use lib.IntN.{pos, negℤ};
+ghost use lib.Dec.{T};
+ghost use lib.Ieee.{binary32, ofBits, isNan};
+ghost use lib.ListN.{length, drop};
+ghost use Rattle.words.specs.Digits.{digitOf, value};
+ghost use Rattle.words.specs.Words.{upTo, hasMinus, numeral, unsigned, integer, single, size, arguments, integers, pairs, bytes, Into};
+ghost use Rattle.words.specs.Written.{Put, Wrote, Decimal, Numeral, Pattern};
+
+// The number that a word is, or that it is none of those asked for.
+pub enum Natural {
+    Bad,
+    Is(u64),
+}
+
+pub enum Integer {
+    Bad,
+    Is(i32),
+}
+
+pub enum Single {
+    Bad,
+    Is(f32),
+}
+
+// Whether a whole text was read, and how many numbers it has, which then stand at the front of the output.
+pub struct Read {
+    pub whole: bool,
+    pub count: usize,
+}
+
+// The value of a digit of a base to 16, or 16.
+fn digit(b: u8) -> u8
+    ensures { λ r. ⌜ r ≡ digitOf b ⌝ }
+{
+    match b {
+        b'0'..=b'9' => b - b'0',
+        b'A'..=b'F' => b - b'A' + 10,
+        b'a'..=b'f' => b - b'a' + 10,
+        _ => 16,
+    }
+}
+
+// The number that a word of digits is, if it is at most most.
+fn read_natural(word: &[u8], base: u8, most: u64) -> Natural
+    requires { ⌜ base ≤ 16 ⌝ }
+    requires { ⌜ most < 2 ^ 32 ⌝ }
+    ensures { λ r. ⌜ r ≡ upTo most (value base (now (word .entry))) ⌝ }
+{
+    if word.len() == 0 {
+        return Natural::Bad;
+    }
+    let mut n: u64 = 0;
+    let mut i = 0;
+    while i < word.len() {
+        let d = digit(word[i]);
+        if base <= d {
+            return Natural::Bad;
+        }
+        n = n * (base as u64) + (d as u64);
+        // More digits make it no smaller.
+        if most < n {
+            return Natural::Bad;
+        }
+        i += 1;
+    }
+    Natural::Is(n)
+}
+
+fn has_minus(word: &[u8]) -> bool
+    ensures { λ r. ⌜ r ≡ hasMinus (now (word .entry)) ⌝ }
+{
+    if word.len() == 0 {
+        return false;
+    }
+    word[0] == b'-'
+}
+
+// A number from 0 to most. The word -0 is one.
+pub fn read_unsigned(word: &[u8], most: u64) -> Natural
+    requires { ⌜ most < 2 ^ 32 ⌝ }
+    ensures { λ r. ⌜ r ≡ unsigned most (numeral (now (word .entry))) ⌝ }
+{
+    if has_minus(word) {
+        return read_natural(&word[1..], 10, 0);
+    }
+    read_natural(word, 10, most)
+}
+
+fn opposite(n: u64) -> i32
+    requires { ⌜ n ≤ 2 ^ 31 ⌝ }
+    ensures { λ r. ⌜ r ≡ negℤ (pos n) ⌝ }
+{
+    if n == 0 {
+        return 0;
+    }
+    !((n - 1) as i32)
+}
+
+// A number that an i32 holds.
+pub fn read_integer(word: &[u8]) -> Integer
+    ensures { λ r. ⌜ r ≡ integer (numeral (now (word .entry))) ⌝ }
+{
+    if has_minus(word) {
+        return match read_natural(&word[1..], 10, 0x8000_0000) {
+            Natural::Is(n) => Integer::Is(opposite(n)),
+            Natural::Bad => Integer::Bad,
+        };
+    }
+    match read_natural(word, 10, 0x7fff_ffff) {
+        Natural::Is(n) => Integer::Is(n as i32),
+        Natural::Bad => Integer::Bad,
+    }
+}
+
+// The f32 with these bits; every pattern of a NaN is the NaN.
+fn from_bits(bits: u32) -> f32
+    ensures { λ r. ⌜ r ≡ ofBits binary32 bits ⌝ }
+{
+    // Without the sign, a NaN's pattern is above that of the infinity.
+    if 0x7f80_0000 < bits % 0x8000_0000 {
+        return 0.0 / 0.0;
+    }
+    f32::from_bits(bits)
+}
+
+// An f32, as the eight hexadecimal digits of its bits.
+pub fn read_single(word: &[u8]) -> Single
+    ensures { λ r. ⌜ r ≡ single (now (word .entry)) ⌝ }
+{
+    if word.len() != 8 {
+        return Single::Bad;
+    }
+    match read_natural(word, 16, 0xffff_ffff) {
+        Natural::Is(n) => Single::Is(from_bits(n as u32)),
+        Natural::Bad => Single::Bad,
+    }
+}
+
+// The end of the word that starts at from: the place of the next space, or the end of the line.
+pub fn word_end(line: &[u8], from: usize) -> usize
+    requires { ⌜ from ≤ length (now line) ⌝ }
+    ensures { λ r. ⌜ r ≡ from + size (drop from (now (line .entry))) ⌝ }
+    ensures { λ r. ⌜ r ≤ length (now (line .entry)) ⌝ }
+{
+    let mut i = from;
+    while i < line.len() {
+        if line[i] == b' ' {
+            return i;
+        }
+        i += 1;
+    }
+    i
+}
+
+fn unread() -> Read
+    ensures { λ r. ⌜ r ≡ record { whole = false; count = 0 } ⌝ }
+{
+    Read {
+        whole: false,
+        count: 0,
+    }
+}
+
+// Puts the numbers of a text at the front of out: words that an i32 holds, each with a byte before it, the space.
+pub fn read_integers(text: &[u8], out: &mut [i32]) -> Read
+    ensures { λ r. ⌜ Into (integers (arguments (now (text .entry)))) (now (out .exit)) r ⌝ }
+{
+    let mut n = 0;
+    let mut at = 0;
+    while at < text.len() {
+        let start = at + 1;
+        let end = word_end(text, start);
+        let Integer::Is(x) = read_integer(&text[start..end]) else {
+            return unread();
+        };
+        if out.len() <= n {
+            return unread();
+        }
+        out[n] = x;
+        n += 1;
+        at = end;
+    }
+    Read {
+        whole: true,
+        count: n,
+    }
+}
+
+// Puts the bytes of a word at the front of out: pairs of hexadecimal digits, or a minus for none.
+pub fn read_bytes(word: &[u8], out: &mut [u8]) -> Read
+    ensures { λ r. ⌜ Into (bytes (now (word .entry))) (now (out .exit)) r ⌝ }
+{
+    if word.len() == 0 {
+        return unread();
+    }
+    if has_minus(word) {
+        if word.len() != 1 {
+            return unread();
+        }
+        return Read {
+            whole: true,
+            count: 0,
+        };
+    }
+    read_pairs(word, out)
+}
+
+fn read_pairs(text: &[u8], out: &mut [u8]) -> Read
+    ensures { λ r. ⌜ Into (pairs (now (text .entry))) (now (out .exit)) r ⌝ }
+{
+    let mut n = 0;
+    let mut at = 0;
+    while at < text.len() {
+        if text.len() - at < 2 {
+            return unread();
+        }
+        let high = digit(text[at]);
+        if 16 <= high {
+            return unread();
+        }
+        let low = digit(text[at + 1]);
+        if 16 <= low {
+            return unread();
+        }
+        if out.len() <= n {
+            return unread();
+        }
+        out[n] = high * 16 + low;
+        n += 1;
+        at += 2;
+    }
+    Read {
+        whole: true,
+        count: n,
+    }
+}
+
+// Puts a word into out from at on, and says where it ends.
+fn put(out: &mut [u8], at: usize, word: &[u8]) -> usize
+    requires { ⌜ at + length (now word) ≤ length (now out) ⌝ }
+    ensures { λ r. ⌜ Put at (now (out .entry)) (now (word .entry)) (now (out .exit)) r ⌝ }
+{
+    let mut i = 0;
+    while i < word.len() {
+        out[at + i] = word[i];
+        i += 1;
+    }
+    at + i
+}
+
+// Writes n from at on, and says where it ends.
+pub fn write_natural(out: &mut [u8], at: usize, n: u64) -> usize
+    requires { ⌜ at + 20 ≤ length (now out) ⌝ }
+    ensures { λ r. ⌜ Wrote (Decimal n) at (now (out .entry)) (now (out .exit)) r ⌝ }
+    ensures { λ r. ⌜ r ≤ at + 20 ⌝ }
+{
+    let mut digits = [0u8; 20];
+    let k = io::decimal(n, &mut digits);
+    put(out, at, &digits[..k])
+}
+
+// Writes z from at on, and says where it ends.
+pub fn write_integer(out: &mut [u8], at: usize, z: i64) -> usize
+    requires { ⌜ at + 21 ≤ length (now out) ⌝ }
+    ensures { λ r. ⌜ Wrote (Numeral z) at (now (out .entry)) (now (out .exit)) r ⌝ }
+    ensures { λ r. ⌜ r ≤ at + 21 ⌝ }
+{
+    let n = whole::size(z);
+    if z < 0 {
+        out[at] = b'-';
+        return write_natural(out, at + 1, n);
+    }
+    write_natural(out, at, n)
+}
+
+// Writes the bits of x from at on, and says where they end.
+pub fn write_single(out: &mut [u8], at: usize, x: f32) -> usize
+    requires { ⌜ at + 8 ≤ length (now out) ⌝ }
+    requires { ⌜ T (not (isNan x)) ⌝ }
+    ensures { λ r. ⌜ Wrote (Pattern x) at (now (out .entry)) (now (out .exit)) r ⌝ }
+    ensures { λ r. ⌜ r ≡ at + 8 ⌝ }
+{
+    let mut digits = [0u8; 16];
+    let k = io::hex(f32::to_bits(x) as u64, 8, &mut digits);
+    put(out, at, &digits[..k])
+}
