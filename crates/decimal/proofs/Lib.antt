@@ -1,0 +1,6 @@
+pub mod Halves
+pub mod Patterns
+pub mod Texts
+pub mod Shapes
+pub mod Signs
+pub mod Unique
