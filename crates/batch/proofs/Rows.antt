@@ -8,7 +8,7 @@ use lib.IntN.{ℤ, pos}
 use lib.ListN.{length, getD, drop, length-append}
 use Rattle.whole.specs.Choice.{if_then_else_}
 use Rattle.whole.specs.Within.{Within}
-use Rattle.fraction.proofs.Computed.{lowestOf, lowestOf-is}
+use Rattle.whole.proofs.Comparisons.{ff-tt}
 use Rattle.grid.specs.declared.Answer.{Answer}
 use Rattle.grid.specs.declared.Stroke.{Stroke}
 use Rattle.grid.specs.declared.Window.{Window}
@@ -17,7 +17,7 @@ use Rattle.grid.specs.Table.{farthest, strokeAt, strokesOf, WindowOnTable, Stro
 use Rattle.grid.proofs.Calls.{call-unique}
 use Rattle.grid.proofs.StrokeLists.{strokes-more, strokes-none, stroke-of-list}
 use Rattle.strokes.specs.Strokes.{Clipped}
-use Rattle.strokes.specs.Workers.{CutIs}
+use Rattle.strokes.specs.Workers.{CutIs, Touches}
 use Rattle.strokes.specs.declared.Cut.{Cut}
 use Rattle.strokes.specs.declared.StrokeAnswer.{StrokeAnswer}
 use Rattle.strokes.proofs.Answers.{nothing-kept}
@@ -75,13 +75,41 @@ module _ {w : Window} {zs : List ℤ} {c : Cut} {s : Stroke} (p : ℕ) (on : Win
   there = subst (λ (s : Stroke). CutIs w s c) e k
 
   pub rows-kept : c .kept ≡ true → rowsFrom w zs p ≡ (pos (p / 4) ∷ c .ax ∷ c .ay ∷ c .bx ∷ c .by ∷ []) ++ rowsFrom w zs (p + 4)
-  rows-kept e =
-      let n = there .kept e in
-      first-row
-      (n .answer (lowestOf (c .first .num) (c .first .den)) (lowestOf (c .last .num) (c .last .den)) (lowestOf-is _ (n .fractions .first .den)) (lowestOf-is _ (n .fractions .last .den)))
+  rows-kept e = first-row (there .kept e .answer)
 
   pub rows-missed : c .kept ≡ false → rowsFrom w zs p ≡ rowsFrom w zs (p + 4)
   rows-missed e = first-row (nothing-kept (there .missed e))
+
+-- ---- how many numbers that are, by whether the window leaves anything of the stroke there
+row-length : (n : ℕ) (a : StrokeAnswer) {k : Bool} → a .kept ≡ k → length (row n a) ≡ length (if k then pos n ∷ a .ax ∷ a .ay ∷ a .bx ∷ a .by ∷ [] else [])
+row-length n a q = ap (λ (k : Bool). length (if k then pos n ∷ a .ax ∷ a .ay ∷ a .bx ∷ a .by ∷ [] else [])) q
+
+module _ {w : Window} {zs : List ℤ} {b : Bool} {s : Stroke} (p : ℕ) (on : WindowOnTable w) (t : StrokesOnTable zs) (h : p + 4 ≤ length zs) (e : s ≡ strokeAt zs p) (k : Touches w s b) where
+  abbrev answer : StrokeAnswer
+  answer = clippedOf w (strokeAt zs p)
+
+  clipped : Clipped w (strokeAt zs p) answer
+  clipped = clippedOf-is on (stroke-of-list p t h)
+
+  touched : Touches w (strokeAt zs p) b
+  touched = subst (λ (s : Stroke). Touches w s b) e k
+
+  more : length (rowsFrom w zs p) ≡ length (row (p / 4) answer) + length (rowsFrom w zs (p + 4))
+  more = ap length (rows-more w zs p h) ∙ length-append (row (p / 4) answer) (rowsFrom w zs (p + 4))
+
+  pub length-kept : b ≡ true → length (rowsFrom w zs p) ≡ 5 + length (rowsFrom w zs (p + 4))
+  length-kept q = go (answer .kept) refl
+    where
+      go : (k : Bool) → answer .kept ≡ k → length (rowsFrom w zs p) ≡ 5 + length (rowsFrom w zs (p + 4))
+      go true f = omega (arith, more, row-length (p / 4) answer f)
+      go false f = absurd (touched .kept q (λ n d m. ff-tt (sym f ∙ clipped .part .keeps n d m)))
+
+  pub length-missed : b ≡ false → length (rowsFrom w zs p) ≡ length (rowsFrom w zs (p + 4))
+  length-missed q = go (answer .kept) refl
+    where
+      go : (k : Bool) → answer .kept ≡ k → length (rowsFrom w zs p) ≡ length (rowsFrom w zs (p + 4))
+      go true f = absurd (touched .missed q _ _ (clipped .part .first f .keeps))
+      go false f = omega (arith, more, row-length (p / 4) answer f)
 
 -- five numbers a stroke at the most
 row-short : (k : ℕ) (a : StrokeAnswer) → length (row k a) ≤ 5

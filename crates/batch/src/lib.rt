@@ -36,8 +36,7 @@ fn count_rows(w: Window, s: &[i32]) -> usize
     let mut needed = 0;
     let mut at = 0;
     while at < s.len() {
-        let cut = strokes::cut_stroke(w, grid::stroke_at(s, at));
-        if cut.kept {
+        if strokes::touches(w, grid::stroke_at(s, at)) {
             needed += 5;
         }
         at += 4;
@@ -85,15 +84,21 @@ pub fn batch(w: Window, s: &[i32], out: &mut [i32]) -> Answer
             count: 0,
         };
     }
-    if out.len() < s.len() / 4 * 5 {
-        let needed = count_rows(w, s);
-        if out.len() < needed {
-            return Answer {
-                number: grid::OUTPUT_SHORT,
-                place: needed,
-                count: 0,
-            };
-        }
+    if s.len() / 4 * 5 <= out.len() {
+        let n = write_rows(w, s, out);
+        return Answer {
+            number: 0,
+            place: 0,
+            count: n,
+        };
+    }
+    let needed = count_rows(w, s);
+    if out.len() < needed {
+        return Answer {
+            number: grid::OUTPUT_SHORT,
+            place: needed,
+            count: 0,
+        };
     }
     let n = write_rows(w, s, out);
     Answer {

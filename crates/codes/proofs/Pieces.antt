@@ -1,19 +1,31 @@
 -- A piece of a stroke as the code has it: its decision is by the trailing zeros of a code, and what a shortening leaves is a piece again.
-use mathlib.Core.Path.{_≡_, sym, subst, _∙_}
+use mathlib.Core.Path.{_≡_, refl, sym, ap, subst, _∙_}
+use mathlib.Core.List.{[], _∷_}
 use Prim.Native.Nat.{ℕ, _≤_, _<_}
 use native.Mathlib.Omega.{arith}
+use lib.Bits.{bitOr}
+use lib.IntN.{ℤ, pos}
+use lib.Signed.{ltZ}
+use Rattle.whole.proofs.Comparisons.{diff-test}
+use Rattle.whole.specs.Choice.{if_then_else_}
 use Rattle.whole.specs.Within.{Within}
+use Rattle.whole.proofs.Expressions.{con, _⊕_, _⊖_, _⊗_, x0, x1, x2}
+use Rattle.whole.proofs.Order.{zarith}
+use Rattle.whole.proofs.Polynomials.{ring}
 use Rattle.fraction.specs.declared.Fraction.{Fraction}
 use Rattle.grid.specs.declared.Stroke.{Stroke}
 use Rattle.grid.specs.declared.Window.{Window}
 use Rattle.grid.specs.Refusals.{none}
 use Rattle.spans.specs.Parts.{zeroth, unit}
 use Rattle.spans.proofs.Cutting.{one-within}
+use Rattle.spans.proofs.Parts.{lowest-zeroth, lowest-unit}
 use Rattle.strokes.specs.Strokes.{blank}
-use Rattle.strokes.proofs.Answers.{nothing-kept}
-use Rattle.codes.specs.Codes.{Side, number, keep, missed, shortenStart, shortenEnd, lowestBit, decision}
+use Rattle.strokes.specs.Workers.{wholeAnswer}
+use Rattle.strokes.proofs.Answers.{nothing-kept, span-kept}
+use Rattle.strokes.proofs.Points.{point-start, point-finish}
+use Rattle.codes.specs.Codes.{Side, number, code, keep, missed, shortenStart, shortenEnd, lowestBit, decision}
 use Rattle.codes.specs.Steps.{decided, start, end, Run, kept, lost}
-use Rattle.codes.specs.Workers.{Ends, sideOf, Apart, Crossing, PieceOf, Kept, Finished}
+use Rattle.codes.specs.Workers.{outsideOf, marksOf, endCode, Ends, sideOf, Apart, Crossing, PieceOf, Kept, Finished}
 use Rattle.codes.specs.declared.CountedAnswer.{CountedAnswer}
 use Rattle.codes.specs.declared.Piece.{Piece}
 use Rattle.codes.proofs.Crossings.{apart}
@@ -69,9 +81,40 @@ module _ {w : Window} {s : Stroke} {p : Piece} (h : PieceOf w s p) where
     pub end-ends : {c : Fraction} → Crossing w s k c → Ends f c
     end-ends m = ordered-ends (shortened-ordered (ends-ordered (h .ends)) (end k e (m .line))) (h .ends .start .small) (m .small)
 
+-- ---- the codes of the stroke's own ends
+module _ (lo hi a b : ℤ) (under over : ℕ) where
+  marks-start : marksOf lo hi a under over ≡ outsideOf lo hi a b zeroth under over
+  marks-start =
+      let low = diff-test a lo ∙ ap (ltZ (pos 0)) (ring (lo ∷ a ∷ b ∷ []) (x0 ⊖ x1) (x0 ⊗ con (pos 1) ⊖ (x1 ⊗ con (pos 1) ⊕ con (pos 0) ⊗ (x2 ⊖ x1))) tt) in
+      let high = diff-test hi a ∙ ap (ltZ (pos 0)) (ring (hi ∷ a ∷ b ∷ []) (x1 ⊖ x0) (x1 ⊗ con (pos 1) ⊕ con (pos 0) ⊗ (x2 ⊖ x1) ⊖ x0 ⊗ con (pos 1)) tt) in
+      λ i. bitOr (if low i then under else 0) (if high i then over else 0)
+
+  marks-end : marksOf lo hi b under over ≡ outsideOf lo hi a b unit under over
+  marks-end =
+      let low = diff-test b lo ∙ ap (ltZ (pos 0)) (ring (lo ∷ a ∷ b ∷ []) (x0 ⊖ x2) (x0 ⊗ con (pos 1) ⊖ (x1 ⊗ con (pos 1) ⊕ con (pos 1) ⊗ (x2 ⊖ x1))) tt) in
+      let high = diff-test hi b ∙ ap (ltZ (pos 0)) (ring (hi ∷ a ∷ b ∷ []) (x2 ⊖ x0) (x1 ⊗ con (pos 1) ⊕ con (pos 1) ⊗ (x2 ⊖ x1) ⊖ x0 ⊗ con (pos 1)) tt) in
+      λ i. bitOr (if low i then under else 0) (if high i then over else 0)
+
+module _ (w : Window) (s : Stroke) where
+  pub start-code : endCode w (s .x1) (s .y1) ≡ code w s zeroth
+  unfolding code
+  start-code = λ i. bitOr (marks-start (w .left) (w .right) (s .x1) (s .x2) 1 2 i) (marks-start (w .bottom) (w .top) (s .y1) (s .y2) 4 8 i)
+
+  pub end-code : endCode w (s .x2) (s .y2) ≡ code w s unit
+  unfolding code
+  end-code = λ i. bitOr (marks-end (w .left) (w .right) (s .x1) (s .x2) 1 2 i) (marks-end (w .bottom) (w .top) (s .y1) (s .y2) 4 8 i)
+
 -- ---- the whole stroke, and the two ends of a run
 pub first-ends : Ends zeroth unit
 first-ends = ordered-ends first-ordered (one-within (omega arith)) (one-within (omega arith))
+
+pub whole-kept : {s : Stroke} {q : CountedAnswer} → q ≡ record { answer = wholeAnswer s; shortenings = 0 } → Kept s zeroth unit 0 q
+whole-kept {s} e = subst (Kept s zeroth unit 0) (sym e) (record {
+  clipped = λ w g.
+      span-kept g (omega zarith) (record { t = zeroth; x = s .x1; y = s .y1 }) (record { t = unit; x = s .x2; y = s .y2 })
+      (point-start {f = zeroth} (omega zarith) refl) (point-finish {f = unit} (omega zarith) refl) (lowest-zeroth refl) (lowest-unit refl);
+  count = refl;
+})
 
 module _ {w : Window} {s : Stroke} {f g : Fraction} {n : ℕ} {q : CountedAnswer} (r : Reached w s f g n) where
   pub finished-kept : Ends f g → decided w s f g ≡ keep → Kept s f g n q → Finished w s q

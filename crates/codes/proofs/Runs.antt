@@ -7,6 +7,7 @@ use native.Mathlib.Omega.{arith}
 use lib.Bits.{bitOr}
 use lib.IntN.{ℤ, pos, _*ℤ_}
 use lib.Signed.{_<ℤ_, ltZ}
+use Rattle.whole.proofs.Comparisons.{same-test}
 use Rattle.whole.specs.Choice.{if_then_else_}
 use Rattle.whole.proofs.Certificates.{gt-by, eq, po, _⊞_, _⊠_}
 use Rattle.whole.proofs.Expressions.{var, con, _⊕_, _⊗_}
@@ -25,7 +26,7 @@ use Rattle.codes.specs.declared.CountedAnswer.{CountedAnswer}
 use Rattle.codes.proofs.Crossings.{side-of, number-small}
 use Rattle.codes.proofs.Decided.{start-beyond, end-beyond}
 use Rattle.codes.proofs.Forms.{form, same-fraction, slope, base, beyond-form, form-beyond, on-form}
-use Rattle.codes.proofs.Sides.{same-test, open-sides, open-≤, shut}
+use Rattle.codes.proofs.Sides.{open-sides, open-≤, shut}
 use Rattle.codes.proofs.Shortenings.{Ordered, first-ordered, shortened-ordered, shortened-falls}
 
 -- ---- at most four

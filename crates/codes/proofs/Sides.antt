@@ -1,14 +1,12 @@
 -- The four sides: a fraction is kept where its point is past none of them, and how many sides are still open to a shortening.
-use mathlib.Core.Path.{_≡_, refl}
 use mathlib.Core.Bool.{Bool, true, false, not, _&&_}
 use Prim.Native.Nat.{ℕ, _+_, _≤_, _<_}
 use native.Mathlib.Omega.{arith}
 use lib.Dec.{T}
 use lib.IntN.{ℤ, pos, _-ℤ_}
-use lib.Signed.{_≤ℤ_, _<ℤ_, leZ, ltZ, leZ-yes}
+use lib.Signed.{_≤ℤ_, leZ, leZ-yes}
 use mir.Facts.{and-yes, yes-and, not-T}
-use Rattle.whole.proofs.Comparisons.{lt-yes, lt-no}
-use Rattle.whole.proofs.Order.{zarith, sub-is, <-diff, diff-<}
+use Rattle.whole.proofs.Order.{zarith, sub-is}
 use Rattle.fraction.specs.declared.Fraction.{Fraction}
 use Rattle.grid.specs.declared.Stroke.{Stroke}
 use Rattle.grid.specs.declared.Window.{Window}
@@ -18,19 +16,6 @@ use Rattle.codes.specs.Codes.{Side, left, right, bottom, top, past}
 
 abbrev pub fraction : ℤ → ℤ → Fraction
 fraction n d = record { num = n; den = d }
-
--- ---- tests of one truth
-pub same-test : {a b c d : ℤ} → (a <ℤ b → c <ℤ d) → (c <ℤ d → a <ℤ b) → ltZ a b ≡ ltZ c d
-same-test {a} {b} {c} {d} h k = go (ltZ a b) (ltZ c d) refl refl
-  where
-    go : (x y : Bool) → ltZ a b ≡ x → ltZ c d ≡ y → x ≡ y
-    go true true p q = refl
-    go true false p q = let l = h (lt-yes refl refl p) in let m : d ≤ℤ c = lt-no refl refl q in absurd (omega zarith)
-    go false true p q = let l = k (lt-yes refl refl q) in let m : b ≤ℤ a = lt-no refl refl p in absurd (omega zarith)
-    go false false p q = refl
-
-pub diff-test : (a b : ℤ) → ltZ a b ≡ ltZ (pos 0) (b -ℤ a)
-diff-test a b = same-test {a = a} {b = b} {c = pos 0} {d = b -ℤ a} <-diff diff-<
 
 -- ---- kept is past no side
 less-diff : {a b : ℤ} → a ≤ℤ b → (a -ℤ b) ≤ℤ pos 0

@@ -1,6 +1,6 @@
 -- What the workers behind the Cohen-Sutherland call promise each other.
---   OnWay f             f is a fraction from 0 to 1, with a denominator as small as a stroke's run
 --   outsideOf lo hi a b f under over   the bits of the coordinate at the fraction f of the way from a to b: under where it is below lo, over where it is above hi
+--   marksOf lo hi x under over, endCode w x y   the bits of a coordinate x, and the code of a point with whole numbers
 --   Ends f g            f and g are such fractions, and f is not the greater
 --   sideOf n            the side of a number; from 3 on the top
 --   Apart s k           the stroke's two ends are not equally far from the line of side k
@@ -8,6 +8,7 @@
 --   Crossing w s k f    at the fraction f the stroke is on the line of side k
 --   PieceOf w s p       the piece p is a part of the stroke, with the codes of its two points
 --   Shortened w s p q   the piece q is what one shortening leaves of p
+--   EndAt s f e         e is the stroke's point at the fraction f, rounded
 --   Kept s f g n r      r is right, after n shortenings, for any window that keeps of the stroke what is from f to g
 --   Finished w s r      r is right for a window and a stroke in which nothing is refused
 use mathlib.Core.Path.{_≡_}
@@ -21,22 +22,26 @@ use Rattle.fraction.specs.declared.Fraction.{Fraction}
 use Rattle.fraction.specs.Rounding.{along}
 use Rattle.grid.specs.declared.Stroke.{Stroke}
 use Rattle.grid.specs.declared.Window.{Window}
-use Rattle.spans.specs.Parts.{Time, zeroth, unit}
+use Rattle.spans.specs.Parts.{zeroth, unit}
 use Rattle.spans.specs.Spans.{SpanOf}
-use Rattle.strokes.specs.Strokes.{Keeps, Clipped}
+use Rattle.strokes.specs.declared.End.{End}
+use Rattle.strokes.specs.Strokes.{Keeps, PointAt, Clipped}
+use Rattle.strokes.specs.Workers.{OnWay}
 use Rattle.codes.specs.Codes.{Side, left, right, bottom, top, code}
 use Rattle.codes.specs.Steps.{OnLine, Shortening, Run}
 use Rattle.codes.specs.declared.CountedAnswer.{CountedAnswer}
 use Rattle.codes.specs.declared.Piece.{Piece}
 
-pub record OnWay (f : Fraction) : Type 0 where
-  pub time : Time (f .num) (f .den)
-  pub small : Within 32766 (f .den)
-
 abbrev pub outsideOf : ℤ → ℤ → ℤ → ℤ → Fraction → ℕ → ℕ → ℕ
 outsideOf lo hi a b f under over =
     bitOr (if ltZ (pos 0) (lo *ℤ f .den -ℤ along a b (f .num) (f .den)) then under else 0)
     (if ltZ (pos 0) (along a b (f .num) (f .den) -ℤ hi *ℤ f .den) then over else 0)
+
+abbrev pub marksOf : ℤ → ℤ → ℤ → ℕ → ℕ → ℕ
+marksOf lo hi x under over = bitOr (if ltZ x lo then under else 0) (if ltZ hi x then over else 0)
+
+abbrev pub endCode : Window → ℤ → ℤ → ℕ
+endCode w x y = bitOr (marksOf (w .left) (w .right) x 1 2) (marksOf (w .bottom) (w .top) y 4 8)
 
 pub record Ends (f g : Fraction) : Type 0 where
   pub start : OnWay f
@@ -72,6 +77,10 @@ pub record PieceOf (w : Window) (s : Stroke) (p : Piece) : Type 0 where
 pub record Shortened (w : Window) (s : Stroke) (p q : Piece) : Type 0 where
   pub step : Shortening w s (p .start) (p .end) (q .start) (q .end)
   pub piece : PieceOf w s q
+
+pub record EndAt (s : Stroke) (f : Fraction) (e : End) : Type 0 where
+  pub t : e .t ≡ f
+  pub point : PointAt s f (e .x) (e .y)
 
 pub record Kept (s : Stroke) (f g : Fraction) (n : ℕ) (r : CountedAnswer) : Type 0 where
   pub clipped : (w : Window) → SpanOf 32766 (Keeps w s) (record { first = f; last = g }) → Clipped w s (r .answer)

@@ -9,6 +9,7 @@ use fraction::Fraction;
 use grid::Refusal;
 use grid::Stroke;
 use grid::Window;
+use strokes::End;
 use strokes::StrokeAnswer;
 ghost use mathlib.Core.Path.{_≡_};
 ghost use Prim.Native.Nat.{_<_, _≤_};
@@ -17,9 +18,10 @@ ghost use Rattle.whole.specs.Within.{Within};
 ghost use Rattle.grid.specs.Table.{farthest, WindowOnTable, StrokeOnTable};
 ghost use Rattle.grid.specs.Refusals.{none};
 ghost use Rattle.strokes.specs.Strokes.{blank as Strokes·blank};
+ghost use Rattle.strokes.specs.Workers.{OnWay, wholeAnswer};
 ghost use Rattle.codes.specs.Codes.{code as Codes·code, decision as Codes·decision};
 ghost use Rattle.codes.specs.Steps.{decided as Steps·decided, CohenSutherland};
-ghost use Rattle.codes.specs.Workers.{OnWay, outsideOf, Ends, sideOf, Apart, Meeting, Crossing, PieceOf, Shortened, Kept, Finished};
+ghost use Rattle.codes.specs.Workers.{outsideOf, marksOf, endCode, Ends, sideOf, Apart, Meeting, Crossing, PieceOf, Shortened, EndAt, Kept, Finished};
 
 // The bits of a position code.
 const LEFT: u8 = 1;
@@ -73,6 +75,20 @@ fn code(w: Window, s: Stroke, t: Fraction) -> u8
 {
     outside(w.left, w.right, s.x1, s.x2, t, LEFT, RIGHT)
         | outside(w.bottom, w.top, s.y1, s.y2, t, BELOW, ABOVE)
+}
+
+// The bits of one coordinate x of an end of the stroke.
+fn marks(lo: i32, hi: i32, x: i32, under: u8, over: u8) -> u8
+    ensures { λ r. ⌜ r ≡ marksOf lo hi x under over ⌝ }
+{
+    mark(x < lo, under) | mark(hi < x, over)
+}
+
+// The code of an end of the stroke, by its numbers alone.
+fn end_code(w: Window, x: i32, y: i32) -> u8
+    ensures { λ r. ⌜ r ≡ endCode w x y ⌝ }
+{
+    marks(w.left, w.right, x, LEFT, RIGHT) | marks(w.bottom, w.top, y, BELOW, ABOVE)
 }
 
 fn decision(a: u8, b: u8) -> u8
@@ -162,30 +178,57 @@ fn missed(shortenings: u32) -> CountedAnswer
     }
 }
 
-// A stroke that is kept from start to end: the fractions are brought to lowest terms, and the points there are rounded.
+// The stroke's point at a fraction of its way, rounded to the grid.
+fn end_at(s: Stroke, t: Fraction) -> End
+    requires { ⌜ StrokeOnTable s ⌝ }
+    requires { ⌜ OnWay t ⌝ }
+    ensures { λ r. ⌜ EndAt s t r ⌝ }
+{
+    if t.num == 0 {
+        return End {
+            t,
+            x: s.x1,
+            y: s.y1,
+        };
+    }
+    if t.num == t.den {
+        return End {
+            t,
+            x: s.x2,
+            y: s.y2,
+        };
+    }
+    let n = t.num as u32;
+    let d = t.den as u32;
+    End {
+        t,
+        x: fraction::rounded(s.x1, s.x2, n, d),
+        y: fraction::rounded(s.y1, s.y2, n, d),
+    }
+}
+
+// A stroke that is kept from start to end.
 fn kept(s: Stroke, start: Fraction, end: Fraction, shortenings: u32) -> CountedAnswer
     requires { ⌜ StrokeOnTable s ⌝ }
     requires { ⌜ Ends start end ⌝ }
     ensures { λ q. ⌜ Kept s start end shortenings q ⌝ }
 {
-    let a = strokes::point_at(s, start);
-    let b = strokes::point_at(s, end);
-    let t0 = spans::lowest_part(start);
-    let t1 = spans::lowest_part(end);
-    let answer = StrokeAnswer {
-        number: 0,
-        place: 0,
-        kept: true,
-        t0,
-        t1,
-        ax: a.x,
-        ay: a.y,
-        bx: b.x,
-        by: b.y,
-    };
+    let a = end_at(s, start);
+    let b = end_at(s, end);
+    let answer = strokes::kept_answer(a, b);
     CountedAnswer {
         answer,
         shortenings,
+    }
+}
+
+// A stroke that is kept whole.
+fn whole(s: Stroke) -> CountedAnswer
+    ensures { λ q. ⌜ q ≡ record { answer = wholeAnswer s; shortenings = 0 } ⌝ }
+{
+    CountedAnswer {
+        answer: strokes::whole_answer(s),
+        shortenings: 0,
     }
 }
 
@@ -197,11 +240,11 @@ fn clipped(w: Window, s: Stroke) -> CountedAnswer
 {
     let start = Fraction { num: 0, den: 1 };
     let end = Fraction { num: 1, den: 1 };
-    let a = code(w, s, start);
-    let b = code(w, s, end);
+    let a = end_code(w, s.x1, s.y1);
+    let b = end_code(w, s.x2, s.y2);
     // most strokes are plainly in or out, and need no table
     if a | b == 0 {
-        return kept(s, start, end, 0);
+        return whole(s);
     }
     if a & b != 0 {
         return missed(0);

@@ -105,6 +105,10 @@ same-step {a} {b} {m} {n} s = record {
 pub same-end : {a b m : ℕ} → SameDivisors a b m 0 → GreatestCommon a b m
 same-end s = record { both = λ g p. s .down g p (divides-zero g); most = λ g p q. s .up g p q .0 }
 
+-- in either order
+pub common-swap : {a b g : ℕ} → GreatestCommon a b g → GreatestCommon b a g
+common-swap h = record { both = λ k p. let r = h .both k p in (r .1, r .0); most = λ k p q. h .most k q p }
+
 -- the greatest common divisor of one pair is that of the other
 pub same-common : {a b m n g : ℕ} → SameDivisors a b m n → GreatestCommon m n g → GreatestCommon a b g
 same-common s h = record {

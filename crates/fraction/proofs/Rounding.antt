@@ -1,14 +1,15 @@
 -- Rounding: a number has one rounding, which lies between the whole numbers that the number lies between, and which moves and mirrors with it. So the way from the start is rounded, a half falling to 0, and then gone forward or back.
-use mathlib.Core.Path.{_≡_, refl, sym, subst}
+use mathlib.Core.Path.{_≡_, sym, subst}
 use mathlib.Core.Logic.{⊎-elim}
 use mathlib.Core.List.{[], _∷_}
-use Prim.Native.Nat.{ℕ, zero, suc, _+_, _*_, _-_, _/_, _%_, _<_}
+use Prim.Native.Nat.{ℕ, _+_, _*_, _-_, _/_, _%_, _<_}
 use native.Mathlib.Nat.{div-add-mod, mod-lt}
 use native.Mathlib.Omega.{arith}
-use lib.IntN.{ℤ, pos, negsuc, negℤ, natAbs, _+ℤ_, _-ℤ_, _*ℤ_}
-use lib.Signed.{_≤ℤ_, _<ℤ_, yes-nonNeg, pos-natAbs}
+use lib.IntN.{ℤ, pos, negsuc, negℤ, _+ℤ_, _-ℤ_, _*ℤ_}
+use lib.Signed.{_≤ℤ_, _<ℤ_}
 use Rattle.whole.proofs.Expressions.{Expr, var, con, _⊕_, _⊖_, _⊗_, neg, x0, x1, x2, x3}
-use Rattle.whole.proofs.Order.{zarith, sub-is, next-≤, ≤-diff, ≤-trans, ≤-antisym, ≤-total}
+use Rattle.whole.proofs.Polynomials.{ring}
+use Rattle.whole.proofs.Order.{zarith, next-≤, ≤-trans, ≤-antisym, ≤-total}
 use Rattle.whole.proofs.Certificates.{ge, ge-by, clash, eqn, _⊹_, eq-by, eq-cancel, eq, po, le, nat, _⊞_, _⊠_}
 use Rattle.fraction.specs.Fraction.{LowestOf}
 use Rattle.fraction.specs.Rounding.{along, Rounded}
@@ -145,18 +146,9 @@ rounded-mirror {a} {x} {d} {r} p =
     }
 
 -- n/d of the way from a to b, by their distance
-abs-below : (z : ℤ) → z ≤ℤ pos 0 → pos (natAbs z) ≡ negℤ z
-abs-below (pos zero) h = refl
-abs-below (pos (suc n)) h = absurd (omega zarith)
-abs-below (negsuc n) h = refl
+module _ {d q : ℤ} (a b n : ℤ) where
+  pub rounded-on : Rounded (pos 0) ((b -ℤ a) *ℤ n) d q → Rounded a (along a b n d) d (a +ℤ q)
+  rounded-on p = rounded-from a (subst (λ (x : ℤ). Rounded (pos 0) x d q) (ring (a ∷ b ∷ n ∷ []) ((x1 ⊖ x0) ⊗ x2) (x2 ⊗ (x1 ⊖ x0)) tt) p)
 
-module _ {d q : ℤ} (a b n : ℤ) (p : Rounded (pos 0) (pos (natAbs (b -ℤ a)) *ℤ n) d q) where
-  pub rounded-on : a ≤ℤ b → Rounded a (along a b n d) d (a +ℤ q)
-  rounded-on h = rounded-from a
-      (subst (λ (x : ℤ). Rounded (pos 0) x d q)
-      (eq-by (n ∷ (b -ℤ a) ∷ (pos (natAbs (b -ℤ a))) ∷ []) (x2 ⊗ x0) (x0 ⊗ x1) (eqn x0 x2 x1 (pos-natAbs (b -ℤ a) (yes-nonNeg (≤-diff h)))) tt) p)
-
-  pub rounded-back : b ≤ℤ a → Rounded a (along a b n d) d (a -ℤ q)
-  rounded-back h = rounded-from a
-      (subst (λ (x : ℤ). Rounded (pos 0) x d (negℤ q))
-      (eq-by (n ∷ (b -ℤ a) ∷ (pos (natAbs (b -ℤ a))) ∷ []) (neg (x2 ⊗ x0)) (x0 ⊗ x1) (eqn (neg x0) x2 (neg x1) (abs-below (b -ℤ a) (omega (zarith, sub-is b a)))) tt) (rounded-mirror p))
+  pub rounded-back : Rounded (pos 0) ((a -ℤ b) *ℤ n) d q → Rounded a (along a b n d) d (a -ℤ q)
+  rounded-back p = rounded-from a (subst (λ (x : ℤ). Rounded (pos 0) x d (negℤ q)) (ring (a ∷ b ∷ n ∷ []) (neg ((x0 ⊖ x1) ⊗ x2)) (x2 ⊗ (x1 ⊖ x0)) tt) (rounded-mirror p))

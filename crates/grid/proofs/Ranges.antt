@@ -5,10 +5,11 @@ use mathlib.Core.List.{List, [], _∷_}
 use Prim.Native.Nat.{ℕ, zero, suc, _+_, _<_, _≤_, _^_}
 use native.Mathlib.Numerals.{add-one}
 use native.Mathlib.Omega.{arith}
+use lib.Ieee.Bits.{is-true}
 use lib.IntN.{ℤ, pos, negℤ}
 use lib.ListN.{length, getD, drop, drop-of-length-le}
 use lib.Seq.{drop-cons}
-use lib.Signed.{leZ, leZ-yes, ltZ, mag}
+use lib.Signed.{leZ, leZ-yes, mag}
 use mir.Syntax.{w32}
 use mir.Val.{toZ, ofZ}
 use Rattle.whole.specs.Within.{Within}
@@ -33,10 +34,6 @@ off-none = refl
 pub read-four : (a b c d : ℤ) → mag a < 2 ^ 31 → mag b < 2 ^ 31 → mag c < 2 ^ 31 → mag d < 2 ^ 31
     → firstOff (toZ w32 (ofZ w32 a) ∷ toZ w32 (ofZ w32 b) ∷ toZ w32 (ofZ w32 c) ∷ toZ w32 (ofZ w32 d) ∷ []) ≡ firstOff (a ∷ b ∷ c ∷ d ∷ [])
 read-four a b c d ha hb hc hd = λ i. firstOff (back w32 a ha i ∷ back w32 b hb i ∷ back w32 c hc i ∷ back w32 d hd i ∷ [])
-
--- a test of two fields as they are read
-pub read-less : (a b : ℤ) {t : Bool} → mag a < 2 ^ 31 → mag b < 2 ^ 31 → ltZ (toZ w32 (ofZ w32 a)) (toZ w32 (ofZ w32 b)) ≡ t → ltZ a b ≡ t
-read-less a b ha hb e = rw (back w32 a ha, back w32 b hb) at e
 
 -- ---- of a loop that has passed i numbers of s on the table: one more, the first off the table, and the end
 module _ (s : List ℤ) (i : ℕ) where
@@ -64,6 +61,10 @@ on-within z e = go (leZ (negℤ (pos farthest)) z) (leZ z (pos farthest)) refl r
     go true true p q e = record { low = leZ-yes (true-T p); high = leZ-yes (true-T q) }
     go true false p q e = absurd (ff-tt e)
     go false b p q e = absurd (ff-tt e)
+
+pub within-on : (z : ℤ) → Within farthest z → onTable z ≡ true
+unfolding onTable
+within-on z h = simp (is-true (leZ (negℤ (pos farthest)) z) (h .low .le), is-true (leZ z (pos farthest)) (h .high .le))
 
 -- the numbers before the first that is off
 pub before-off : (s : List ℤ) (k : ℕ) → k < firstOff s → k < length s → Within farthest (getD s k (pos 0))

@@ -1,11 +1,12 @@
 -- The first refusal that applies, and what is known of a window, a stroke or a list of strokes in which nothing is refused.
-use mathlib.Core.Path.{_≡_, refl}
+use mathlib.Core.Path.{_≡_, refl, sym}
 use mathlib.Core.Bool.{Bool, true, false, _&&_}
 use mathlib.Core.List.{List, [], _∷_}
-use Prim.Native.Nat.{ℕ, _%_, _<_}
+use Prim.Native.Nat.{ℕ, _%_, _<_, _≤_}
 use native.Mathlib.Omega.{arith}
 use borrow.Author.Tests.{eq-eqb, ne-eqb, eqb-true, eqb-false, leb-true, ltb-false}
 use lib.Dec.{eqb, leb, ltb}
+use lib.Ieee.Bits.{is-true}
 use lib.IntN.{ℤ, pos}
 use lib.ListN.{length, getD}
 use lib.Signed.{_<ℤ_, ltZ, ltZ-yes}
@@ -17,7 +18,7 @@ use Rattle.grid.specs.Refusals.{windowOff, windowBad, lengthBad, numberO
 use Rattle.grid.specs.declared.Window.{Window}
 use Rattle.grid.specs.declared.Stroke.{Stroke}
 use Rattle.grid.specs.declared.Refusal.{Refusal}
-use Rattle.grid.proofs.Ranges.{before-off}
+use Rattle.grid.proofs.Ranges.{off-later, off-none, within-on, before-off}
 
 -- ---- the first that applies
 pub stops : (r : Refusal) (rs : List Refusal) → (r .number ≡ 0 → ⊥) → first (r ∷ rs) ≡ r
@@ -65,11 +66,37 @@ window-on-table w e =
     let area = has-area w (all-done (noArea w) [] (p .1) .0) in
     record { left = on 0 (omega arith); bottom = on 1 (omega arith); right = on 2 (omega arith); top = on 3 (omega arith); wide = area .0; tall = area .1 }
 
+-- and the other way: nothing is refused in a window on the table
+pub window-fine : (w : Window) → WindowOnTable w → none ≡ windowRefusal w
+unfolding windowRefusal first offTable noArea
+window-fine w h =
+    let off : firstOff (sides w) ≡ 4 = sym (off-later _ _ (within-on _ (h .left)) (off-later _ _ (within-on _ (h .bottom)) (off-later _ _ (within-on _ (h .right)) (off-later _ _ (within-on _ (h .top)) off-none)))) in
+    simp (off, is-true (ltZ (w .left) (w .right)) (h .wide .lt), is-true (ltZ (w .bottom) (w .top)) (h .tall .lt))
+
+-- all numbers of a bad window are on the table: its area is bad
+pub bad-area : (w : Window) → 4 ≤ firstOff (sides w) → (WindowOnTable w → ⊥) → noArea w ≡ refuse windowBad 0
+unfolding noArea
+bad-area w on bad = go (ltZ (w .left) (w .right)) (ltZ (w .bottom) (w .top)) refl refl
+  where
+    at : (k : ℕ) → k < 4 → Within farthest (getD (sides w) k (pos 0))
+    at k h = before-off (sides w) k (omega arith) h
+
+    go : (a b : Bool) → ltZ (w .left) (w .right) ≡ a → ltZ (w .bottom) (w .top) ≡ b → (if a && b then none else refuse windowBad 0) ≡ refuse windowBad 0
+    go true true p q = absurd (bad (record { left = at 0 (omega arith); bottom = at 1 (omega arith); right = at 2 (omega arith); top = at 3 (omega arith); wide = ltZ-yes (true-T p); tall = ltZ-yes (true-T q) }))
+    go true false p q = refl
+    go false b p q = refl
+
 pub stroke-on-table : (s : Stroke) → strokeRefusal s .number ≡ 0 → StrokeOnTable s
 unfolding strokeRefusal
 stroke-on-table s e =
     let on = nothing-off numberOff (ends s) (omega arith) e in
     record { x1 = on 0 (omega arith); y1 = on 1 (omega arith); x2 = on 2 (omega arith); y2 = on 3 (omega arith) }
+
+pub stroke-fine : (s : Stroke) → StrokeOnTable s → none ≡ strokeRefusal s
+unfolding strokeRefusal offTable
+stroke-fine s h =
+    let off : firstOff (ends s) ≡ 4 = sym (off-later _ _ (within-on _ (h .x1)) (off-later _ _ (within-on _ (h .y1)) (off-later _ _ (within-on _ (h .x2)) (off-later _ _ (within-on _ (h .y2)) off-none)))) in
+    simp off
 
 pub strokes-on-table : (zs : List ℤ) → strokesRefusal zs .number ≡ 0 → StrokesOnTable zs
 unfolding strokesRefusal badStrokes

@@ -1,9 +1,10 @@
 // The table: its range, windows and strokes, the refusals that every call shares, and numbers given into a lent output.
 ghost use mathlib.Core.Path.{_≡_};
+ghost use mathlib.Core.Bool.{true};
 ghost use mathlib.Core.List.{[], _∷_};
 ghost use Prim.Native.Nat.{_+_, _≤_};
 ghost use lib.ListN.{length};
-ghost use Rattle.grid.specs.Table.{onTable, firstOff, strokeAt};
+ghost use Rattle.grid.specs.Table.{onTable, firstOff, strokeAt, WindowOnTable};
 ghost use Rattle.grid.specs.Refusals.{windowRefusal, strokeRefusal, strokesRefusal};
 ghost use Rattle.grid.specs.Calls.{answered, written};
 
@@ -70,10 +71,28 @@ pub fn on_table(x: i32) -> bool
     false
 }
 
-// The index of the first number off the table, or how many there are.
+// Whether all numbers are on the table. The loop has no way out, so that it can go several numbers at a time.
+fn all_on(s: &[i32]) -> bool
+    ensures { λ r. ⌜ (r ≡ true → length (now (s .entry)) ≡ firstOff (now (s .entry))) ⌝ }
+{
+    let mut on = true;
+    let mut i = 0;
+    while i < s.len() {
+        if !on_table(s[i]) {
+            on = false;
+        }
+        i += 1;
+    }
+    on
+}
+
+// The index of the first number off the table, or how many there are. It is searched for only where there is one.
 pub fn first_off(s: &[i32]) -> usize
     ensures { λ r. ⌜ r ≡ firstOff (now (s .entry)) ⌝ }
 {
+    if all_on(s) {
+        return s.len();
+    }
     let mut i = 0;
     while i < s.len() {
         if !on_table(s[i]) {
@@ -103,8 +122,9 @@ fn first_off_of_four(a: i32, b: i32, c: i32, d: i32) -> usize
     4
 }
 
-// What a call refuses in a window.
-pub fn window_refusal(w: Window) -> Refusal
+// What a call refuses in a bad window, whose numbers are looked at in their order.
+fn bad_window(w: Window) -> Refusal
+    requires { ⌜ (WindowOnTable w → ⊥) ⌝ }
     ensures { λ r. ⌜ r ≡ windowRefusal w ⌝ }
 {
     let off = first_off_of_four(w.left, w.bottom, w.right, w.top);
@@ -114,16 +134,36 @@ pub fn window_refusal(w: Window) -> Refusal
             place: off,
         };
     }
-    if w.left < w.right {
-        if w.bottom < w.top {
-            return Refusal {
-                number: 0,
-                place: 0,
-            };
-        }
-    }
     Refusal {
         number: WINDOW_BAD,
+        place: 0,
+    }
+}
+
+// What a call refuses in a window. Where left < right only left can be too low and only right too high, and so it is with bottom and top.
+pub fn window_refusal(w: Window) -> Refusal
+    ensures { λ r. ⌜ r ≡ windowRefusal w ⌝ }
+{
+    if w.left < -16383 {
+        return bad_window(w);
+    }
+    if w.right <= w.left {
+        return bad_window(w);
+    }
+    if 16383 < w.right {
+        return bad_window(w);
+    }
+    if w.bottom < -16383 {
+        return bad_window(w);
+    }
+    if w.top <= w.bottom {
+        return bad_window(w);
+    }
+    if 16383 < w.top {
+        return bad_window(w);
+    }
+    Refusal {
+        number: 0,
         place: 0,
     }
 }

@@ -1,23 +1,28 @@
--- What is left of a stroke: nothing, all of it, or the part that a span of kept fractions leaves; and the answers of these.
-use mathlib.Core.Path.{_≡_, refl, sym, subst}
-use mathlib.Core.Bool.{Bool, true, false}
+-- The answers where nothing of a stroke is left, all of it, or the part that a span of kept fractions leaves; and the cuts of these.
+use mathlib.Core.Path.{_≡_, refl, sym, _∙_}
+use mathlib.Core.Bool.{true}
 use native.Mathlib.Omega.{arith}
 use lib.IntN.{ℤ, _*ℤ_}
 use lib.Signed.{_≤ℤ_, _<ℤ_}
+use Rattle.whole.specs.Within.{Within}
 use Rattle.whole.proofs.Comparisons.{ff-tt, tt-ff}
-use Rattle.whole.proofs.Order.{zarith}
+use Rattle.whole.proofs.Order.{zarith, ≤-trans}
+use Rattle.fraction.specs.declared.Fraction.{Fraction}
+use Rattle.fraction.specs.Fraction.{LowestOf}
 use Rattle.grid.specs.declared.Stroke.{Stroke}
 use Rattle.grid.specs.declared.Window.{Window}
 use Rattle.grid.specs.Refusals.{none}
+use Rattle.grid.specs.Table.{farthest, WindowOnTable, StrokeOnTable}
 use Rattle.spans.specs.declared.Span.{Span}
 use Rattle.spans.specs.Parts.{Time, zeroth, unit}
 use Rattle.spans.specs.Spans.{SpanOf}
 use Rattle.spans.proofs.Cutting.{in-time}
-use Rattle.spans.proofs.Parts.{all, all-proper, all-sized, in-all, in-first, in-last, part-missed, none-left, span-part, lowest-zeroth, lowest-unit}
+use Rattle.spans.proofs.Parts.{all, all-proper, all-sized, in-all, part-missed, none-left, span-part, lowest-zeroth, lowest-unit}
 use Rattle.strokes.specs.Strokes.{Keeps, PointAt, Clipped, blank}
-use Rattle.strokes.specs.Workers.{missedCut, wholeCut, wholeAnswer, CutIs, AnswerOf}
+use Rattle.strokes.specs.Workers.{Inside, keptAnswer, wholeAnswer, missedCut, CutIs}
 use Rattle.strokes.specs.declared.Cut.{Cut}
-use Rattle.strokes.specs.declared.StrokeAnswer.{StrokeAnswer}
+use Rattle.strokes.specs.declared.End.{End}
+use Rattle.strokes.proofs.Ways.{all-between}
 use Rattle.strokes.proofs.Points.{point-start, point-finish, point-lowest}
 
 module _ {w : Window} {s : Stroke} where
@@ -30,6 +35,21 @@ module _ {w : Window} {s : Stroke} where
     finish = λ e. absurd (ff-tt e);
     missed = λ e. refl;
   }
+
+  -- ---- plainly in the window, and so on the table
+  pub inside-always : Inside w s → (n d : ℤ) → Time n d → Keeps w s n d
+  inside-always k n d t = record { time = t; x = all-between (k .x .a-low) (k .x .b-low) (k .x .a-high) (k .x .b-high) t; y = all-between (k .y .a-low) (k .y .b-low) (k .y .a-high) (k .y .b-high) t }
+
+  pub inside-on-table : WindowOnTable w → Inside w s → StrokeOnTable s
+  inside-on-table h k = record {
+    x1 = inner (h .left) (h .right) (k .x .a-low) (k .x .a-high);
+    y1 = inner (h .bottom) (h .top) (k .y .a-low) (k .y .a-high);
+    x2 = inner (h .left) (h .right) (k .x .b-low) (k .x .b-high);
+    y2 = inner (h .bottom) (h .top) (k .y .b-low) (k .y .b-high);
+  }
+    where
+      inner : {lo hi z : ℤ} → Within farthest lo → Within farthest hi → lo ≤ℤ z → z ≤ℤ hi → Within farthest z
+      inner l u p q = record { low = ≤-trans (l .low) p; high = ≤-trans q (u .high) }
 
   -- from its start to its end
   pub always-kept : ((n d : ℤ) → Time n d → Keeps w s n d) → SpanOf 32766 (Keeps w s) all
@@ -46,42 +66,26 @@ module _ {w : Window} {s : Stroke} where
     span-missed l = none-left g (λ n d k. k .time .den) l
 
     module _ (l : (r .first .num *ℤ r .last .den) ≤ℤ (r .last .num *ℤ r .first .den)) where
-      pub first-time : Time (r .first .num) (r .first .den)
-      first-time = in-time (g .proper) (g .proper .den0) (in-first g l)
-
-      pub last-time : Time (r .last .num) (r .last .den)
-      last-time = in-time (g .proper) (g .proper .den1) (in-last g l)
-
-      pub span-kept : {ax ay bx by : ℤ} → PointAt s (r .first) ax ay → PointAt s (r .last) bx by
-          → CutIs w s (record { kept = true; first = r .first; last = r .last; ax = ax; ay = ay; bx = bx; by = by })
-      span-kept a b = record {
+      pub span-kept : (a b : End) {t u : Fraction} → PointAt s (r .first) (a .x) (a .y) → PointAt s (r .last) (b .x) (b .y)
+          → LowestOf (r .first .num) (r .first .den) t → LowestOf (r .last .num) (r .last .den) u → Clipped w s (keptAnswer a b t u)
+      span-kept e f a b p q = record {
+        number = refl;
+        place = refl;
+        part = span-part g l p q;
+        start = λ e. point-lowest (g .proper .den0) p a;
+        finish = λ e. point-lowest (g .proper .den1) q b;
         missed = λ e. absurd (tt-ff e);
-        kept = λ e. record {
-          fractions = record { first = first-time; last = last-time; first-small = g .sized .d0; last-small = g .sized .d1 };
-          answer = λ t u p q. record {
-            number = refl;
-            place = refl;
-            part = span-part g l p q;
-            start = λ e. point-lowest (g .proper .den0) p a;
-            finish = λ e. point-lowest (g .proper .den1) q b;
-            missed = λ e. absurd (tt-ff e);
-          };
-        };
       }
 
+  -- ---- all of it
+  pub whole-answer : ((n d : ℤ) → Time n d → Keeps w s n d) → Clipped w s (wholeAnswer s)
+  whole-answer always =
+      span-kept (always-kept always) (omega zarith) (record { t = zeroth; x = s .x1; y = s .y1 }) (record { t = unit; x = s .x2; y = s .y2 }) (point-start {f = zeroth} (omega zarith) refl) (point-finish {f = unit} (omega zarith) refl)
+      (lowest-zeroth refl) (lowest-unit refl)
+
+  -- ---- cuts
   pub cut-missed : ((n d : ℤ) → Keeps w s n d → ⊥) → CutIs w s missedCut
   cut-missed never = record { missed = λ e. never; kept = λ e. absurd (ff-tt e) }
 
-  pub cut-whole : ((n d : ℤ) → Time n d → Keeps w s n d) → CutIs w s (wholeCut s)
-  cut-whole always = span-kept (always-kept always) (omega zarith) (point-start {f = zeroth} (omega zarith) refl) (point-finish {f = unit} (omega zarith) refl)
-
-  -- ---- the answers of these
-  pub whole-answer : ((n d : ℤ) → Time n d → Keeps w s n d) → Clipped w s (wholeAnswer s)
-  whole-answer always = cut-whole always .kept refl .answer zeroth unit (lowest-zeroth refl) (lowest-unit refl)
-
-  pub cut-answer : {c : Cut} {a : StrokeAnswer} → CutIs w s c → AnswerOf c a → Clipped w s a
-  cut-answer {c} {a} p q = go (c .kept) refl
-    where
-      go : (k : Bool) → c .kept ≡ k → Clipped w s a
-      go true e = let r = q .kept e in subst (Clipped w s) (sym (r .answer)) (p .kept e .answer (a .t0) (a .t1) (r .first) (r .last))
-      go false e = subst (Clipped w s) (sym (q .missed e)) (nothing-kept (p .missed e))
+  pub cut-kept : {c : Cut} {t u : Fraction} → c .kept ≡ true → Clipped w s (keptAnswer (record { t = t; x = c .ax; y = c .ay }) (record { t = u; x = c .bx; y = c .by }) t u) → CutIs w s c
+  cut-kept {c} {t} {u} k a = record { missed = λ e. absurd (tt-ff (sym k ∙ e)); kept = λ e. record { first = t; last = u; answer = a } }

@@ -1,6 +1,5 @@
 -- The answer as a function, which satisfies the statement and so is the only answer that does. With it a worked example computes, and a loop over strokes has equations.
 use mathlib.Core.Path.{_≡_, refl}
-use mathlib.Core.Bool.{true}
 use mathlib.Core.List.{List, [], _∷_}
 use Prim.Native.Nat.{ℕ}
 use native.Mathlib.Omega.{arith}
@@ -26,12 +25,13 @@ use Rattle.spans.specs.Spans.{Proper, Sized, SpanOf}
 use Rattle.spans.proofs.Computed.{cutBy, cutBy-is}
 use Rattle.spans.proofs.Parts.{all, all-proper, all-sized}
 use Rattle.strokes.specs.Strokes.{Keeps, Clipped, Clipping, strokeCallRefusal, blank}
-use Rattle.strokes.specs.Workers.{CutAcross}
+use Rattle.strokes.specs.Workers.{keptAnswer}
+use Rattle.strokes.specs.declared.End.{End}
 use Rattle.strokes.specs.declared.StrokeAnswer.{StrokeAnswer}
 use Rattle.strokes.proofs.Answers.{nothing-kept, span-missed, span-kept}
 use Rattle.strokes.proofs.Refusing.{nothing-refused}
 use Rattle.strokes.proofs.Unique.{clipping-unique}
-use Rattle.strokes.proofs.Ways.{cut-across, span-of}
+use Rattle.strokes.proofs.Ways.{CutAcross, cut-across, span-of}
 
 -- ---- the kept fractions
 unfoldable pub acrossOf : ℤ → ℤ → ℤ → ℤ → Span → Span
@@ -59,18 +59,11 @@ spanOf-is g h =
     span-of f (acrossOf-is (g .bottom) (g .top) (h .y1) (h .y2) (f .proper) (f .sized))
 
 -- ---- the answer
+abbrev pub endAt : Stroke → Fraction → End
+endAt s f = record { t = f; x = roundedAt (s .x1) (s .x2) (f .num) (f .den); y = roundedAt (s .y1) (s .y2) (f .num) (f .den) }
+
 abbrev pub ends : Stroke → Fraction → Fraction → StrokeAnswer
-ends s f g = record {
-  number = 0;
-  place = 0;
-  kept = true;
-  t0 = lowestOf (f .num) (f .den);
-  t1 = lowestOf (g .num) (g .den);
-  ax = roundedAt (s .x1) (s .x2) (f .num) (f .den);
-  ay = roundedAt (s .y1) (s .y2) (f .num) (f .den);
-  bx = roundedAt (s .x1) (s .x2) (g .num) (g .den);
-  by = roundedAt (s .y1) (s .y2) (g .num) (g .den);
-}
+ends s f g = keptAnswer (endAt s f) (endAt s g) (lowestOf (f .num) (f .den)) (lowestOf (g .num) (g .den))
 
 unfoldable pub clippedOf : Window → Stroke → StrokeAnswer
 clippedOf w s = let r = spanOf w s in if lessThan (r .last) (r .first) then blank none else ends s (r .first) (r .last)
@@ -83,10 +76,10 @@ clippedOf-is {w} {s} g h =
     by-test (lessThan (r .last) (r .first)) (Clipped w s)
     (λ e. nothing-kept (span-missed k (less-taken (r .last) (r .first) e)))
     (λ e.
-    span-kept k (less-left (r .last) (r .first) e)
+    span-kept k (less-left (r .last) (r .first) e) (endAt s (r .first)) (endAt s (r .last))
     (record { across = roundedAt-is _ _ _ (k .proper .den0); up = roundedAt-is _ _ _ (k .proper .den0) })
     (record { across = roundedAt-is _ _ _ (k .proper .den1); up = roundedAt-is _ _ _ (k .proper .den1) })
-    .kept refl .answer (lowestOf (r .first .num) (r .first .den)) (lowestOf (r .last .num) (r .last .den)) (lowestOf-is _ (k .proper .den0)) (lowestOf-is _ (k .proper .den1)))
+    (lowestOf-is _ (k .proper .den0)) (lowestOf-is _ (k .proper .den1)))
 
 unfoldable pub answerOf : Window → Stroke → StrokeAnswer
 answerOf w s = if eqb (strokeCallRefusal w s .number) 0 then clippedOf w s else blank (strokeCallRefusal w s)

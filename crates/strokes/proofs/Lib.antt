@@ -1,7 +1,9 @@
 pub mod Reading
 pub mod Ways
+pub mod Places
 pub mod Points
 pub mod Answers
+pub mod Meetings
 pub mod Unique
 pub mod Refusing
 pub mod Computed

@@ -1,17 +1,18 @@
 -- Numbers of the table as the machine reads them: each is itself, so what is said of the ones is said of the others.
-use mathlib.Core.Path.{_≡_, sym, transport}
+use mathlib.Core.Path.{_≡_, sym, subst₂, transport}
 use native.Mathlib.Omega.{arith}
 use lib.IntN.{ℤ}
+use lib.Signed.{_<ℤ_}
 use mir.Syntax.{w32}
 use mir.Val.{SFits, toZ, ofZ}
 use mir.Facts.{toZ-ofZ}
 use Rattle.whole.specs.Within.{Within}
 use Rattle.whole.proofs.Comparisons.{bits}
 use Rattle.whole.proofs.Ranges.{within-abs, fits-abs}
+use Rattle.fraction.specs.Rounding.{along, Rounded}
 use Rattle.grid.specs.Table.{farthest}
-use Rattle.spans.specs.declared.Span.{Span}
-use Rattle.strokes.specs.Strokes.{Across}
-use Rattle.strokes.specs.Workers.{CutAcross}
+use Rattle.strokes.specs.declared.Way.{Way}
+use Rattle.strokes.specs.Workers.{Reaches, Ranged, Risen, Fallen, WayOf}
 
 pub table-fits : {z : ℤ} → Within farthest z → SFits w32 z
 table-fits h = fits-abs (omega (arith, within-abs h))
@@ -25,12 +26,38 @@ read-is h = toZ-ofZ (table-fits h)
 pub read-on-table : {z : ℤ} → Within farthest z → Within farthest (read z)
 read-on-table h = bits (Within farthest) (table-fits h) h
 
+-- what is rounded
+pub rounded-plain : {a b d r : ℤ} (n : ℤ) → Within farthest a → Within farthest b → Rounded (read a) (along (read a) (read b) n d) d r → Rounded a (along a b n d) d r
+rounded-plain {a} {b} {d} {r} n ha hb k = transport (λ i. Rounded (read-is ha i) (along (read-is ha i) (read-is hb i) n d) d r) k
+
+-- four of them, for the places of a way
+pub ranged-read : {a b c d : ℤ} → Ranged a b c d → Ranged (read a) (read b) (read c) (read d)
+ranged-read k = transport (λ i. Ranged (sym (read-is (k .a-on)) i) (sym (read-is (k .b-on)) i) (sym (read-is (k .c-on)) i) (sym (read-is (k .d-on)) i)) k
+
+pub risen-plain : {a b c d : ℤ} {r : Way} → Ranged a b c d → Risen (read a) (read b) (read c) (read d) r → Risen a b c d r
+risen-plain {r = r} k h = transport (λ i. Risen (read-is (k .a-on) i) (read-is (k .b-on) i) (read-is (k .c-on) i) (read-is (k .d-on) i) r) h
+
+pub fallen-plain : {a b c d : ℤ} {r : Way} → Ranged a b c d → Fallen (read d) (read c) (read b) (read a) r → Fallen d c b a r
+fallen-plain {r = r} k h = transport (λ i. Fallen (read-is (k .d-on) i) (read-is (k .c-on) i) (read-is (k .b-on) i) (read-is (k .a-on) i) r) h
+
+-- and for a way between two sides
 module _ {lo hi a b : ℤ} (wl : Within farthest lo) (wh : Within farthest hi) (wa : Within farthest a) (wb : Within farthest b) where
-  pub across-plain : (n d : ℤ) → Across (read lo) (read hi) (read a) (read b) n d → Across lo hi a b n d
-  across-plain n d k = transport (λ i. Across (read-is wl i) (read-is wh i) (read-is wa i) (read-is wb i) n d) k
+  -- what `passage` asks
+  pub passage-asks : lo <ℤ hi → Reaches lo hi a b
+      → Within farthest (read lo) × (Within farthest (read hi) × (Within farthest (read a) × (Within farthest (read b) × ((read lo <ℤ read hi) × Reaches (read lo) (read hi) (read a) (read b)))))
+  passage-asks l k = (
+    read-on-table wl,
+    (
+      read-on-table wh,
+      (
+        read-on-table wa,
+        (
+          read-on-table wb,
+          (subst₂ _<ℤ_ (sym (read-is wl)) (sym (read-is wh)) l, transport (λ i. Reaches (sym (read-is wl) i) (sym (read-is wh) i) (sym (read-is wa) i) (sym (read-is wb) i)) k),
+        ),
+      ),
+    ),
+  )
 
-  pub across-read : (n d : ℤ) → Across lo hi a b n d → Across (read lo) (read hi) (read a) (read b) n d
-  across-read n d k = transport (λ i. Across (sym (read-is wl) i) (sym (read-is wh) i) (sym (read-is wa) i) (sym (read-is wb) i) n d) k
-
-  pub cut-plain : {s r : Span} → CutAcross (read lo) (read hi) (read a) (read b) s r → CutAcross lo hi a b s r
-  cut-plain {s} {r} k = transport (λ i. CutAcross (read-is wl i) (read-is wh i) (read-is wa i) (read-is wb i) s r) k
+  pub way-plain : {r : Way} → WayOf (read lo) (read hi) (read a) (read b) r → WayOf lo hi a b r
+  way-plain {r} k = transport (λ i. WayOf (read-is wl i) (read-is wh i) (read-is wa i) (read-is wb i) r) k

@@ -1,4 +1,5 @@
 -- The way of one coordinate from a to b: plainly beyond lo or hi, plainly between them, and cut by the two conditions of its axis.
+--   CutAcross lo hi a b s r   r is what of the span s is from lo to hi on the way from a to b
 use mathlib.Core.List.{[], _∷_}
 use Prim.Native.Nat.{_≤_}
 use lib.IntN.{ℤ, pos, _-ℤ_, _*ℤ_}
@@ -10,11 +11,10 @@ use Rattle.grid.specs.declared.Stroke.{Stroke}
 use Rattle.grid.specs.declared.Window.{Window}
 use Rattle.spans.specs.declared.Span.{Span}
 use Rattle.spans.specs.Parts.{Time}
-use Rattle.spans.specs.Spans.{Sized, CutBy, SpanOf}
+use Rattle.spans.specs.Spans.{In, Proper, Sized, CutBy, SpanOf}
 use Rattle.spans.proofs.Cutting.{in-time}
 use Rattle.spans.proofs.Parts.{all, in-all}
 use Rattle.strokes.specs.Strokes.{Across, Keeps}
-use Rattle.strokes.specs.Workers.{CutAcross}
 
 -- a bound, the way's two ends, and a fraction
 abbrev L : Expr
@@ -66,6 +66,13 @@ module _ {lo hi a b n d : ℤ} where
     above = ge (lo ∷ a ∷ b ∷ n ∷ d ∷ []) (L ⊗ D) X (le ((con (pos 0) ⊖ (B ⊖ A)) ⊗ N) ((A ⊖ L) ⊗ D) l) tt;
     below = ge (hi ∷ a ∷ b ∷ n ∷ d ∷ []) X (L ⊗ D) (le ((B ⊖ A) ⊗ N) ((L ⊖ A) ⊗ D) h) tt;
   }
+
+pub record CutAcross (lo hi a b : ℤ) (s r : Span) : Type 0 where
+  pub proper : Proper r
+  pub sized : Sized 32766 r
+  pub stays : (n d : ℤ) → pos 0 <ℤ d → In s n d → Across lo hi a b n d → In r n d
+  pub part : (n d : ℤ) → pos 0 <ℤ d → In r n d → In s n d
+  pub between : (n d : ℤ) → pos 0 <ℤ d → In r n d → Across lo hi a b n d
 
 pub cut-across : {lo hi a b : ℤ} {s m r : Span} → CutBy (pos 0 -ℤ (b -ℤ a)) (a -ℤ lo) s m → CutBy (b -ℤ a) (hi -ℤ a) m r → Sized 32766 r → CutAcross lo hi a b s r
 cut-across f g z = record {

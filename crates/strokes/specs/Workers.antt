@@ -1,85 +1,166 @@
 -- What the workers behind a stroke call promise each other.
---   CutAcross lo hi a b s r   r is what of the span s is from lo to hi on the way from a to b
---   Plainly w s p             what p says of where the stroke lies is so; `Neither` says nothing
---   missedCut, wholeCut s     what is left of a stroke that is missed, and of one that is kept whole
---   keptAnswer c t u          the answer for a kept cut whose fractions in lowest terms are t and u
---   wholeAnswer s             the answer for a stroke that is kept whole
---   Fractions c               both fractions of a cut are from 0 to 1, with denominators not above 32,766
---   Ends w s c                the ends of a kept cut are right: with its fractions in lowest terms it is the answer
---   CutIs w s c               c is what the window leaves of the stroke
---   Reduced c a, AnswerOf c a  a is the cut c with its fractions in lowest terms; so it is where c is kept, else nothing is kept
+--   Between lo hi a b    both ends of the way from a to b are between lo and hi
+--   Reaches lo hi a b    they are not both below lo, nor both above hi
+--   Inside w s, Reaching w s   so it is for both coordinates of a stroke
+--   Ranged a b c d       four numbers of the table in rising order, the last above the first
+--   Risen, Fallen a p q b r   r is the way up or down from a to b, with the places of p and q on it
+--   Short r              a way has a length of 1 to 32,766, and starts and ends on it in this order
+--   WayAt a b r          r is such a way from a to b, and its two coordinates are exact
+--   On r n d             n/d of the way is from its start to its end
+--   WayOf lo hi a b r    on r is what of the way from a to b is between lo and hi
+--   Overlap x y          neither way ends before the other starts
+--   OnWay f              f is a fraction from 0 to 1, with a denominator as small as a stroke's run
+--   StartOf, FinishOf s x y e   e is the later start, or the earlier end, of the two ways, with the rounded point
+--   keptAnswer a b t u, KeptAnswer a b r   the answer for what is kept from a to b, with the fractions t and u; with its fractions in lowest terms
+--   wholeAnswer s        the answer for a stroke that is kept whole
+--   missedCut, wholeCut s   what is left of a stroke that is missed, and of one that is kept whole
+--   Ends w s c           the points of a kept cut are those of an answer
+--   CutIs w s c          c is what the window leaves of the stroke
+--   Touches w s b        b says whether it leaves anything
 use mathlib.Core.Path.{_≡_}
-use mathlib.Core.Bool.{true, false}
-use lib.IntN.{ℤ, pos}
-use lib.Signed.{_<ℤ_}
+use mathlib.Core.Bool.{Bool, true, false}
+use Prim.Native.Nat.{_*_, _<_, _≤_}
+use lib.IntN.{ℤ, pos, _-ℤ_, _*ℤ_}
+use lib.Signed.{_≤ℤ_, _<ℤ_}
 use Rattle.whole.specs.Within.{Within}
 use Rattle.fraction.specs.declared.Fraction.{Fraction}
 use Rattle.fraction.specs.Fraction.{LowestOf}
+use Rattle.fraction.specs.Rounding.{along}
 use Rattle.grid.specs.declared.Stroke.{Stroke}
 use Rattle.grid.specs.declared.Window.{Window}
-use Rattle.grid.specs.Refusals.{none}
-use Rattle.spans.specs.declared.Span.{Span}
+use Rattle.grid.specs.Table.{farthest}
 use Rattle.spans.specs.Parts.{Time, zeroth, unit}
-use Rattle.spans.specs.Spans.{In, Proper, Sized}
-use Rattle.strokes.specs.Strokes.{Across, Keeps, Clipped, blank}
+use Rattle.strokes.specs.Strokes.{Across, Keeps, PointAt, Clipped}
 use Rattle.strokes.specs.declared.Cut.{Cut}
+use Rattle.strokes.specs.declared.End.{End}
 use Rattle.strokes.specs.declared.StrokeAnswer.{StrokeAnswer}
-use Rattle.strokes.specs.declared.Plain.{Plain}
-use Rattle.strokes.specs.declared.Plain.the-variants.{Outside, Inside, Neither}
+use Rattle.strokes.specs.declared.Way.{Way}
 
-pub record CutAcross (lo hi a b : ℤ) (s r : Span) : Type 0 where
-  pub proper : Proper r
-  pub sized : Sized 32766 r
-  pub stays : (n d : ℤ) → pos 0 <ℤ d → In s n d → Across lo hi a b n d → In r n d
-  pub part : (n d : ℤ) → pos 0 <ℤ d → In r n d → In s n d
-  pub between : (n d : ℤ) → pos 0 <ℤ d → In r n d → Across lo hi a b n d
+-- ---- where a stroke plainly lies
+pub record Between (lo hi a b : ℤ) : Type 0 where
+  pub a-low : lo ≤ℤ a
+  pub a-high : a ≤ℤ hi
+  pub b-low : lo ≤ℤ b
+  pub b-high : b ≤ℤ hi
 
-abbrev pub Plainly : Window → Stroke → Plain → Type 0
-Plainly w s Outside = (n d : ℤ) → Keeps w s n d → ⊥
-Plainly w s Inside = (n d : ℤ) → Time n d → Keeps w s n d
-Plainly w s Neither = Unit {0}
+pub record Reaches (lo hi a b : ℤ) : Type 0 where
+  pub up : a <ℤ lo → lo ≤ℤ b
+  pub down : lo ≤ℤ a → hi <ℤ a → b ≤ℤ hi
 
-abbrev pub missedCut : Cut
-missedCut = record { kept = false; first = zeroth; last = zeroth; ax = pos 0; ay = pos 0; bx = pos 0; by = pos 0 }
+pub record Inside (w : Window) (s : Stroke) : Type 0 where
+  pub x : Between (w .left) (w .right) (s .x1) (s .x2)
+  pub y : Between (w .bottom) (w .top) (s .y1) (s .y2)
 
-abbrev pub wholeCut : Stroke → Cut
-wholeCut s = record { kept = true; first = zeroth; last = unit; ax = s .x1; ay = s .y1; bx = s .x2; by = s .y2 }
+pub record Reaching (w : Window) (s : Stroke) : Type 0 where
+  pub x : Reaches (w .left) (w .right) (s .x1) (s .x2)
+  pub y : Reaches (w .bottom) (w .top) (s .y1) (s .y2)
 
-abbrev pub keptAnswer : Cut → Fraction → Fraction → StrokeAnswer
-keptAnswer c t u = record {
+-- ---- the way of one coordinate
+pub record Ranged (a b c d : ℤ) : Type 0 where
+  pub a-on : Within farthest a
+  pub b-on : Within farthest b
+  pub c-on : Within farthest c
+  pub d-on : Within farthest d
+  pub first : a ≤ℤ b
+  pub middle : b ≤ℤ c
+  pub last : c ≤ℤ d
+  pub some : a <ℤ d
+
+pub record Risen (a p q b : ℤ) (r : Way) : Type 0 where
+  pub long : pos (r .long) ≡ b -ℤ a
+  pub start : pos (r .start) ≡ p -ℤ a
+  pub end : pos (r .end) ≡ q -ℤ a
+  pub at : r .at ≡ p
+  pub to : r .to ≡ q
+
+pub record Fallen (a p q b : ℤ) (r : Way) : Type 0 where
+  pub long : pos (r .long) ≡ a -ℤ b
+  pub start : pos (r .start) ≡ a -ℤ p
+  pub end : pos (r .end) ≡ a -ℤ q
+  pub at : r .at ≡ p
+  pub to : r .to ≡ q
+
+pub record Short (r : Way) : Type 0 where
+  pub long : 0 < r .long
+  pub small : r .long ≤ 32766
+  pub order : r .start ≤ r .end
+  pub high : r .end ≤ r .long
+
+pub record WayAt (a b : ℤ) (r : Way) : Type 0 where
+  pub short : Short r
+  pub at : along a b (pos (r .start)) (pos (r .long)) ≡ r .at *ℤ pos (r .long)
+  pub to : along a b (pos (r .end)) (pos (r .long)) ≡ r .to *ℤ pos (r .long)
+
+pub record On (r : Way) (n d : ℤ) : Type 0 where
+  pub from : (pos (r .start) *ℤ d) ≤ℤ (n *ℤ pos (r .long))
+  pub upto : (n *ℤ pos (r .long)) ≤ℤ (pos (r .end) *ℤ d)
+
+pub record WayOf (lo hi a b : ℤ) (r : Way) : Type 0 where
+  pub way : WayAt a b r
+  pub stays : (n d : ℤ) → Time n d → Across lo hi a b n d → On r n d
+  pub keeps : (n d : ℤ) → Time n d → On r n d → Across lo hi a b n d
+
+-- ---- both ways
+pub record Overlap (x y : Way) : Type 0 where
+  pub x-first : x .start * y .long ≤ y .end * x .long
+  pub y-first : y .start * x .long ≤ x .end * y .long
+
+pub record OnWay (f : Fraction) : Type 0 where
+  pub time : Time (f .num) (f .den)
+  pub small : Within 32766 (f .den)
+
+pub record StartOf (s : Stroke) (x y : Way) (e : End) : Type 0 where
+  pub way : OnWay (e .t)
+  pub x-in : (pos (x .start) *ℤ e .t .den) ≤ℤ (e .t .num *ℤ pos (x .long))
+  pub y-in : (pos (y .start) *ℤ e .t .den) ≤ℤ (e .t .num *ℤ pos (y .long))
+  pub least : (n d : ℤ) → pos 0 <ℤ d → (pos (x .start) *ℤ d) ≤ℤ (n *ℤ pos (x .long)) → (pos (y .start) *ℤ d) ≤ℤ (n *ℤ pos (y .long)) → (e .t .num *ℤ d) ≤ℤ (n *ℤ e .t .den)
+  pub point : PointAt s (e .t) (e .x) (e .y)
+
+pub record FinishOf (s : Stroke) (x y : Way) (e : End) : Type 0 where
+  pub way : OnWay (e .t)
+  pub x-out : (e .t .num *ℤ pos (x .long)) ≤ℤ (pos (x .end) *ℤ e .t .den)
+  pub y-out : (e .t .num *ℤ pos (y .long)) ≤ℤ (pos (y .end) *ℤ e .t .den)
+  pub greatest : (n d : ℤ) → pos 0 <ℤ d → (n *ℤ pos (x .long)) ≤ℤ (pos (x .end) *ℤ d) → (n *ℤ pos (y .long)) ≤ℤ (pos (y .end) *ℤ d) → (n *ℤ e .t .den) ≤ℤ (e .t .num *ℤ d)
+  pub point : PointAt s (e .t) (e .x) (e .y)
+
+-- ---- answers
+abbrev pub keptAnswer : End → End → Fraction → Fraction → StrokeAnswer
+keptAnswer a b t u = record {
   number = 0;
   place = 0;
   kept = true;
   t0 = t;
   t1 = u;
-  ax = c .ax;
-  ay = c .ay;
-  bx = c .bx;
-  by = c .by;
+  ax = a .x;
+  ay = a .y;
+  bx = b .x;
+  by = b .y;
 }
 
-abbrev pub wholeAnswer : Stroke → StrokeAnswer
-wholeAnswer s = keptAnswer (wholeCut s) zeroth unit
+pub record KeptAnswer (a b : End) (r : StrokeAnswer) : Type 0 where
+  pub first : LowestOf (a .t .num) (a .t .den) (r .t0)
+  pub last : LowestOf (b .t .num) (b .t .den) (r .t1)
+  pub answer : r ≡ keptAnswer a b (r .t0) (r .t1)
 
-pub record Fractions (c : Cut) : Type 0 where
-  pub first : Time (c .first .num) (c .first .den)
-  pub last : Time (c .last .num) (c .last .den)
-  pub first-small : Within 32766 (c .first .den)
-  pub last-small : Within 32766 (c .last .den)
+abbrev pub wholeAnswer : Stroke → StrokeAnswer
+wholeAnswer s = keptAnswer (record { t = zeroth; x = s .x1; y = s .y1 }) (record { t = unit; x = s .x2; y = s .y2 }) zeroth unit
+
+-- ---- cuts
+abbrev pub missedCut : Cut
+missedCut = record { kept = false; ax = pos 0; ay = pos 0; bx = pos 0; by = pos 0 }
+
+abbrev pub wholeCut : Stroke → Cut
+wholeCut s = record { kept = true; ax = s .x1; ay = s .y1; bx = s .x2; by = s .y2 }
 
 pub record Ends (w : Window) (s : Stroke) (c : Cut) : Type 0 where
-  pub fractions : Fractions c
-  pub answer : (t u : Fraction) → LowestOf (c .first .num) (c .first .den) t → LowestOf (c .last .num) (c .last .den) u → Clipped w s (keptAnswer c t u)
+  pub first : Fraction
+  pub last : Fraction
+  pub answer : Clipped w s (keptAnswer (record { t = first; x = c .ax; y = c .ay }) (record { t = last; x = c .bx; y = c .by }) first last)
 
 pub record CutIs (w : Window) (s : Stroke) (c : Cut) : Type 0 where
   pub missed : c .kept ≡ false → (n d : ℤ) → Keeps w s n d → ⊥
   pub kept : c .kept ≡ true → Ends w s c
 
-pub record Reduced (c : Cut) (a : StrokeAnswer) : Type 0 where
-  pub first : LowestOf (c .first .num) (c .first .den) (a .t0)
-  pub last : LowestOf (c .last .num) (c .last .den) (a .t1)
-  pub answer : a ≡ keptAnswer c (a .t0) (a .t1)
-
-pub record AnswerOf (c : Cut) (a : StrokeAnswer) : Type 0 where
-  pub missed : c .kept ≡ false → a ≡ blank none
-  pub kept : c .kept ≡ true → Reduced c a
+pub record Touches (w : Window) (s : Stroke) (b : Bool) : Type 0 where
+  pub missed : b ≡ false → (n d : ℤ) → Keeps w s n d → ⊥
+  pub kept : b ≡ true → ((n d : ℤ) → Keeps w s n d → ⊥) → ⊥

@@ -1,8 +1,7 @@
 -- `batch::batch` meets its contract: the refusals in their order, then the rows, for which there is room or is not. Assumes nothing.
-use Prim.Native.Nat.{ℕ, _≤_}
+use Prim.Native.Nat.{ℕ, _<_, _≤_}
 use mathlib.Core.Path.{_≡_, sym, ap, _∙_, subst}
 use mathlib.Core.List.{List, [], _∷_}
-use mathlib.Core.Logic.{⊎-elim}
 use native.Mathlib.Omega.{arith}
 use borrow.Author.Needs.{needs}
 use denote.Ref.{now}
@@ -61,36 +60,48 @@ returns-2 c =
 mul-if3 : tie.Need-mul-if3
 mul-if3 c = omega (arith, all-on-table c .few)
 
-count-rows-requires : tie.Need-count-rows-requires
-count-rows-requires c κs = (on-table (c .before), all-on-table (c .before))
-
-returns-3 : tie.Need-returns-3
-returns-3 c =
-    let e = c .before .before .before in
-    let n = c .before .count-rows .ensures _ (rows e) in
-    rw n (call-short _ (done e) (rows e) (subst (λ (k : ℕ). Prim.Native.Nat._<_ (length (now (e .before .before .before .before .before .before .args .out))) k) n (c .if4 .taken)))
-
--- room for the rows, by one way or the other
-room : (c : tie.Joined3) (xs : List ℤ) → RowsOf (c .before .before .before .before .before .before .before .args .w) (now (c .before .before .before .before .before .before .before .args .s)) xs → length xs ≤ length (now (c .before .before .before .before .before .before .before .args .out))
-room c xs r =
-    ⊎-elim
-    (λ o. omega (arith, o .1 .ensures xs r, o .2 .left))
-    (λ o. omega (arith, o .left, rows-of-short r))
-    (c .if3 .came)
+-- ---- room for every stroke
+room : (c : tie.Then3) (xs : List ℤ) → let a = c .before .before .before .before .before .before .before .args in RowsOf (a .w) (now (a .s)) xs → length xs ≤ length (now (a .out))
+room c xs r = omega (arith, c .if3 .taken, rows-of-short r)
 
 write-rows-requires : tie.Need-write-rows-requires
-write-rows-requires c κs = (on-table (c .before .before), (all-on-table (c .before .before), room (c .before)))
+write-rows-requires c κs = let e = c .before .before in (on-table e, (all-on-table e, room (c .before)))
 
 same-length : tie.Need-same-length
 same-length c = search needs
 
+returns-3 : tie.Need-returns-3
+returns-3 c =
+    let wrote = c .before .write-rows .ensures in
+    let t = c .before .before .before in
+    rw (wrote .count) (call-wrote (wrote .numbers) (done (t .before)) (wrote .are) (room t (wrote .numbers) (wrote .are)) (wrote .output))
+
+-- ---- counted first
+count-rows-requires : tie.Need-count-rows-requires
+count-rows-requires c κs = (on-table (c .before), all-on-table (c .before))
+
 returns-4 : tie.Need-returns-4
 returns-4 c =
-    let wrote = c .before .write-rows .ensures in
-    let e = c .before .before .before .before in
-    rw (wrote .count) (call-wrote (wrote .numbers) (done e) (wrote .are) (room (c .before .before .before) (wrote .numbers) (wrote .are)) (wrote .output))
+    let e = c .before .before .before in
+    let n = c .before .count-rows .ensures _ (rows e) in
+    rw n (call-short _ (done e) (rows e) (subst (λ (k : ℕ). length (now (e .before .before .before .before .before .before .args .out)) < k) n (c .if4 .taken)))
+
+counted : (c : tie.Else4) (xs : List ℤ) → let a = c .before .before .before .before .before .before .before .before .before .args in RowsOf (a .w) (now (a .s)) xs → length xs ≤ length (now (a .out))
+counted c xs r = omega (arith, c .before .count-rows .ensures xs r, c .if4 .left)
+
+write-rows-requires-2 : tie.Need-write-rows-requires-2
+write-rows-requires-2 c κs = let e = c .before .before .before .before in (on-table e, (all-on-table e, counted (c .before)))
+
+same-length-2 : tie.Need-same-length-2
+same-length-2 c = search needs
+
+returns-5 : tie.Need-returns-5
+returns-5 c =
+    let wrote = c .before .write-rows2 .ensures in
+    let t = c .before .before .before in
+    rw (wrote .count) (call-wrote (wrote .numbers) (done (t .before .before .before)) (wrote .are) (counted t (wrote .numbers) (wrote .are)) (wrote .output))
 
 pub batch-spec : {M : Type 1} → statement M
 batch-spec =
     tie.close
-    (tie.spec window-refusal-requires returns strokes-refusal-requires returns-2 mul-if3 count-rows-requires returns-3 write-rows-requires same-length returns-4)
+    (tie.spec window-refusal-requires returns strokes-refusal-requires returns-2 mul-if3 write-rows-requires same-length returns-3 count-rows-requires returns-4 write-rows-requires-2 same-length-2 returns-5)

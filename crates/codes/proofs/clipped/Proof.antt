@@ -3,13 +3,15 @@
 use mathlib.Core.Path.{_≡_, _∙_, sym}
 use Prim.Native.Nat.{_-_}
 use native.Mathlib.Omega.{arith}
+use borrow.Author.Needs.{needs}
 use Rattle.spans.specs.Parts.{zeroth, unit}
+use Rattle.strokes.proofs.Reading.{read-is}
 use Rattle.codes.specs.Codes.{missed}
 use Rattle.codes.specs.Steps.{decided as Steps·decided}
-use Rattle.codes.specs.Workers.{PieceOf}
+use Rattle.codes.specs.Workers.{endCode, PieceOf}
 use Rattle.codes.specs.declared.Piece.{Piece}
 use Rattle.codes.proofs.Decided.{or-keep, and-missed}
-use Rattle.codes.proofs.Pieces.{first-ends, small-a, small-b, decided-is, finished-kept, finished-missed}
+use Rattle.codes.proofs.Pieces.{start-code, end-code, first-ends, whole-kept, small-a, small-b, decided-is, finished-kept, finished-missed}
 use Rattle.codes.proofs.Shortenings.{Reached, reached-first, reached-next, reached-less}
 use Rattle.codes.proofs.clipped.Statement.{statement}
 use Rattle.codes.proofs.clipped.Tie as tie
@@ -21,25 +23,33 @@ abbrev μ-loop : tie.MeasureT-loop
 μ-loop w s a b p₀ decided₀ shortenings₀ p decided shortenings = 4 - shortenings
 
 -- the piece that is the whole stroke
-abbrev whole : tie.After-code2 Inv-loop μ-loop → Piece
-whole c = record { start = zeroth; end = unit; a = c .before .code .result; b = c .code2 .result }
+abbrev whole : tie.After-end-code2 Inv-loop μ-loop → Piece
+whole c = record { start = zeroth; end = unit; a = c .before .before .before .end-code .result; b = c .end-code2 .result }
 
-piece : (c : tie.After-code2 Inv-loop μ-loop) → PieceOf (c .before .before .args .w) (c .before .before .args .s) (whole c)
-piece c = record { ends = first-ends; a = c .before .code .ensures; b = c .code2 .ensures }
+piece : (c : tie.After-end-code2 Inv-loop μ-loop) → let a = c .before .before .before .before .before .before .args in PieceOf (a .w) (a .s) (whole c)
+piece c =
+    let st = c .before .before .before .before .before .before in
+    let w = st .args .w in
+    let s = st .args .s in
+    let on = st .pre .1 in record {
+      ends = first-ends;
+      a = c .before .before .before .end-code .ensures ∙ (λ i. endCode w (read-is (on .x1) i) (read-is (on .y1) i)) ∙ start-code w s;
+      b = c .end-code2 .ensures ∙ (λ i. endCode w (read-is (on .x2) i) (read-is (on .y2) i)) ∙ end-code w s;
+    }
 
-code-requires : tie.Need-code-requires Inv-loop μ-loop
-code-requires c κs = (c .pre .0, (c .pre .1, first-ends .start))
+end-code-requires : tie.Need-end-code-requires Inv-loop μ-loop
+end-code-requires c κs = search needs
 
-code-requires-2 : tie.Need-code-requires-2 Inv-loop μ-loop
-code-requires-2 c κs = (c .before .pre .0, (c .before .pre .1, first-ends .end))
+end-code-requires-2 : tie.Need-end-code-requires-2 Inv-loop μ-loop
+end-code-requires-2 c κs = search needs
 
-kept-requires : tie.Need-kept-requires Inv-loop μ-loop
-kept-requires c κs = (c .before .before .before .pre .1, first-ends)
+whole-requires : tie.Need-whole-requires Inv-loop μ-loop
+whole-requires c κs = search needs
 
 returns : tie.Need-returns Inv-loop μ-loop
 returns c =
     let q = piece (c .before .before) in
-    finished-kept reached-first first-ends (sym (decided-is q) ∙ or-keep (small-a q) (small-b q) (c .before .if1 .taken)) (c .kept .ensures)
+    finished-kept reached-first first-ends (sym (decided-is q) ∙ or-keep (small-a q) (small-b q) (c .before .if1 .taken)) (whole-kept (c .whole .ensures))
 
 missed-requires : tie.Need-missed-requires Inv-loop μ-loop
 missed-requires c κs = tt
@@ -58,7 +68,7 @@ loop-holds c = let q = piece (c .before .before .before) in (q, (c .decision .en
 shortened-requires : tie.Need-shortened-requires Inv-loop μ-loop
 shortened-requires c κs =
     let i = c .before .loop .inv in
-    let a = c .before .before .before .before .before .before .before in
+    let a = c .before .before .before .before .before .before .before .before .before .before .before in
     (a .pre .0, (a .pre .1, (i .0, (i .1 .0, c .loop-test .taken))))
 
 decision-requires-2 : tie.Need-decision-requires-2 Inv-loop μ-loop
@@ -75,13 +85,13 @@ loop-again c =
     let h = c .before .shortened .ensures in
     (h .piece, (c .decision2 .ensures ∙ decided-is (h .piece), reached-next (c .before .before .before .loop .inv .1 .1) (h .step)))
 
-kept-requires-2 : tie.Need-kept-requires-2 Inv-loop μ-loop
-kept-requires-2 c κs = (c .before .before .before .before .before .before .before .before .pre .1, c .before .before .loop .inv .0 .ends)
+kept-requires : tie.Need-kept-requires Inv-loop μ-loop
+kept-requires c κs = (c .before .before .before .before .before .before .before .before .before .before .before .before .pre .1, c .before .before .loop .inv .0 .ends)
 
 returns-3 : tie.Need-returns-3 Inv-loop μ-loop
 returns-3 c =
     let i = c .before .before .before .loop .inv in
-    finished-kept (i .1 .1) (i .0 .ends) (sym (i .1 .0) ∙ c .before .if3 .taken) (c .kept2 .ensures)
+    finished-kept (i .1 .1) (i .0 .ends) (sym (i .1 .0) ∙ c .before .if3 .taken) (c .kept .ensures)
 
 missed-requires-2 : tie.Need-missed-requires-2 Inv-loop μ-loop
 missed-requires-2 c κs = tt
@@ -98,9 +108,9 @@ clipped-spec =
     (tie.spec
     Inv-loop
     μ-loop
-    code-requires
-    code-requires-2
-    kept-requires
+    end-code-requires
+    end-code-requires-2
+    whole-requires
     returns
     missed-requires
     returns-2
@@ -111,7 +121,7 @@ clipped-spec =
     add-shortenings
     loop-less
     loop-again
-    kept-requires-2
+    kept-requires
     returns-3
     missed-requires-2
     returns-4)

@@ -9,13 +9,13 @@ use lib.Dec.{T}
 use lib.IntN.{pos, _-ℤ_}
 use lib.Signed.{ltZ}
 use mir.Syntax.{w32, w64}
+use Rattle.whole.proofs.Comparisons.{diff-test}
 use Rattle.whole.specs.Choice.{if_then_else_}
 use Rattle.whole.proofs.Expressions.{Env, means}
 use Rattle.whole.proofs.Machine.{Code, par, add, sub, mul, cast, need, value, erase, machine, ok}
 use Rattle.whole.proofs.Ranges.{Bounds}
 use Rattle.grid.specs.Table.{farthest}
 use Rattle.spans.proofs.Parts.{time-within}
-use Rattle.codes.proofs.Sides.{diff-test}
 use Rattle.codes.proofs.outside.Statement.{statement}
 use Rattle.codes.proofs.outside.Tie as tie
 

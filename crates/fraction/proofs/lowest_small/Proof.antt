@@ -10,12 +10,13 @@ use mir.Val.{toZ}
 use mir.Facts.{toZ-pos}
 use Rattle.whole.proofs.Order.{zarith}
 use Rattle.fraction.specs.Fraction.{LowestOf}
+use Rattle.fraction.proofs.Divisors.{common-swap}
 use Rattle.fraction.proofs.LowestTerms.{Reduction, reduction}
 use Rattle.fraction.proofs.lowest_small.Statement.{statement}
 use Rattle.fraction.proofs.lowest_small.Tie as tie
 
 reduced : (c : tie.After-common) → Reduction (pos (c .before .args .n)) (pos (c .before .args .d)) (c .common .result)
-reduced c = reduction (pos (c .before .args .n)) (pos (c .before .args .d)) (let h = c .before .pre in omega zarith) (c .common .ensures)
+reduced c = reduction (pos (c .before .args .n)) (pos (c .before .args .d)) (let h = c .before .pre in omega zarith) (common-swap (c .common .ensures))
 
 -- a number of 32 bits is itself in 64
 wide : {k : ℕ} → k < 2 ^ 32 → toZ w64 k ≡ pos k

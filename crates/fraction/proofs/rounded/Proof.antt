@@ -1,18 +1,18 @@
 -- `fraction::rounded` meets its contract: the distance of a and b, rounded at n/d of it, is gone back or forward from a. Assumes nothing.
-use mathlib.Core.Path.{_≡_, sym, ap, _∙_, subst}
+use mathlib.Core.Path.{_≡_, sym, subst}
 use mathlib.Core.List.{List, [], _∷_}
-use Prim.Native.Nat.{ℕ, _*_, _≤_}
+use Prim.Native.Nat.{ℕ, _*_, _<_, _≤_}
 use native.Mathlib.Nat.{mul-le-mul, le-refl}
 use native.Mathlib.Omega.{arith}
-use borrow.Author.Needs.{needs}
-use lib.IntN.{pos, natAbs, _-ℤ_, _*ℤ_}
-use mir.Syntax.{w32, w64}
+use lib.IntN.{ℤ, pos, _-ℤ_, _*ℤ_}
+use mir.Syntax.{w32}
 use Rattle.whole.specs.Within.{Within}
-use Rattle.whole.proofs.Expressions.{Env, _⊖_, x0, x1}
-use Rattle.whole.proofs.Order.{zarith, <→≤}
-use Rattle.whole.proofs.Ranges.{Bounds, within, within-abs, abs-within}
-use Rattle.whole.proofs.Machine.{Code, par, add, sub, cast, need, value}
 use Rattle.whole.proofs.Comparisons.{lt-taken, lt-left}
+use Rattle.whole.proofs.Expressions.{Env}
+use Rattle.whole.proofs.Gaps.{gap-asks, gap-is, gap-small}
+use Rattle.whole.proofs.Machine.{Code, par, add, sub, need, value}
+use Rattle.whole.proofs.Order.{zarith, <→≤}
+use Rattle.whole.proofs.Ranges.{Bounds, within-abs, abs-within}
 use Rattle.fraction.specs.Rounding.{Rounded}
 use Rattle.fraction.proofs.Rounding.{rounded-inside, rounded-on, rounded-back}
 use Rattle.fraction.proofs.rounded.Statement.{statement}
@@ -25,93 +25,84 @@ less = sub w32 (par w32 0) (par w32 1)
 abbrev more : Code
 more = add w32 (par w32 0) (par w32 1)
 
--- ---- the distance
-abbrev ends : tie.Start → Env
-ends c = c .args .b ∷ c .args .a ∷ []
+-- ---- what n/d of a distance on the table is at the most
+part-small : {g n d q : ℕ} → g ≤ 32766 → 0 < d → n ≤ d → Rounded (pos 0) (pos g *ℤ pos n) (pos d) (pos q) → Within 32766 (pos q)
+part-small {g} {n} {d} {q} h p l r =
+    let part : g * n ≤ g * d = mul-le-mul (le-refl g) l in
+    let at-most = rounded-inside (pos 0) (pos g) (omega zarith) (omega zarith) (omega zarith) r .1 in
+    abs-within (omega zarith)
 
+-- the way from the start, and the start
 abbrev β : List ℕ
-β = 16383 ∷ 16383 ∷ []
+β = 16383 ∷ 32766 ∷ []
 
-bounds : (c : tie.Start) → Bounds β (ends c)
-bounds c = (c .pre .1 .0, (c .pre .0, tt))
+-- ---- back from the start
+gap-requires : tie.Need-gap-requires
+gap-requires c κs =
+    let a = c .before in
+    gap-asks (a .fits .b) (a .fits .a) (omega arith) (a .pre .1 .0) (a .pre .0) (<→≤ (lt-taken w32 (a .fits .b) (a .fits .a) (c .if1 .taken)))
 
-sub-size : tie.Need-sub-size
-sub-size c = need β (ends c) (bounds c) less tt
+back-far : (c : tie.After-gap) → let a = c .before .before .args in pos (c .gap .result) ≡ a .a -ℤ a .b
+back-far c = let f = c .before .before .fits in gap-is (f .b) (f .a) (c .gap .ensures)
 
-cast-size : tie.Need-cast-size
-cast-size c = need β (ends c) (bounds c) (cast w64 less) tt
+back-small : (c : tie.After-gap) → c .gap .result ≤ 32766
+back-small c = let p = c .before .before .pre in gap-small (p .1 .0) (p .0) (back-far c)
 
-size-requires : tie.Need-size-requires
-size-requires c κs = search needs
-
-far-is : (c : tie.After-size) → c .size .result ≡ natAbs (c .before .args .b -ℤ c .before .args .a)
-far-is c = c .size .ensures ∙ ap natAbs (value β (ends (c .before)) (bounds (c .before)) (cast w64 less) tt)
-
-far-small : (c : tie.After-size) → c .size .result ≤ 32766
-far-small c = subst (λ (n : ℕ). n ≤ 32766) (sym (far-is c)) (within-abs (within β (ends (c .before)) (bounds (c .before)) (x0 ⊖ x1) tt))
-
-cast-far : tie.Need-cast-far
-cast-far c = record { fits = omega (arith, far-small c) }
-
--- ---- n/d of it
 part-of-requires : tie.Need-part-of-requires
-part-of-requires c κs = (far-small c, (c .before .pre .1 .1 .0, c .before .pre .1 .1 .1))
+part-of-requires c κs = (back-small c, c .before .before .pre .1 .1)
 
-way-small : (c : tie.After-part-of) → Within 32766 (pos (c .part-of .result))
-way-small c =
-    let s = c .before .before in
-    let far = c .before .size .result in
-    let part : far * s .args .n ≤ far * s .args .d = mul-le-mul (le-refl far) (s .pre .1 .1 .1) in
-    let at-most = rounded-inside (pos 0) (pos far) (omega zarith) (omega zarith) (omega zarith) (c .part-of .ensures) .1 in
-    abs-within (omega (zarith, far-small (c .before)))
+abbrev back-env : tie.After-part-of → Env
+back-env c = c .before .before .before .args .a ∷ pos (c .part-of .result) ∷ []
 
-cast-way : tie.Need-cast-way
-cast-way c = record { sfits = omega (arith, within-abs (way-small c)) }
+back-bounds : (c : tie.After-part-of) → Bounds β (back-env c)
+back-bounds c = let p = c .before .before .before .pre in (p .0, (part-small (back-small (c .before)) (p .1 .1 .0 .0) (p .1 .1 .1) (c .part-of .ensures), tt))
 
-way-rounded : (c : tie.After-part-of) → let s = c .before .before in Rounded (pos 0) (pos (natAbs (s .args .b -ℤ s .args .a)) *ℤ pos (s .args .n)) (pos (s .args .d)) (pos (c .part-of .result))
-way-rounded c =
-    let s = c .before .before in
-    subst (λ (far : ℕ). Rounded (pos 0) (pos far *ℤ pos (s .args .n)) (pos (s .args .d)) (pos (c .part-of .result))) (far-is (c .before)) (c .part-of .ensures)
-
--- ---- back or forward from the start
-abbrev gone : tie.After-part-of → Env
-gone c = c .before .before .args .a ∷ pos (c .part-of .result) ∷ []
-
-abbrev β′ : List ℕ
-β′ = 16383 ∷ 32766 ∷ []
-
-gone-bounds : (c : tie.After-part-of) → Bounds β′ (gone c)
-gone-bounds c = (c .before .before .pre .0, (way-small c, tt))
+cast-result : tie.Need-cast-result
+cast-result c = record { sfits = omega (arith, within-abs (back-bounds c .1 .0)) }
 
 sub-result : tie.Need-sub-result
-sub-result c = need β′ (gone (c .before)) (gone-bounds (c .before)) less tt
+sub-result c = need β (back-env c) (back-bounds c) less tt
 
 returns : tie.Need-returns
 returns c =
-    let s = c .before .before .before in
-    subst (Rounded _ _ _) (sym (value β′ (gone (c .before)) (gone-bounds (c .before)) less tt))
-    (rounded-back (s .args .a) (s .args .b) (pos (s .args .n)) (way-rounded (c .before)) (<→≤ (lt-taken w32 (s .fits .b) (s .fits .a) (c .if1 .taken))))
+    let a = c .before .before .before .args in
+    subst (Rounded _ _ _) (sym (value β (back-env c) (back-bounds c) less tt))
+    (rounded-back (a .a) (a .b) (pos (a .n)) (subst (λ (z : ℤ). Rounded (pos 0) (z *ℤ pos (a .n)) (pos (a .d)) (pos (c .part-of .result))) (back-far (c .before)) (c .part-of .ensures)))
+
+-- ---- forward from the start
+gap-requires-2 : tie.Need-gap-requires-2
+gap-requires-2 c κs =
+    let a = c .before in
+    gap-asks (a .fits .a) (a .fits .b) (omega arith) (a .pre .0) (a .pre .1 .0) (lt-left w32 (a .fits .b) (a .fits .a) (c .if1 .left))
+
+on-far : (c : tie.After-gap2) → let a = c .before .before .args in pos (c .gap2 .result) ≡ a .b -ℤ a .a
+on-far c = let f = c .before .before .fits in gap-is (f .a) (f .b) (c .gap2 .ensures)
+
+on-small : (c : tie.After-gap2) → c .gap2 .result ≤ 32766
+on-small c = let p = c .before .before .pre in gap-small (p .0) (p .1 .0) (on-far c)
+
+part-of-requires-2 : tie.Need-part-of-requires-2
+part-of-requires-2 c κs = (on-small c, c .before .before .pre .1 .1)
+
+abbrev on-env : tie.After-part-of2 → Env
+on-env c = c .before .before .before .args .a ∷ pos (c .part-of2 .result) ∷ []
+
+on-bounds : (c : tie.After-part-of2) → Bounds β (on-env c)
+on-bounds c = let p = c .before .before .before .pre in (p .0, (part-small (on-small (c .before)) (p .1 .1 .0 .0) (p .1 .1 .1) (c .part-of2 .ensures), tt))
+
+cast-result-2 : tie.Need-cast-result-2
+cast-result-2 c = record { sfits = omega (arith, within-abs (on-bounds c .1 .0)) }
 
 add-result : tie.Need-add-result
-add-result c = need β′ (gone (c .before)) (gone-bounds (c .before)) more tt
+add-result c = need β (on-env c) (on-bounds c) more tt
 
 returns-2 : tie.Need-returns-2
 returns-2 c =
-    let s = c .before .before .before in
-    subst (Rounded _ _ _) (sym (value β′ (gone (c .before)) (gone-bounds (c .before)) more tt))
-    (rounded-on (s .args .a) (s .args .b) (pos (s .args .n)) (way-rounded (c .before)) (lt-left w32 (s .fits .b) (s .fits .a) (c .if1 .left)))
+    let a = c .before .before .before .args in
+    subst (Rounded _ _ _) (sym (value β (on-env c) (on-bounds c) more tt))
+    (rounded-on (a .a) (a .b) (pos (a .n)) (subst (λ (z : ℤ). Rounded (pos 0) (z *ℤ pos (a .n)) (pos (a .d)) (pos (c .part-of2 .result))) (on-far (c .before)) (c .part-of2 .ensures)))
 
 pub rounded-spec : {M : Type 1} → statement M
 rounded-spec =
     tie.close
-    (tie.spec
-    sub-size
-    cast-size
-    size-requires
-    cast-far
-    part-of-requires
-    cast-way
-    sub-result
-    returns
-    add-result
-    returns-2)
+    (tie.spec gap-requires part-of-requires cast-result sub-result returns gap-requires-2 part-of-requires-2 cast-result-2 add-result returns-2)

@@ -1,59 +1,88 @@
--- `grid::window_refusal` meets its contract: each return is the definition at the tests that led there. Assumes nothing.
-use mathlib.Core.Path.{_≡_, _∙_, subst}
-use mathlib.Core.Bool.{Bool}
-use Prim.Native.Nat.{ℕ, _≤_}
+-- `grid::window_refusal` meets its contract: a window that fails a test is bad, and one that fails none is on the table. Assumes nothing.
 use borrow.Author.Needs.{needs}
-use borrow.Author.Tests.{lt-ltb, le-ltb}
-use lib.Signed.{ltZ}
+use lib.IntN.{pos, negsuc}
+use lib.Signed.{_≤ℤ_, _<ℤ_}
 use mir.Syntax.{w32}
-use mir.Val.{toZ, ofZ}
-use Rattle.grid.specs.declared.Window.{Window}
-use Rattle.grid.specs.Table.{firstOff, sides}
-use Rattle.grid.specs.Refusals.{first, offTable, noArea, windowRefusal}
-use Rattle.grid.proofs.Ranges.{read-four, read-less}
+use mir.Facts.{sfits-lit}
+use Rattle.whole.proofs.Comparisons.{back, lt-taken, lt-left, le-yes, le-no}
+use Rattle.whole.proofs.Order.{zarith}
+use Rattle.grid.proofs.Refusals.{window-fine}
 use Rattle.grid.proofs.window_refusal.Statement.{statement}
 use Rattle.grid.proofs.window_refusal.Tie as tie
 
-off : (c : tie.After-first-off-of-four) → c .first-off-of-four .result ≡ firstOff (sides (c .before .before .before .before .before .args .w))
-off c = let g = c .before .before .before .before .struct-told .given in
-    c .first-off-of-four .ensures ∙ read-four _ _ _ _ (g .0 .1) (g .1 .0 .1) (g .1 .1 .0 .1) (g .1 .1 .1 .0 .1)
-
-first-off-of-four-requires : tie.Need-first-off-of-four-requires
-first-off-of-four-requires c κs = search needs
+bad-window-requires : tie.Need-bad-window-requires
+bad-window-requires c κs h = let t : c .before .before .before .args .w .left <ℤ negsuc 16382 = lt-taken w32 (record { sfits = c .before .struct-told .given .0 .1 }) (sfits-lit {z = negsuc 16382} tt) (c .if1 .taken) in omega (zarith, h .left .low)
 
 returns : tie.Need-returns
-unfolding windowRefusal first offTable
-returns c = simp (← off (c .before), lt-ltb _ _ (c .if1 .taken))
+returns c = search needs
 
--- the window, and its numbers' sizes
-abbrev window : tie.Else1 → Window
-window c = c .before .before .before .before .before .before .args .w
+left-low : (c : tie.Else1) → negsuc 16382 ≤ℤ c .before .before .before .args .w .left
+left-low c = lt-left w32 (record { sfits = c .before .struct-told .given .0 .1 }) (sfits-lit {z = negsuc 16382} tt) (c .if1 .left)
 
-on : (c : tie.Else1) → 4 ≤ firstOff (sides (window c))
-on c = subst (λ (k : ℕ). 4 ≤ k) (off (c .before)) (c .if1 .left)
-
--- a test of two sides as they were read, as a test of the window's own numbers
-wide : (c : tie.Else1) {t : Bool} → ltZ (toZ w32 (ofZ w32 (window c .left))) (toZ w32 (ofZ w32 (window c .right))) ≡ t → ltZ (window c .left) (window c .right) ≡ t
-wide c e = let g = c .before .before .before .before .before .struct-told .given in read-less (window c .left) (window c .right) (g .0 .1) (g .1 .1 .0 .1) e
-
-tall : (c : tie.Else1) {t : Bool} → ltZ (toZ w32 (ofZ w32 (window c .bottom))) (toZ w32 (ofZ w32 (window c .top))) ≡ t → ltZ (window c .bottom) (window c .top) ≡ t
-tall c e = let g = c .before .before .before .before .before .struct-told .given in read-less (window c .bottom) (window c .top) (g .1 .0 .1) (g .1 .1 .1 .0 .1) e
+bad-window-requires-2 : tie.Need-bad-window-requires-2
+bad-window-requires-2 c κs h = let t : c .before .before .before .before .before .before .args .w .right ≤ℤ c .before .before .before .before .before .before .args .w .left = le-yes (back w32 _ (c .before .struct-told2 .given .1 .1 .0 .1)) (back w32 _ (c .before .struct-told2 .given .0 .1)) (c .if2 .taken) in omega (zarith, h .wide)
 
 returns-2 : tie.Need-returns-2
-unfolding windowRefusal first offTable noArea
-returns-2 c =
-    let a = c .before .before .before .before .before .before in
-    simp (le-ltb _ _ (on a), wide a (c .before .before .before .if2 .taken), tall a (c .if3 .taken))
+returns-2 c = search needs
+
+wide : (c : tie.Else2) → c .before .before .before .before .before .before .args .w .left <ℤ c .before .before .before .before .before .before .args .w .right
+wide c = le-no (back w32 _ (c .before .struct-told2 .given .1 .1 .0 .1)) (back w32 _ (c .before .struct-told2 .given .0 .1)) (c .if2 .left)
+
+bad-window-requires-3 : tie.Need-bad-window-requires-3
+bad-window-requires-3 c κs h = let t : pos 16383 <ℤ c .before .before .before .before .before .before .before .before .before .args .w .right = lt-taken w32 (sfits-lit {z = pos 16383} tt) (record { sfits = c .before .struct-told3 .given .1 .1 .0 .1 }) (c .if3 .taken) in omega (zarith, h .right .high)
 
 returns-3 : tie.Need-returns-3
-unfolding windowRefusal first offTable noArea
-returns-3 c =
-    let a = c .before .before .before .before .before .before in
-    simp (le-ltb _ _ (on a), wide a (c .before .before .before .if2 .taken), tall a (c .if3 .left))
+returns-3 c = search needs
+
+right-high : (c : tie.Else3) → c .before .before .before .before .before .before .before .before .before .args .w .right ≤ℤ pos 16383
+right-high c = lt-left w32 (sfits-lit {z = pos 16383} tt) (record { sfits = c .before .struct-told3 .given .1 .1 .0 .1 }) (c .if3 .left)
+
+bad-window-requires-4 : tie.Need-bad-window-requires-4
+bad-window-requires-4 c κs h = let t : c .before .before .before .before .before .before .before .before .before .before .before .before .args .w .bottom <ℤ negsuc 16382 = lt-taken w32 (record { sfits = c .before .struct-told4 .given .1 .0 .1 }) (sfits-lit {z = negsuc 16382} tt) (c .if4 .taken) in omega (zarith, h .bottom .low)
 
 returns-4 : tie.Need-returns-4
-unfolding windowRefusal first offTable noArea
-returns-4 c = let a = c .before .before .before in simp (le-ltb _ _ (on a), wide a (c .if2 .left))
+returns-4 c = search needs
+
+bottom-low : (c : tie.Else4) → negsuc 16382 ≤ℤ c .before .before .before .before .before .before .before .before .before .before .before .before .args .w .bottom
+bottom-low c = lt-left w32 (record { sfits = c .before .struct-told4 .given .1 .0 .1 }) (sfits-lit {z = negsuc 16382} tt) (c .if4 .left)
+
+bad-window-requires-5 : tie.Need-bad-window-requires-5
+bad-window-requires-5 c κs h = let t : c .before .before .before .before .before .before .before .before .before .before .before .before .before .before .before .args .w .top ≤ℤ c .before .before .before .before .before .before .before .before .before .before .before .before .before .before .before .args .w .bottom = le-yes (back w32 _ (c .before .struct-told5 .given .1 .1 .1 .0 .1)) (back w32 _ (c .before .struct-told5 .given .1 .0 .1)) (c .if5 .taken) in omega (zarith, h .tall)
+
+returns-5 : tie.Need-returns-5
+returns-5 c = search needs
+
+tall : (c : tie.Else5) → c .before .before .before .before .before .before .before .before .before .before .before .before .before .before .before .args .w .bottom <ℤ c .before .before .before .before .before .before .before .before .before .before .before .before .before .before .before .args .w .top
+tall c = le-no (back w32 _ (c .before .struct-told5 .given .1 .1 .1 .0 .1)) (back w32 _ (c .before .struct-told5 .given .1 .0 .1)) (c .if5 .left)
+
+bad-window-requires-6 : tie.Need-bad-window-requires-6
+bad-window-requires-6 c κs h = let t : pos 16383 <ℤ c .before .before .before .before .before .before .before .before .before .before .before .before .before .before .before .before .before .before .args .w .top = lt-taken w32 (sfits-lit {z = pos 16383} tt) (record { sfits = c .before .struct-told6 .given .1 .1 .1 .0 .1 }) (c .if6 .taken) in omega (zarith, h .top .high)
+
+returns-6 : tie.Need-returns-6
+returns-6 c = search needs
+
+top-high : (c : tie.Else6) → c .before .before .before .before .before .before .before .before .before .before .before .before .before .before .before .before .before .before .args .w .top ≤ℤ pos 16383
+top-high c = lt-left w32 (sfits-lit {z = pos 16383} tt) (record { sfits = c .before .struct-told6 .given .1 .1 .1 .0 .1 }) (c .if6 .left)
+
+returns-7 : tie.Need-returns-7
+returns-7 c =
+    let l = left-low (c .before .before .before .before .before .before .before .before .before .before .before .before .before .before .before) in
+    let w = wide (c .before .before .before .before .before .before .before .before .before .before .before .before) in
+    let r = right-high (c .before .before .before .before .before .before .before .before .before) in
+    let b = bottom-low (c .before .before .before .before .before .before) in
+    let h = tall (c .before .before .before) in
+    let t = top-high c in
+    window-fine (c .before .before .before .before .before .before .before .before .before .before .before .before .before .before .before .before .before .before .args .w)
+    (record {
+      left = record { low = l; high = omega zarith };
+      bottom = record { low = b; high = omega zarith };
+      right = record { low = omega zarith; high = r };
+      top = record { low = omega zarith; high = t };
+      wide = w;
+      tall = h;
+    })
 
 pub window-refusal-spec : {M : Type 1} → statement M
-window-refusal-spec = tie.close (tie.spec first-off-of-four-requires returns returns-2 returns-3 returns-4)
+window-refusal-spec =
+    tie.close
+    (tie.spec bad-window-requires returns bad-window-requires-2 returns-2 bad-window-requires-3 returns-3 bad-window-requires-4 returns-4 bad-window-requires-5 returns-5 bad-window-requires-6 returns-6 returns-7)

@@ -1,69 +1,62 @@
--- `strokes::crossing` meets its contract: the span holds exactly the kept fractions, so its ends are the first and the last. Assumes nothing.
-use mathlib.Core.Path.{sym, subst, transport, _∙_}
-use mathlib.Core.Bool.{true}
-use native.Mathlib.Omega.{arith}
+-- `strokes::crossing` meets its contract: what is kept is from the later start to the earlier end of the two ways. Assumes nothing.
+use mathlib.Core.Path.{sym, subst}
 use borrow.Author.Needs.{needs}
-use lib.IntN.{_*ℤ_}
-use lib.Signed.{_≤ℤ_}
-use mir.Syntax.{w32}
-use Rattle.whole.proofs.Comparisons.{back}
-use Rattle.fraction.proofs.Comparing.{less-taken, less-left}
-use Rattle.spans.specs.declared.Span.{Span}
-use Rattle.spans.specs.Spans.{SpanOf}
-use Rattle.spans.proofs.Cutting.{sized-up}
-use Rattle.strokes.specs.Strokes.{Keeps}
-use Rattle.strokes.specs.Workers.{CutIs}
-use Rattle.strokes.proofs.Answers.{cut-missed, span-missed, span-kept, first-time, last-time}
+use Rattle.strokes.specs.Strokes.{Clipped}
+use Rattle.strokes.specs.Workers.{WayOf}
+use Rattle.strokes.proofs.Answers.{nothing-kept, span-kept}
+use Rattle.strokes.proofs.Meetings.{none-kept, ends-span, ends-meet}
+use Rattle.strokes.proofs.Reading.{passage-asks, way-plain}
 use Rattle.strokes.proofs.crossing.Statement.{statement}
 use Rattle.strokes.proofs.crossing.Tie as tie
 
-kept-span-requires : tie.Need-kept-span-requires
-kept-span-requires c κs = search needs
+passage-requires : tie.Need-passage-requires
+passage-requires c κs = let p = c .before .before .before .before .pre in passage-asks (p .0 .left) (p .0 .right) (p .1 .0 .x1) (p .1 .0 .x2) (p .0 .wide) (p .1 .1 .x)
 
-is-empty-requires : tie.Need-is-empty-requires
-is-empty-requires c κs = (c .kept-span .ensures .proper, sized-up (omega arith) (c .kept-span .ensures .sized))
+passage-requires-2 : tie.Need-passage-requires-2
+passage-requires-2 c κs = let p = c .before .before .before .before .before .before .before .before .before .pre in passage-asks (p .0 .bottom) (p .0 .top) (p .1 .0 .y1) (p .1 .0 .y2) (p .0 .tall) (p .1 .1 .y)
 
-missed-requires : tie.Need-missed-requires
-missed-requires c κs = search needs
+-- the two ways
+way-x : (c : tie.After-passage2) → let a = c .before .before .before .before .before .before .before .before .before .before .args in WayOf (a .w .left) (a .w .right) (a .s .x1) (a .s .x2) (c .before .before .before .before .before .passage .result)
+way-x c = let p = c .before .before .before .before .before .before .before .before .before .before .pre in way-plain (p .0 .left) (p .0 .right) (p .1 .0 .x1) (p .1 .0 .x2) (c .before .before .before .before .before .passage .ensures)
+
+way-y : (c : tie.After-passage2) → let a = c .before .before .before .before .before .before .before .before .before .before .args in WayOf (a .w .bottom) (a .w .top) (a .s .y1) (a .s .y2) (c .passage2 .result)
+way-y c = let p = c .before .before .before .before .before .before .before .before .before .before .pre in way-plain (p .0 .bottom) (p .0 .top) (p .1 .0 .y1) (p .1 .0 .y2) (c .passage2 .ensures)
+
+apart-requires : tie.Need-apart-requires
+apart-requires c κs = (way-x c .way .short, way-y c .way .short)
+
+blank-requires : tie.Need-blank-requires
+blank-requires c κs = search needs
 
 returns : tie.Need-returns
 returns c =
-    let t = c .before in
-    let k = t .before .before in
-    let r = k .kept-span .result in
-    subst (CutIs (k .before .args .w) (k .before .args .s)) (sym (c .missed .ensures))
-    (cut-missed (span-missed (k .kept-span .ensures) (less-taken (r .last) (r .first) (sym (t .before .is-empty .ensures) ∙ t .if1 .taken))))
+    let k = c .before .before .before in
+    let a = k .before .before .before .before .before .before .before .before .before .before .args in
+    subst (Clipped (a .w) (a .s)) (sym (c .blank .ensures)) (nothing-kept (none-kept (way-x k) (way-y k) (c .before .before .apart .ensures .0 (c .before .if1 .taken))))
 
--- ---- the span is not empty
-abbrev span : tie.Else1 → Span
-span c = c .before .before .kept-span .result
+start-requires : tie.Need-start-requires
+start-requires c κs = let k = c .before .before in (k .before .before .before .before .before .before .before .before .before .before .pre .1 .0, (way-x k .way, way-y k .way))
 
-holds : (c : tie.Else1) → SpanOf 32766 (Keeps (c .before .before .before .args .w) (c .before .before .before .args .s)) (span c)
-holds c = c .before .before .kept-span .ensures
+finish-requires : tie.Need-finish-requires
+finish-requires c κs = let k = c .before .before .before in (k .before .before .before .before .before .before .before .before .before .before .pre .1 .0, (way-x k .way, way-y k .way))
 
-not-empty : (c : tie.Else1) → (span c .first .num *ℤ span c .last .den) ≤ℤ (span c .last .num *ℤ span c .first .den)
-not-empty c = less-left (span c .last) (span c .first) (sym (c .before .is-empty .ensures) ∙ c .if1 .left)
-
-point-at-requires : tie.Need-point-at-requires
-point-at-requires c κs = let e = c .before .before in (c .before .before .before .before .before .pre .1, (first-time (holds e) (not-empty e), holds e .sized .d0))
-
-point-at-requires-2 : tie.Need-point-at-requires-2
-point-at-requires-2 c κs = let e = c .before .before .before in (c .before .before .before .before .before .before .pre .1, (last-time (holds e) (not-empty e), holds e .sized .d1))
+kept-answer-requires : tie.Need-kept-answer-requires
+kept-answer-requires c κs = (c .before .start .ensures .way, c .finish .ensures .way)
 
 returns-2 : tie.Need-returns-2
 returns-2 c =
-    let b = c .before .before in
-    let a = c .before .before .before in
-    let e = c .before .before .before .before .before .before in
-    let k = a .point-at .ok .1 .1 in
-    let l = b .point-at2 .ok .1 .1 in
-    let ax = sym (back w32 (a .point-at .result .x) (k .0 .1)) in
-    let ay = sym (back w32 (a .point-at .result .y) (k .1 .0 .1)) in
-    let bx = sym (back w32 (b .point-at2 .result .x) (l .0 .1)) in
-    let by = sym (back w32 (b .point-at2 .result .y) (l .1 .0 .1)) in
-    transport
-    (λ i. CutIs (e .before .before .before .args .w) (e .before .before .before .args .s) (record { kept = true; first = span e .first; last = span e .last; ax = ax i; ay = ay i; bx = bx i; by = by i }))
-    (span-kept (holds e) (not-empty e) (a .point-at .ensures) (b .point-at2 .ensures))
+    let k = c .before .before .before .before .before in
+    let w = k .before .before .before .before .before .before .before .before .before .before .args .w in
+    let s = k .before .before .before .before .before .before .before .before .before .before .args .s in
+    let p = c .before .before .start .ensures in
+    let q = c .before .finish .ensures in
+    let r = c .kept-answer .ensures in
+    let f = way-x k in
+    let g = way-y k in
+    subst (Clipped w s) (sym (r .answer))
+    (span-kept (ends-span f g p q) (ends-meet f g p q (c .before .before .before .before .apart .ensures .1 (c .before .before .before .if1 .left))) (c .before .before .start .result) (c .before .finish .result) (p .point) (q .point) (r .first) (r .last))
 
 pub crossing-spec : {M : Type 1} → statement M
-crossing-spec = tie.close (tie.spec kept-span-requires is-empty-requires missed-requires returns point-at-requires point-at-requires-2 returns-2)
+crossing-spec =
+    tie.close
+    (tie.spec passage-requires passage-requires-2 apart-requires blank-requires returns start-requires finish-requires kept-answer-requires returns-2)
