@@ -5,19 +5,19 @@ use mathlib.Core.List.{List, [], _∷_}
 use Prim.Native.Nat.{ℕ, suc, _+_, _*_, _≤_, _<_}
 use native.Mathlib.Omega.{arith}
 use borrow.Author.Count.{below-more}
-use lib.IntN.{ℤ, pos}
+use lib.IntN.{ℤ, pos, _-ℤ_}
 use lib.ListN.{length}
 use lib.Signed.{ltZ}
 use Rattle.whole.proofs.Comparisons.{tt-ff}
-use Rattle.whole.proofs.Expressions.{Expr, Env, var, con}
+use Rattle.whole.proofs.Expressions.{Expr, Env, var, con, _⊖_}
 use Rattle.whole.proofs.Polynomials.{ring}
 use Rattle.rings.specs.Points.{value, through}
 use Rattle.rings.specs.Rings.{at}
 use Rattle.corners.specs.Corners.{cornersOf, isLeft, strictlyConvex}
-use Rattle.corners.specs.Workers.{CornersOnTable, CornerOnTable, Short, cornerAt, wayFrom, turnsLeft, keepsTurning}
+use Rattle.corners.specs.Workers.{CornersOnTable, Short, cornerAt, wayFrom, wayBetween, turnsLeft, keepsTurning}
 use Rattle.corners.specs.declared.Corner.{Corner}
 use Rattle.corners.specs.declared.Way.{Way}
-use Rattle.corners.proofs.Places.{side-by, cross-by, pointOf, corner, count, point-at, three-corners, corner-on}
+use Rattle.corners.proofs.Places.{side-by, cross-by, pointOf, corner, count, point-at, three-corners, corner-on, way-short}
 use Rattle.corners.proofs.Convexity.{left-yes, left-is, Turning, all-turning, one-not-turning}
 
 -- ---- a turn of two ways is a side of a line: of the ways from a to b and to p, and of the ways from a by b to p
@@ -48,11 +48,10 @@ module _ (zs : List ℤ) (k l m : ℕ) (hk : k < length (cornersOf zs)) (hl : l 
   step-at = step-left (corner zs k) (corner zs l) (corner zs m) ∙ same
 
 -- ---- the walk
-pub record Walked (zs : List ℤ) (latest : Corner) (seen edge : Way) (i : ℕ) : Type 0 where
+pub record Walked (zs : List ℤ) (seen edge : Way) (i : ℕ) : Type 0 where
   pub j : ℕ
   pub place : i ≡ 2 * suc (suc j)
   pub upto : suc j < length (cornersOf zs)
-  pub latest-is : latest ≡ corner zs (suc j)
   pub seen-is : seen ≡ wayFrom (corner zs 0) (corner zs (suc j))
   pub seen-short : Short seen
   pub edge-is : edge ≡ wayFrom (corner zs j) (corner zs (suc j))
@@ -60,28 +59,32 @@ pub record Walked (zs : List ℤ) (latest : Corner) (seen edge : Way) (i : ℕ) 
   pub turning : (k : ℕ) → k < j → Turning (cornersOf zs) k
 
 module _ {zs : List ℤ} (g : CornersOnTable zs) where
-  pub walked-start : {latest : Corner} {base : Way} → latest ≡ corner zs 1 → base ≡ wayFrom (corner zs 0) (corner zs 1) → Short base → Walked zs latest base base 4
-  walked-start e f h = record { j = 0; place = refl; upto = omega (arith, three-corners g); latest-is = e; seen-is = f; seen-short = h; edge-is = f; edge-short = h; turning = λ k l. absurd (omega arith) }
+  pub walked-start : {base : Way} → base ≡ wayFrom (corner zs 0) (corner zs 1) → Short base → Walked zs base base 4
+  walked-start f h = record { j = 0; place = refl; upto = omega (arith, three-corners g); seen-is = f; seen-short = h; edge-is = f; edge-short = h; turning = λ k l. absurd (omega arith) }
 
-  module _ {latest : Corner} {seen edge : Way} {i : ℕ} (w : Walked zs latest seen edge i) where
-    pub latest-on : CornerOnTable latest
-    latest-on = subst CornerOnTable (sym (w .latest-is)) (corner-on g (suc (w .j)) (w .upto))
-
-    pub walked-end : length zs ≤ i → strictlyConvex (cornersOf zs) ≡ true
-    walked-end h = all-turning (cornersOf zs) (λ k l. w .turning k (omega (arith, w .place, count zs)))
+  pub walked-end : {seen edge : Way} {i : ℕ} → Walked zs seen edge i → length zs ≤ i → strictlyConvex (cornersOf zs) ≡ true
+  walked-end w h = all-turning (cornersOf zs) (λ k l. w .turning k (omega (arith, w .place, count zs)))
 
 -- one turn: the corner p at i, the way to it from the first corner, and the step to it from the latest
-pub record Turn (zs : List ℤ) (latest : Corner) (seen edge : Way) (i : ℕ) (base : Way) (p : Corner) (next step : Way) : Type 0 where
-  pub walked : Walked zs latest seen edge i
+pub record Turn (zs : List ℤ) (seen edge : Way) (i : ℕ) (base : Way) (p : Corner) (next : Way) : Type 0 where
+  pub walked : Walked zs seen edge i
   pub more : i < length zs
   pub base-is : base ≡ wayFrom (corner zs 0) (corner zs 1)
   pub p-is : p ≡ cornerAt zs i
   pub next-is : next ≡ wayFrom (corner zs 0) p
   pub next-short : Short next
-  pub step-is : step ≡ wayFrom latest p
-  pub step-short : Short step
 
-module _ {zs : List ℤ} (g : CornersOnTable zs) {latest : Corner} {seen edge : Way} {i : ℕ} {base : Way} {p : Corner} {next step : Way} (t : Turn zs latest seen edge i base p next step) where
+-- two ways from one corner leave the way between their ends
+between-ends : (f a b : Corner) → wayBetween (wayFrom f a) (wayFrom f b) ≡ wayFrom a b
+between-ends f a b = λ i. record { x = cancels (f .x) (a .x) (b .x) i; y = cancels (f .y) (a .y) (b .y) i }
+  where
+    cancels : (f a b : ℤ) → (b -ℤ f) -ℤ (a -ℤ f) ≡ b -ℤ a
+    cancels f a b = ring (f ∷ a ∷ b ∷ []) ((var 2 ⊖ var 0) ⊖ (var 1 ⊖ var 0)) (var 2 ⊖ var 1) tt
+
+module _ {zs : List ℤ} (g : CornersOnTable zs) {seen edge : Way} {i : ℕ} {base : Way} {p : Corner} {next : Way} (t : Turn zs seen edge i base p next) where
+  abbrev step : Way
+  step = wayBetween seen next
+
   abbrev j : ℕ
   j = t .walked .j
 
@@ -98,7 +101,10 @@ module _ {zs : List ℤ} (g : CornersOnTable zs) {latest : Corner} {seen edge : 
   from-first = t .next-is ∙ ap (wayFrom (corner zs 0)) here
 
   from-latest : step ≡ wayFrom (corner zs (suc j)) (corner zs (suc (suc j)))
-  from-latest = t .step-is ∙ (λ i. wayFrom (t .walked .latest-is i) (here i))
+  from-latest = (λ i. wayBetween (t .walked .seen-is i) (from-first i)) ∙ between-ends (corner zs 0) (corner zs (suc j)) (corner zs (suc (suc j)))
+
+  pub step-short : Short step
+  step-short = subst Short (sym from-latest) (way-short (corner-on g (suc j) (t .walked .upto)) (corner-on g (suc (suc j)) below))
 
   first-test : turnsLeft base next ≡ isLeft (at (cornersOf zs) 0) (at (cornersOf zs) 1) (at (cornersOf zs) (suc (suc j)))
   first-test = (λ i. turnsLeft (t .base-is i) (from-first i)) ∙ seen-at zs 0 1 (suc (suc j)) (omega (arith, below)) (omega (arith, below)) below
@@ -120,15 +126,14 @@ module _ {zs : List ℤ} (g : CornersOnTable zs) {latest : Corner} {seen edge : 
       let f = and-eq-true-iff (turnsLeft base next) (turnsLeft seen next) .0 (b .0) in
       record { first = left-yes (sym first-test ∙ f .0); seen = left-yes (sym seen-test ∙ f .1); turns = left-yes (sym turn-test ∙ b .1) }
 
-  pub walked-more : keepsTurning base seen edge next step ≡ true → Walked zs p next step (i + 2)
+  pub walked-more : keepsTurning base seen edge next step ≡ true → Walked zs next step (i + 2)
   walked-more e = record {
     j = suc j;
     place = omega (arith, place);
     upto = below;
-    latest-is = here;
     seen-is = from-first;
     seen-short = t .next-short;
     edge-is = from-latest;
-    edge-short = t .step-short;
+    edge-short = step-short;
     turning = λ k l. below-more (Turning (cornersOf zs)) j (t .walked .turning) (now e) k (omega arith);
   }

@@ -4,6 +4,7 @@
 --   Short w                   a way no longer than the table, across and up
 --   cornerAt zs i             the corner whose two numbers stand at i
 --   wayFrom a b               the way from a to b
+--   wayBetween a b            the way from the end of a to the end of b, where both are from one point
 --   crossOf a b               the cross product of two ways: positive where b turns left from a, 0 where they are parallel
 --   turnsLeft a b             b turns left from a
 --   keepsTurning base seen edge next step   seen from the first corner the next one lies left of the first edge and of the latest corner, and the step to it turns left from the latest edge
@@ -41,6 +42,9 @@ cornerAt zs i = record { x = getD zs i (pos 0); y = getD zs (i + 1) (pos 0) }
 
 abbrev pub wayFrom : Corner → Corner → Way
 wayFrom a b = record { x = b .x -ℤ a .x; y = b .y -ℤ a .y }
+
+abbrev pub wayBetween : Way → Way → Way
+wayBetween a b = record { x = b .x -ℤ a .x; y = b .y -ℤ a .y }
 
 abbrev pub crossOf : Way → Way → ℤ
 crossOf a b = a .x *ℤ b .y -ℤ a .y *ℤ b .x

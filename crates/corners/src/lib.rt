@@ -10,7 +10,7 @@ ghost use lib.ListN.{length};
 ghost use Rattle.grid.specs.Table.{StrokeOnTable};
 ghost use Rattle.spans.specs.Spans.{largest, Proper, Sized, CutBy, SpanOf};
 ghost use Rattle.corners.specs.Corners.{cornersOf, strictlyConvex, rightCount, cyrusBeckRefusal, KeepsIn, CornerClipped, CyrusBeck, blankAnswer};
-ghost use Rattle.corners.specs.Workers.{CornersOnTable, CornerOnTable, Short, cornerAt, wayFrom, crossOf, turnsLeft, keepsTurning, edgeP, edgeQ};
+ghost use Rattle.corners.specs.Workers.{CornersOnTable, CornerOnTable, Short, cornerAt, wayFrom, wayBetween, crossOf, turnsLeft, keepsTurning, edgeP, edgeQ};
 
 // What the call answers: a refusal's number and place, or whether the stroke is kept, and from which fraction of its way to which.
 #[repr(C)]
@@ -57,6 +57,18 @@ fn way_from(a: Corner, b: Corner) -> Way
     }
 }
 
+// The way from the end of a to the end of b, both from one point.
+fn way_between(a: Way, b: Way) -> Way
+    requires { ⌜ Short a ⌝ }
+    requires { ⌜ Short b ⌝ }
+    ensures { λ r. ⌜ r ≡ wayBetween a b ⌝ }
+{
+    Way {
+        x: b.x - a.x,
+        y: b.y - a.y,
+    }
+}
+
 // Positive where b turns left from a, 0 where they are parallel.
 fn cross(a: Way, b: Way) -> i64
     requires { ⌜ Short a ⌝ }
@@ -66,12 +78,13 @@ fn cross(a: Way, b: Way) -> i64
     (a.x as i64) * (b.y as i64) - (a.y as i64) * (b.x as i64)
 }
 
+// The two products are compared, since their difference may need more than 32 bits.
 fn turns_left(a: Way, b: Way) -> bool
     requires { ⌜ Short a ⌝ }
     requires { ⌜ Short b ⌝ }
     ensures { λ r. ⌜ r ≡ turnsLeft a b ⌝ }
 {
-    0 < cross(a, b)
+    a.y * b.x < a.x * b.y
 }
 
 // Whether p turns left from both a and b.
@@ -110,21 +123,30 @@ pub fn strictly_convex(c: &[i32]) -> bool
     ensures { λ r. ⌜ r ≡ strictlyConvex (cornersOf (now (c .entry))) ⌝ }
 {
     let first = corner_at(c, 0);
-    let mut latest = corner_at(c, 2);
-    let base = way_from(first, latest);
-    let mut seen = base;
-    let mut edge = base;
+    let base = way_from(first, corner_at(c, 2));
+    let mut seen_x = base.x;
+    let mut seen_y = base.y;
+    let mut edge_x = base.x;
+    let mut edge_y = base.y;
     let mut i = 4;
     while i < c.len() {
-        let p = corner_at(c, i);
-        let next = way_from(first, p);
-        let step = way_from(latest, p);
+        let seen = Way {
+            x: seen_x,
+            y: seen_y,
+        };
+        let edge = Way {
+            x: edge_x,
+            y: edge_y,
+        };
+        let next = way_from(first, corner_at(c, i));
+        let step = way_between(seen, next);
         if !keeps_turning(base, seen, edge, next, step) {
             return false;
         }
-        latest = p;
-        seen = next;
-        edge = step;
+        seen_x = next.x;
+        seen_y = next.y;
+        edge_x = step.x;
+        edge_y = step.y;
         i += 2;
     }
     true

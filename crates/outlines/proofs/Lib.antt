@@ -11,3 +11,5 @@ pub mod Denominators
 pub mod Refusals
 pub mod Computed
 pub mod Giving
+pub mod Reaching
+pub mod OwnCorners

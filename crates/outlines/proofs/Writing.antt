@@ -19,15 +19,13 @@ use Rattle.grid.specs.Refusals.{outputShort}
 use Rattle.grid.proofs.Fill.{Filled, filled-put}
 use Rattle.rings.specs.Lists.{All, Turned}
 use Rattle.rings.specs.Points.{Point, Proper}
-use Rattle.rings.specs.Rings.{Ring}
+use Rattle.rings.specs.Rings.{Ring, Starts}
 use Rattle.rings.proofs.Lists.{turned-length, turned-all}
 use Rattle.rings.proofs.Theorems.{start}
-use Rattle.passes.specs.Memory.{pointIn, ringFrom, ringIn}
+use Rattle.passes.specs.Memory.{pointIn, ringFrom}
 use Rattle.passes.proofs.Memories.{ring-length}
 use Rattle.outlines.specs.Outlines.{RingNumbers}
-use Rattle.outlines.specs.Workers.{LowestAt, startedAt, WroteFraction, Wrote, GaveRing}
-use Rattle.outlines.proofs.Lowest.{lowest-starts}
-use Rattle.outlines.proofs.Memory.{turned-at}
+use Rattle.outlines.specs.Workers.{WroteFraction, Wrote, GaveRing}
 use Rattle.outlines.proofs.Numbers.{numbersOf, numbers-of, numbers-length, numbers-append}
 
 -- two numbers as they are read
@@ -93,25 +91,21 @@ wrote-rest {r} {s} {out} {out₁} {ys} k e h p q =
           ∙ sym (room (xs ++ zs) out (omega (arith, length-append xs zs)));
     }
 
--- ---- a ring given into an output
-module _ (m : List ℤ) (n : ℕ) (g : Ring (ringIn m n)) where
-  -- as many numbers wherever it is started
-  four-a-corner : {s : List Point} {xs : List ℤ} → Turned (ringIn m n) s → RingNumbers s xs → length xs ≡ 4 * n
-  four-a-corner t p = numbers-length p ∙ ap (λ (k : ℕ). 4 * k) (turned-length t ∙ ring-length m 0 n)
+-- ---- a ring given into an output: n numbers, wherever it is started
+module _ {r : List Point} {n : ℕ} (g : Ring r) (four : 4 * length r ≡ n) where
+  four-a-corner : {s : List Point} {xs : List ℤ} → Turned r s → RingNumbers s xs → length xs ≡ n
+  four-a-corner t p = numbers-length p ∙ ap (λ (k : ℕ). 4 * k) (turned-length t) ∙ four
 
-  pub gave-short : {before : List ℤ} → length before < 4 * n → GaveRing (ringIn m n) (record { number = outputShort; place = 4 * n; count = 0 }) before before
+  pub gave-short : {before : List ℤ} → length before < n → GaveRing r (record { number = outputShort; place = n; count = 0 }) before before
   unfolding answered written
   gave-short {before} h =
-      let s = start (ringIn m n) g in
+      let s = start r g in
       let p = numbers-of (turned-all (s .1) (g .proper)) in
-      let e : length (numbersOf (s .0)) ≡ 4 * n = four-a-corner (s .1) p in
+      let e : length (numbersOf (s .0)) ≡ n = four-a-corner (s .1) p in
       record { corners = s .0; turned = s .1; starts = s .2; numbers = numbersOf (s .0); are = p; answer = simp (e, lt-leb _ _ h); output = simp (e, lt-leb _ _ h) }
 
-  pub gave-wrote : {k : ℕ} {before after : List ℤ} → LowestAt m n k → 4 * n ≤ length before → Wrote (startedAt m n k) before after
-      → GaveRing (ringIn m n) (record { number = 0; place = 0; count = 4 * n }) before after
+  pub gave-wrote : {s : List Point} {before after : List ℤ} → Turned r s → Starts s → n ≤ length before → Wrote s before after → GaveRing r (record { number = 0; place = 0; count = n }) before after
   unfolding answered
-  gave-wrote {k} {before} {after} l h w =
-      let below = l .inside in
-      let t : Turned (ringIn m n) (startedAt m n k) = turned-at m (omega arith) in
-      let e : length (w .numbers) ≡ 4 * n = four-a-corner t (w .are) in
-      record { corners = startedAt m n k; turned = t; starts = lowest-starts m g l; numbers = w .numbers; are = w .are; answer = simp (e, le-leb _ _ h); output = w .output }
+  gave-wrote {s} {before} {after} t b h w =
+      let e : length (w .numbers) ≡ n = four-a-corner t (w .are) in
+      record { corners = s; turned = t; starts = b; numbers = w .numbers; are = w .are; answer = simp (e, le-leb _ _ h); output = w .output }

@@ -1,26 +1,38 @@
 -- What the workers behind the outline call promise each other.
+--   Beyond w b s          no point of the rectangle b lies strictly inside the side s of the window w
 --   Decides b P           b is true exactly when P holds
 --   LowestAt m n k        of the first n corners in the memory m none comes before that at place k
 --   startedAt m n k       these corners, started at place k
 --   WroteFraction n d k before after   n/d in lowest terms is written at place k, the numerator before the denominator
 --   Wrote r before after  the numbers of the corners r are written from the front, and the rest is as it was
 --   GaveRing r a before after   the ring r, started, is given into an output: the answer a, and the output before and after
+--   cornerIn zs k         of an outline, the corner whose x stands at place k
+--   LowestPlace zs k      no corner of the outline comes before that at place k
 use mathlib.Core.Path.{_≡_}
 use mathlib.Core.Bool.{Bool, true, false}
 use mathlib.Core.List.{List, [], _∷_, _++_}
-use Prim.Native.Nat.{ℕ, _<_, _-_}
-use lib.IntN.{ℤ}
-use lib.ListN.{length}
+use Prim.Native.Nat.{ℕ, zero, suc, _+_, _-_, _%_, _<_}
+use lib.IntN.{ℤ, pos}
+use lib.ListN.{length, getD}
 use lib.Seq.{sets}
+use lib.Signed.{_≤ℤ_}
 use Rattle.fraction.specs.Fraction.{LowestOf}
 use Rattle.fraction.specs.declared.Fraction.{Fraction}
 use Rattle.grid.specs.Calls.{answered, written}
 use Rattle.grid.specs.declared.Answer.{Answer}
-use Rattle.rings.specs.Lists.{Turned}
+use Rattle.grid.specs.declared.Window.{Window}
+use Rattle.rings.specs.Lists.{All, Turned}
 use Rattle.rings.specs.Points.{Point, Before}
 use Rattle.rings.specs.Rings.{Starts}
+use Rattle.corners.specs.Corners.{gridPoint, cornersOf}
 use Rattle.passes.specs.Memory.{pointIn, ringFrom}
 use Rattle.outlines.specs.Outlines.{RingNumbers}
+
+abbrev pub Beyond : Window → Window → ℕ → Type 0
+Beyond w b zero = b .right ≤ℤ w .left
+Beyond w b (suc zero) = w .right ≤ℤ b .left
+Beyond w b (suc (suc zero)) = b .top ≤ℤ w .bottom
+Beyond w b (suc (suc (suc s))) = w .top ≤ℤ b .bottom
 
 pub record Decides (b : Bool) (P : Type 0) : Type 0 where
   pub yes : b ≡ true → P
@@ -51,3 +63,12 @@ pub record GaveRing (r : List Point) (a : Answer) (before after : List ℤ) : Ty
   pub are : RingNumbers corners numbers
   pub answer : a ≡ answered numbers (length before)
   pub output : after ≡ written numbers before
+
+-- ---- an outline that lies in the window whole
+abbrev pub cornerIn : List ℤ → ℕ → Point
+cornerIn zs k = gridPoint (getD zs k (pos 0)) (getD zs (k + 1) (pos 0))
+
+pub record LowestPlace (zs : List ℤ) (k : ℕ) : Type 0 where
+  pub even : k % 2 ≡ 0
+  pub inside : k < length zs
+  pub least : All (λ q. Before q (cornerIn zs k) → ⊥) (cornersOf zs)

@@ -13,9 +13,12 @@ ghost use Rattle.rings.specs.Lists.{All};
 ghost use Rattle.rings.specs.Points.{Proper, Before};
 ghost use Rattle.rings.specs.Rings.{Ring};
 ghost use Rattle.passes.specs.Memory.{pointIn, ringFrom, ringIn};
-ghost use Rattle.passes.specs.Outlines.{OutlineOnTable};
+ghost use Rattle.passes.specs.Outlines.{OutlineOnTable, Reaches};
 ghost use Rattle.outlines.specs.Outlines.{rightCount, outlineRefusal, Clipped, Outline};
 ghost use Rattle.outlines.specs.Workers.{Decides, LowestAt, startedAt, WroteFraction, Wrote, GaveRing};
+
+mod reach;
+mod uncut;
 
 // Whether so many numbers are an outline.
 fn right_count(n: usize) -> bool
@@ -115,7 +118,7 @@ fn write_fraction(n: i32, d: i32, out: &mut [i32], k: usize)
         out[k + 1] = d;
         return;
     }
-    let f = fraction::lowest(n as i64, d as i64);
+    let f = fraction::lowest_signed(n, d);
     let num = f.num as i32;
     let den = f.den as i32;
     out[k] = num;
@@ -179,15 +182,16 @@ fn give_ring(m: &[i32], n: usize, out: &mut [i32]) -> Answer
 }
 
 // What the passes leave of an outline, given into a lent output.
-fn clipped(w: Window, order: u32, outline: &[i32], out: &mut [i32]) -> Answer
+fn cut_by_passes(w: Window, reach: Window, order: u32, outline: &[i32], out: &mut [i32]) -> Answer
     requires { ⌜ WindowOnTable w ⌝ }
     requires { ⌜ order ≤ 23 ⌝ }
     requires { ⌜ OutlineOnTable (now outline) ⌝ }
+    requires { ⌜ Reaches (now outline) reach ⌝ }
     ensures { λ r. ⌜ Given (Clipped w order (now (outline .entry))) r (now (out .entry)) (now (out .exit)) ⌝ }
 {
     let mut a = [0i32; 272];
     let mut b = [0i32; 272];
-    let left = passes::run(w, order, outline, &mut a, &mut b);
+    let left = passes::run(w, reach, order, outline, &mut a, &mut b);
     let n = left.count;
     if n == 0 {
         return Answer {
@@ -200,6 +204,27 @@ fn clipped(w: Window, order: u32, outline: &[i32], out: &mut [i32]) -> Answer
         return give_ring(&b, n, out);
     }
     give_ring(&a, n, out)
+}
+
+// What the window leaves of an outline in which nothing is refused, the plain cases first: they need no pass.
+fn clipped(w: Window, order: u32, outline: &[i32], out: &mut [i32]) -> Answer
+    requires { ⌜ WindowOnTable w ⌝ }
+    requires { ⌜ order ≤ 23 ⌝ }
+    requires { ⌜ OutlineOnTable (now outline) ⌝ }
+    ensures { λ r. ⌜ Given (Clipped w order (now (outline .entry))) r (now (out .entry)) (now (out .exit)) ⌝ }
+{
+    let reach = reach::reach_of(outline);
+    if reach::inside(w, reach) {
+        return uncut::give_whole(outline, out);
+    }
+    if reach::apart(w, reach) {
+        return Answer {
+            number: 0,
+            place: 0,
+            count: 0,
+        };
+    }
+    cut_by_passes(w, reach, order, outline, out)
 }
 
 // What a window keeps of a strictly convex outline, cut along the window's sides in one of the 24 orders. The outline is x y x y ..,

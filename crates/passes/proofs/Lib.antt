@@ -2,6 +2,7 @@ pub mod Sides
 pub mod Orders
 pub mod Memories
 pub mod Outlines
+pub mod Reaches
 pub mod Meetings
 pub mod Walks
 pub mod Traces

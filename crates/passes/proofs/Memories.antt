@@ -7,7 +7,7 @@ use native.Mathlib.Numerals.{add-one}
 use native.Mathlib.Omega.{arith}
 use lib.IntN.{ℤ, pos}
 use lib.ListN.{length, getD, take, drop, length-append, List·getD-append}
-use lib.Seq.{sets, sets-eq, length-take-le, getD-take, getD-append-add}
+use lib.Seq.{sets, sets-eq, length-sets, length-take-le, getD-take, getD-append-add}
 use Rattle.rings.specs.Lists.{All, ∅, _◂_}
 use Rattle.rings.specs.Points.{Point}
 use Rattle.rings.specs.Rings.{at}
@@ -55,6 +55,9 @@ put-at m n p t h = record {
 
     was : (j : ℕ) → j < 4 * n → getD (putAt m n p t) j (pos 0) ≡ getD m j (pos 0)
     was j l = stored-before four m (4 * n) h j l
+
+pub put-length : (m : List ℤ) (n : ℕ) (p : Point) (t : ℤ) → length (putAt m n p t) ≡ length m
+put-length m n p t = length-sets m (4 * n) (p .X ∷ p .Y ∷ p .W ∷ t ∷ [])
 
 -- ---- the ring in a memory
 pub ring-length : (m : List ℤ) (i n : ℕ) → length (ringFrom m i n) ≡ n

@@ -1,5 +1,5 @@
 -- The corners of an outline and its edges, by their places in its list of numbers.
-use mathlib.Core.Path.{_≡_, refl, sym, ap, _∙_, subst}
+use mathlib.Core.Path.{_≡_, refl, sym, ap, _∙_, subst, transport}
 use mathlib.Core.List.{List, [], _∷_}
 use mathlib.Core.Logic.{⊎-elim, _≢_}
 use Prim.Native.Nat.{ℕ, zero, suc, _+_, _*_, _/_, _^_, _<_, _≤_}
@@ -16,7 +16,7 @@ use Rattle.grid.specs.declared.Window.{Window}
 use Rattle.grid.specs.declared.Stroke.{Stroke}
 use Rattle.grid.specs.Table.{strokeAt, WindowOnTable, StrokeOnTable}
 use Rattle.rings.specs.Lists.{All, ∅, _◂_}
-use Rattle.rings.specs.Points.{through, Real, Proper}
+use Rattle.rings.specs.Points.{Point, through, Real, Proper}
 use Rattle.rings.specs.Rings.{at, Edge, along, closing, Ring}
 use Rattle.corners.specs.Corners.{gridPoint, cornersOf, next}
 use Rattle.passes.specs.Outlines.{OutlineOnTable}
@@ -64,6 +64,18 @@ corner-at (x ∷ y ∷ zs) (suc k) h =
     let e : 2 * suc k ≡ suc (suc (2 * k)) = omega arith in
     let f : 2 * suc k + 1 ≡ suc (suc (2 * k + 1)) = omega arith in
     corner-at zs k (omega arith) ∙ sym (λ i. gridPoint (getD (x ∷ y ∷ zs) (e i) (pos 0)) (getD (x ∷ y ∷ zs) (f i) (pos 0)))
+
+pub corners-all : {P : Point → Type 0} (zs : List ℤ) → ((k : ℕ) → k < length zs / 2 → P (gridPoint (getD zs (2 * k) (pos 0)) (getD zs (2 * k + 1) (pos 0)))) → All P (cornersOf zs)
+unfolding cornersOf
+corners-all [] f = ∅
+corners-all (x ∷ []) f = ∅
+corners-all {P} (x ∷ y ∷ zs) f =
+    f 0 (omega arith)
+    ◂ corners-all zs
+    (λ k h.
+    let e : 2 * suc k ≡ suc (suc (2 * k)) = omega arith in
+    let g : 2 * suc k + 1 ≡ suc (suc (2 * k + 1)) = omega arith in
+    transport (λ i. P (gridPoint (getD (x ∷ y ∷ zs) (e i) (pos 0)) (getD (x ∷ y ∷ zs) (g i) (pos 0)))) (f (suc k) (omega arith)))
 
 -- ---- each line that a tag names is that of a stroke on the table, and real
 corners-proper : (zs : List ℤ) → All Proper (cornersOf zs)

@@ -1,4 +1,4 @@
--- The outline's own corners are a ring in memory; each pass leaves a ring of at most one corner more, which the remaining passes go on from, or no area.
+-- The outline's own corners are a ring in memory; each pass leaves a ring of at most one corner more, which the remaining passes go on from, or no area; a side that is clear leaves the ring as it is.
 use mathlib.Core.Path.{_≡_, sym, ap, _∙_, subst, transport}
 use mathlib.Core.List.{List, [], _∷_}
 use mathlib.Core.Option.{Option, none, some}
@@ -13,7 +13,8 @@ use Rattle.whole.proofs.Polynomials.{ring}
 use Rattle.whole.proofs.Order.{zarith}
 use Rattle.whole.proofs.Ranges.{within-up}
 use Rattle.grid.specs.declared.Window.{Window}
-use Rattle.rings.specs.Points.{Point, Line, value, through, On}
+use Rattle.rings.specs.Lists.{All}
+use Rattle.rings.specs.Points.{Point, Line, value, through, In, On}
 use Rattle.rings.specs.Rings.{nowhere, at, Ring, Edge}
 use Rattle.rings.specs.Cuts.{OneCut, Cuts, no-more, cut, gone}
 use Rattle.rings.proofs.Plane.{corners, det-of, nought}
@@ -21,7 +22,7 @@ use Rattle.rings.proofs.Theorems.{one-cut}
 use Rattle.corners.specs.Corners.{cornersOf}
 use Rattle.passes.specs.Memory.{pointIn, ringIn, Small}
 use Rattle.passes.specs.Orders.{sideLine, sidesIn, linesIn}
-use Rattle.passes.specs.Outlines.{OutlineOnTable}
+use Rattle.passes.specs.Outlines.{OutlineOnTable, Reaches, Clear}
 use Rattle.passes.specs.Tags.{edgeOf, tagIn, Names, edge, Lies, Loaded}
 use Rattle.passes.specs.Passes.{Held, Passed, heldBy, Ran, area}
 use Rattle.passes.specs.declared.Left.{Left}
@@ -29,6 +30,8 @@ use Rattle.passes.proofs.Sides.{side-line-real}
 use Rattle.passes.proofs.Orders.{lines-length, lines-from}
 use Rattle.passes.proofs.Memories.{ring-length, ring-at}
 use Rattle.passes.proofs.Outlines.{corner-count, corner-at, edge-from, edge-below, edge-line, outline-ring}
+use Rattle.passes.proofs.Reaches.{clear-in, cut-in}
+use Rattle.passes.proofs.Walks.{cut-nothing}
 
 -- ---- a line holds the two points that it joins
 joins-start : (a b : Point) → On (through a b) a
@@ -70,16 +73,26 @@ module _ {zs m : List ℤ} (o : OutlineOnTable zs) (l : Loaded zs m (length zs /
 pub pass-one-cut : {w : Window} {zs : List ℤ} {s : ℕ} {m : List ℤ} {n : ℕ} {m′ : List ℤ} {n′ : ℕ} → Held w zs m n → Passed w zs s m n m′ n′ → OneCut (sideLine w s) (ringIn m n) (ringIn m′ n′)
 pass-one-cut {w} {s = s} h p = one-cut (side-line-real w s) (h .ring) (p .cut)
 
--- ---- the passes in turn: k of them have left n corners in m, and what the others leave of these, all leave of the outline
-pub record Running (w : Window) (o : ℕ) (zs m : List ℤ) (n k : ℕ) : Type 0 where
+-- ---- the passes in turn: k of them have left n corners in m, which lie inside each side that is clear, and what the others leave of these, all leave of the outline
+pub record Running (w b : Window) (o : ℕ) (zs m : List ℤ) (n k : ℕ) : Type 0 where
   pub held : Held w zs m n
+  pub clear : (s : ℕ) → Clear w b s → All (In (sideLine w s)) (ringIn m n)
   pub few : n ≤ length zs / 2 + k
   pub so-far : (r : Option (List Point)) → Cuts (drop k (linesIn o w)) (ringIn m n) r → Cuts (linesIn o w) (cornersOf zs) r
 
-pub run-begun : {w : Window} {o : ℕ} {zs m : List ℤ} → OutlineOnTable zs → Loaded zs m (length zs / 2) → 256 ≤ length m → Running w o zs m (length zs / 2) 0
-run-begun {w} {o} t l h = record { held = loaded-held t l w h; few = omega arith; so-far = λ r c. subst (λ (q : List Point). Cuts (linesIn o w) q r) (ring-loaded t l) c }
+pub run-begun : {w b : Window} {o : ℕ} {zs m : List ℤ} → OutlineOnTable zs → Reaches zs b → Loaded zs m (length zs / 2) → 256 ≤ length m → Running w b o zs m (length zs / 2) 0
+run-begun {w} {b} {o} t r l h = record {
+  held = loaded-held t l w h;
+  clear = λ s c. subst (All (In (sideLine w s))) (sym (ring-loaded t l)) (clear-in w s r c);
+  few = omega arith;
+  so-far = λ r c. subst (λ (q : List Point). Cuts (linesIn o w) q r) (ring-loaded t l) c;
+}
 
-module _ {w : Window} {o : ℕ} {zs m m′ : List ℤ} {n n′ k s : ℕ} (ho : o ≤ 23) (hk : k < 4) (is : s ≡ getD (sidesIn o) k 0) (p : Passed w zs s m n m′ n′) (r : Running w o zs m n k) where
+-- a side that is clear leaves the ring as it is
+pub passed-over : {w b : Window} {o : ℕ} {zs m : List ℤ} {n k : ℕ} (s : ℕ) → Clear w b s → Running w b o zs m n k → Passed w zs s m n m n
+passed-over s c r = record { cut = cut-nothing (r .clear s c); traced = r .held .traced }
+
+module _ {w b : Window} {o : ℕ} {zs m m′ : List ℤ} {n n′ k s : ℕ} (ho : o ≤ 23) (hk : k < 4) (is : s ≡ getD (sidesIn o) k 0) (p : Passed w zs s m n m′ n′) (r : Running w b o zs m n k) where
   -- the lines from the k-th on
   lines : drop k (linesIn o w) ≡ sideLine w s ∷ drop (suc k) (linesIn o w)
   lines = lines-from o w ho k hk ∙ ap (λ (j : ℕ). sideLine w j ∷ drop (suc k) (linesIn o w)) (sym is)
@@ -90,19 +103,20 @@ module _ {w : Window} {o : ℕ} {zs m m′ : List ℤ} {n n′ k s : ℕ} (ho : 
   pub run-gone : n′ < 3 → Cuts (linesIn o w) (cornersOf zs) none
   run-gone h = goes-on none (gone (p .cut) (omega (arith, ring-length m′ 0 n′)))
 
-  pub run-more : 3 ≤ n′ → length zs ≤ 128 → 272 ≤ length m′ → Running w o zs m′ n′ (k + 1)
+  pub run-more : 3 ≤ n′ → length zs ≤ 128 → 272 ≤ length m′ → Running w b o zs m′ n′ (k + 1)
   run-more h few size =
       let c = pass-one-cut (r .held) p in
       let l : 3 ≤ length (ringIn m′ n′) = omega (arith, ring-length m′ 0 n′) in
       let count : n′ ≤ length zs / 2 + (k + 1) = omega (arith, c .short, ring-length m′ 0 n′, ring-length m 0 n, r .few) in
       record {
         held = record { room = omega arith; ring = c .ring l; traced = p .traced };
+        clear = λ j f. cut-in (sideLine w j) (side-line-real w s) (r .held .ring) (p .cut) l (r .clear j f);
         few = count;
         so-far = λ q d. goes-on q (cut (p .cut) l (subst (λ (j : ℕ). Cuts (drop j (linesIn o w)) (ringIn m′ n′) q) (add-one k) d));
       }
 
-pub run-ended : {w : Window} {o : ℕ} {zs a b : List ℤ} {l : Left} → o ≤ 23 → Running w o zs (heldBy l a b) (l .count) 4 → Ran w o zs a b l
-run-ended {w} {o} {zs} {a} {b} {l} h r =
+pub run-ended : {w reach : Window} {o : ℕ} {zs a b : List ℤ} {l : Left} → o ≤ 23 → Running w reach o zs (heldBy l a b) (l .count) 4 → Ran w o zs a b l
+run-ended {w} {reach} {o} {zs} {a} {b} {l} h r =
     let m = heldBy l a b in
     let end : drop 4 (linesIn o w) ≡ [] = drop-of-length-le (linesIn o w) {i = 4} (omega (arith, lines-length o w h)) in
     area (omega (arith, r .held .ring .three, ring-length m 0 (l .count))) (omega (arith, r .few, corner-count zs))

@@ -2,7 +2,7 @@
 use mathlib.Core.Path.{_≡_, sym, ap, _∙_, subst, transport}
 use mathlib.Core.List.{List, [], _∷_, _++_, append-nil, append-assoc}
 use mathlib.Core.Logic.{⊎-elim}
-use Prim.Native.Nat.{ℕ, suc, _+_, _*_, _-_, _<_, _≤_}
+use Prim.Native.Nat.{ℕ, suc, _+_, _-_, _<_, _≤_}
 use native.Mathlib.Nat.{eq-or-lt-of-le}
 use native.Mathlib.Numerals.{add-one}
 use native.Mathlib.Omega.{arith}
@@ -10,7 +10,6 @@ use borrow.Author.Tests.{lt-ltb, le-ltb}
 use lib.Dec.{ltb}
 use lib.IntN.{ℤ, pos, natAbs}
 use lib.ListN.{length}
-use lib.Seq.{length-sets}
 use Rattle.whole.specs.Choice.{if_then_else_}
 use Rattle.whole.proofs.Order.{zarith, <→≤, ≡→≤, ≤-total, ≤-antisym}
 use Rattle.grid.specs.declared.Window.{Window}
@@ -26,7 +25,7 @@ use Rattle.passes.specs.Tags.{tagIn, lineOf, edgeOf, sideOf, Names, edge
 use Rattle.passes.specs.Steps.{Meets, Meeting, putAt, Room, Step, stays-out, comes-in, stays-in, leaves-line, goes-out}
 use Rattle.passes.specs.Passes.{Passed}
 use Rattle.passes.proofs.Sides.{side-on}
-use Rattle.passes.proofs.Memories.{Put, put-at, ring-put}
+use Rattle.passes.proofs.Memories.{Put, put-at, put-length, ring-put}
 use Rattle.passes.proofs.Outlines.{named-real}
 use Rattle.passes.proofs.Meetings.{not-along}
 use Rattle.passes.proofs.Walks.{not-across, Opens, opens, pass-opens, SoFar, begun, passed, so-far-more, so-far-cut}
@@ -156,8 +155,7 @@ module _ {w : Window} {zs : List ℤ} {s : ℕ} (g : Job w zs s) where
         let first = putAt dst n (pointIn src i) (tagIn src i) in
         let second = putAt first (n + 1) p (pos (64 + s)) in
         let c = put-at dst n (pointIn src i) (tagIn src i) (r .kept (<→≤ a)) in
-        let size : length first ≡ length dst = length-sets dst (4 * n) (pointIn src i .X ∷ pointIn src i .Y ∷ pointIn src i .W ∷ tagIn src i ∷ []) in
-        let d = subst (λ (j : ℕ). Put first second j p (pos (64 + s))) (add-one n) (put-at first (n + 1) p (pos (64 + s)) (omega (arith, r .leaves a b, size))) in
+        let d = subst (λ (j : ℕ). Put first second j p (pos (64 + s))) (add-one n) (put-at first (n + 1) p (pos (64 + s)) (omega (arith, r .leaves a b, put-length dst n (pointIn src i) (tagIn src i)))) in
         let two : suc (suc n) ≡ n + 2 = omega arith in
         subst (Walking w zs s src (suc i) v second) two (record {
           so-far =

@@ -1,11 +1,14 @@
 -- What the passes are given: outlines that no call refuses, and a window's side to cut along.
 --   OutlineOnTable zs   zs is x and y of 3 to 64 corners, all on the table, in strictly convex order
+--   Reaches zs b        every corner of the outline zs lies in the rectangle b
+--   Clear w b s         no point of the rectangle b lies outside the side s of the window w
 --   Job w zs s          a window and an outline on the table, and one of the window's four sides
 use mathlib.Core.Path.{_≡_}
 use mathlib.Core.List.{List}
-use Prim.Native.Nat.{ℕ, _%_, _<_, _≤_}
+use Prim.Native.Nat.{ℕ, zero, suc, _+_, _*_, _/_, _%_, _<_, _≤_}
 use lib.IntN.{ℤ, pos}
 use lib.ListN.{length, getD}
+use lib.Signed.{_≤ℤ_}
 use Rattle.whole.specs.Within.{Within}
 use Rattle.grid.specs.declared.Window.{Window}
 use Rattle.grid.specs.Table.{farthest, WindowOnTable}
@@ -18,6 +21,18 @@ pub record OutlineOnTable (zs : List ℤ) : Type 0 where
   pub few : length zs ≤ 128
   pub on : (k : ℕ) → k < length zs → Within farthest (getD zs k (pos 0))
   pub convex : StrictlyConvex (cornersOf zs)
+
+pub record Reaches (zs : List ℤ) (b : Window) : Type 0 where
+  pub left : (k : ℕ) → k < length zs / 2 → b .left ≤ℤ getD zs (2 * k) (pos 0)
+  pub right : (k : ℕ) → k < length zs / 2 → getD zs (2 * k) (pos 0) ≤ℤ b .right
+  pub bottom : (k : ℕ) → k < length zs / 2 → b .bottom ≤ℤ getD zs (2 * k + 1) (pos 0)
+  pub top : (k : ℕ) → k < length zs / 2 → getD zs (2 * k + 1) (pos 0) ≤ℤ b .top
+
+abbrev pub Clear : Window → Window → ℕ → Type 0
+Clear w b zero = w .left ≤ℤ b .left
+Clear w b (suc zero) = b .right ≤ℤ w .right
+Clear w b (suc (suc zero)) = w .bottom ≤ℤ b .bottom
+Clear w b (suc (suc (suc s))) = b .top ≤ℤ w .top
 
 pub record Job (w : Window) (zs : List ℤ) (s : ℕ) : Type 0 where
   pub window : WindowOnTable w

@@ -4,15 +4,15 @@ use grid::Window;
 ghost use mathlib.Core.Path.{_≡_};
 ghost use mathlib.Core.Bool.{true};
 ghost use Prim.Native.Nat.{ℕ, _+_, _*_, _/_, _%_, _<_, _≤_};
+ghost use lib.IntN.{pos, _-ℤ_, _*ℤ_};
 ghost use lib.ListN.{length, getD};
 ghost use Rattle.whole.specs.Within.{Within};
 ghost use Rattle.grid.specs.Table.{farthest, WindowOnTable, StrokeOnTable};
-ghost use Rattle.rings.specs.Points.{value, In};
 ghost use Rattle.rings.specs.Windows.{«left-side»};
 ghost use Rattle.passes.specs.Memory.{pointIn, Small};
-ghost use Rattle.passes.specs.Orders.{sideLine, sidesIn};
-ghost use Rattle.passes.specs.Outlines.{OutlineOnTable, Job};
-ghost use Rattle.passes.specs.Tags.{stroke, numberOf, edgeOf, tagIn, Names, Named, Loaded};
+ghost use Rattle.passes.specs.Orders.{sidesIn};
+ghost use Rattle.passes.specs.Outlines.{OutlineOnTable, Reaches, Clear, Job};
+ghost use Rattle.passes.specs.Tags.{stroke, numberOf, signOf, edgeOf, tagIn, Names, Named, Loaded};
 ghost use Rattle.passes.specs.Steps.{pointOf, Meets, Meeting, putAt, Room, Step};
 ghost use Rattle.passes.specs.Passes.{Held, Passed, heldBy, Ran};
 
@@ -57,39 +57,43 @@ fn number(w: Window, side: usize) -> i32
     w.top
 }
 
-// The value of a side's line at the corner i: positive inside, 0 on the line, negative outside.
-fn value_at(w: Window, side: usize, m: &[i32], i: usize) -> i32
-    requires { ⌜ WindowOnTable w ⌝ }
+// 1 for a side that the window lies above, -1 for one that it lies below.
+fn sign_of(side: usize) -> i32
     requires { ⌜ side < 4 ⌝ }
-    requires { ⌜ 4 * i + 4 ≤ length (now m) ⌝ }
-    requires { ⌜ Small (pointIn (now m) i) ⌝ }
-    ensures { λ r. ⌜ r ≡ value (sideLine w side) (pointIn (now (m .entry)) i) ⌝ }
+    ensures { λ r. ⌜ r ≡ signOf side ⌝ }
 {
-    let at = 4 * i;
-    let line = number(w, side) * m[at + 2];
-    let z = m[at + side / 2];
     if side % 2 == 0 {
-        return z - line;
+        return 1;
     }
-    line - z
+    -1
 }
 
-// Whether a side cuts nothing off.
-fn inside(w: Window, side: usize, m: &[i32], n: usize) -> bool
-    requires { ⌜ WindowOnTable w ⌝ }
-    requires { ⌜ side < 4 ⌝ }
-    requires { ⌜ 4 * n ≤ length (now m) ⌝ }
-    requires { ⌜ ((i : ℕ) → i < n → Small (pointIn (now m) i)) ⌝ }
-    ensures { λ r. ⌜ (r ≡ true → (i : ℕ) → i < n → In (sideLine w side) (pointIn (now (m .entry)) i)) ⌝ }
+// Whether a side is clear of a rectangle: none of its points lies outside.
+fn clear(w: Window, side: usize, reach: Window) -> bool
+    ensures { λ r. ⌜ (r ≡ true → Clear w reach side) ⌝ }
 {
-    let mut i = 0;
-    while i < n {
-        if value_at(w, side, m, i) < 0 {
-            return false;
-        }
-        i += 1;
+    if side == 0 {
+        return w.left <= reach.left;
     }
-    true
+    if side == 1 {
+        return reach.right <= w.right;
+    }
+    if side == 2 {
+        return w.bottom <= reach.bottom;
+    }
+    reach.top <= w.top
+}
+
+// The value of a side's line at the corner i: positive inside, 0 on the line, negative outside.
+// It is sign times X, or Y where axis is 1, less c times the denominator.
+fn value_at(sign: i32, axis: usize, c: i32, m: &[i32], i: usize) -> i32
+    requires { ⌜ (Within 1 sign) × (axis < 2) × (Within farthest c) ⌝ }
+    requires { ⌜ 4 * i + 4 ≤ length (now m) ⌝ }
+    requires { ⌜ Small (pointIn (now m) i) ⌝ }
+    ensures { λ r. ⌜ r ≡ sign *ℤ getD (now (m .entry)) (4 * i + axis) (pos 0) -ℤ c *ℤ getD (now (m .entry)) (4 * i + 2) (pos 0) ⌝ }
+{
+    let at = 4 * i;
+    sign * m[at + axis] - c * m[at + 2]
 }
 
 // The outline's edge from its corner k to the next.
@@ -247,20 +251,51 @@ fn step(
     n + 2
 }
 
+// Copies the corner i with its tag to the place n of another memory.
+fn copy(src: &[i32], i: usize, dst: &mut [i32], n: usize)
+    requires { ⌜ 4 * i + 4 ≤ length (now src) ⌝ }
+    requires { ⌜ 4 * n + 4 ≤ length (now dst) ⌝ }
+    ensures { λ _. ⌜ now (dst .exit) ≡ putAt (now (dst .entry)) n (pointIn (now (src .entry)) i) (tagIn (now (src .entry)) i) ⌝ }
+{
+    let from = 4 * i;
+    let to = 4 * n;
+    let x = src[from];
+    let y = src[from + 1];
+    let den = src[from + 2];
+    let tag = src[from + 3];
+    dst[to] = x;
+    dst[to + 1] = y;
+    dst[to + 2] = den;
+    dst[to + 3] = tag;
+}
+
 // One pass: what a side leaves of n corners, from one memory into another. Each corner's value is computed once.
+// From a corner to one on the same side of the line the first is copied or left out; only the others take a step.
 fn cut(w: Window, side: usize, outline: &[i32], src: &[i32], n: usize, dst: &mut [i32]) -> usize
     requires { ⌜ Job w (now outline) side ⌝ }
     requires { ⌜ Held w (now outline) (now src) n ⌝ }
     requires { ⌜ 4 * n + 4 ≤ length (now dst) ⌝ }
     ensures { λ r. ⌜ Passed w (now (outline .entry)) side (now (src .entry)) n (now (dst .exit)) r ⌝ }
 {
-    let first = value_at(w, side, src, 0);
+    let sign = sign_of(side);
+    let axis = side / 2;
+    let c = sign * number(w, side);
+    let first = value_at(sign, axis, c, src, 0);
     let mut here = first;
     let mut count = 0;
     let mut i = 0;
     while i + 1 < n {
-        let there = value_at(w, side, src, i + 1);
-        count = step(w, side, outline, src, i, here, there, dst, count);
+        let there = value_at(sign, axis, c, src, i + 1);
+        if there < 0 {
+            if 0 <= here {
+                count = step(w, side, outline, src, i, here, there, dst, count);
+            }
+        } else if here < 0 {
+            count = step(w, side, outline, src, i, here, there, dst, count);
+        } else {
+            copy(src, i, dst, count);
+            count += 1;
+        }
         here = there;
         i += 1;
     }
@@ -286,7 +321,7 @@ fn load(outline: &[i32], m: &mut [i32])
     }
 }
 
-// One pass along a side, from the memory that holds the ring into the other, or none where it cuts nothing off.
+// One pass along a side, from the memory that holds the ring into the other.
 fn pass(w: Window, side: usize, outline: &[i32], a: &mut [i32], b: &mut [i32], l: Left) -> Left
     requires { ⌜ Job w (now outline) side ⌝ }
     requires { ⌜ l .count ≤ 67 ⌝ }
@@ -296,16 +331,10 @@ fn pass(w: Window, side: usize, outline: &[i32], a: &mut [i32], b: &mut [i32], l
 {
     let n = l.count;
     if l.second {
-        if inside(w, side, b, n) {
-            return l;
-        }
         return Left {
             count: cut(w, side, outline, b, n, a),
             second: false,
         };
-    }
-    if inside(w, side, a, n) {
-        return l;
     }
     Left {
         count: cut(w, side, outline, a, n, b),
@@ -314,10 +343,19 @@ fn pass(w: Window, side: usize, outline: &[i32], a: &mut [i32], b: &mut [i32], l
 }
 
 // What a window leaves of an outline, cut along its sides in the order given: a ring in one of two memories, or nothing.
-pub fn run(w: Window, order: u32, outline: &[i32], a: &mut [i32], b: &mut [i32]) -> Left
+// A side clear of the rectangle that the outline lies in cuts nothing off.
+pub fn run(
+    w: Window,
+    reach: Window,
+    order: u32,
+    outline: &[i32],
+    a: &mut [i32],
+    b: &mut [i32],
+) -> Left
     requires { ⌜ WindowOnTable w ⌝ }
     requires { ⌜ order ≤ 23 ⌝ }
     requires { ⌜ OutlineOnTable (now outline) ⌝ }
+    requires { ⌜ Reaches (now outline) reach ⌝ }
     requires { ⌜ (272 ≤ length (now a)) × (272 ≤ length (now b)) ⌝ }
     ensures { λ r. ⌜ Ran w order (now (outline .entry)) (now (a .exit)) (now (b .exit)) r ⌝ }
 {
@@ -328,12 +366,15 @@ pub fn run(w: Window, order: u32, outline: &[i32], a: &mut [i32], b: &mut [i32])
     };
     let mut k: usize = 0;
     while k < 4 {
-        l = pass(w, side_at(order, k), outline, a, b, l);
-        if l.count < 3 {
-            return Left {
-                count: 0,
-                second: false,
-            };
+        let side = side_at(order, k);
+        if !clear(w, side, reach) {
+            l = pass(w, side, outline, a, b, l);
+            if l.count < 3 {
+                return Left {
+                    count: 0,
+                    second: false,
+                };
+            }
         }
         k += 1;
     }

@@ -1,22 +1,31 @@
 -- `corners::strictly_convex` meets its contract: the loop has found every corner so far turning left, `Walked`. Assumes nothing.
-use mathlib.Core.Path.{_≡_, sym, ap, _∙_}
+use mathlib.Core.Path.{_≡_, sym, ap, _∙_, subst, transport}
 use Prim.Native.Nat.{_+_, _-_, _<_}
 use native.Mathlib.Omega.{arith}
 use borrow.Author.Tests.{not-true, not-false}
 use denote.Ref.{now}
 use lib.ListN.{length}
-use Rattle.corners.specs.Workers.{CornersOnTable, CornerOnTable, cornerAt, wayFrom}
+use mir.Syntax.{w32}
+use mir.Val.{toZ, ofZ}
+use mir.Facts.{toZ-ofZ}
+use Rattle.whole.proofs.Ranges.{within-abs, fits-abs}
+use Rattle.corners.specs.Workers.{CornerOnTable, Short, cornerAt, wayFrom, wayBetween, keepsTurning}
 use Rattle.corners.specs.declared.Corner.{Corner}
+use Rattle.corners.specs.declared.Way.{Way}
 use Rattle.corners.proofs.Places.{read-on}
-use Rattle.corners.proofs.Walking.{Walked, walked-start, latest-on, Turn, not-turning, walked-more, walked-end}
+use Rattle.corners.proofs.Walking.{Walked, walked-start, Turn, step-short, not-turning, walked-more, walked-end}
 use Rattle.corners.proofs.strictly_convex.Statement.{statement}
 use Rattle.corners.proofs.strictly_convex.Tie as tie
 
 abbrev Inv-loop : tie.InvT-loop
-Inv-loop c first latest₀ base seen₀ edge₀ i₀ latest seen edge i = Walked c latest seen edge i
+Inv-loop c first base sx₀ sy₀ ex₀ ey₀ i₀ sx sy ex ey i = Walked c (record { x = toZ w32 sx; y = toZ w32 sy }) (record { x = toZ w32 ex; y = toZ w32 ey }) i
 
 abbrev μ-loop : tie.MeasureT-loop
-μ-loop c first latest₀ base seen₀ edge₀ i₀ latest seen edge i = length c - i
+μ-loop c first base sx₀ sy₀ ex₀ ey₀ i₀ sx sy ex ey i = length c - i
+
+-- a way that is kept in two variables is read back as it was
+way-back : (w : Way) → Short w → record { x = toZ w32 (ofZ w32 (w .x)); y = toZ w32 (ofZ w32 (w .y)) } ≡ w
+way-back w h = λ i. record { x = toZ-ofZ {w = w32} {z = w .x} (fits-abs (omega (arith, within-abs (h .x)))) i; y = toZ-ofZ {w = w32} {z = w .y} (fits-abs (omega (arith, within-abs (h .y)))) i }
 
 corner-at-requires : tie.Need-corner-at-requires Inv-loop μ-loop
 corner-at-requires c κs = omega (arith, c .pre .three)
@@ -32,65 +41,90 @@ based : (c : tie.After-way-from Inv-loop μ-loop) → c .way-from .result ≡ wa
 based c = c .way-from .ensures .0 ∙ (λ i. wayFrom (c .before .before .corner-at .ensures i) (c .before .corner-at2 .ensures i))
 
 loop-holds : tie.Need-loop-holds Inv-loop μ-loop
-loop-holds c = walked-start (c .before .before .before .pre) (c .before .corner-at2 .ensures) (based c) (c .way-from .ensures .1)
+loop-holds c =
+    let a = c .before .before .before .before in
+    let b = sym (way-back (a .way-from .result) (a .way-from .ensures .1)) in
+    subst (λ (v : Way). Walked (now (a .before .before .before .args .c)) v v 4) b (walked-start (a .before .before .before .pre) (based a) (a .way-from .ensures .1))
 
--- the corner that is read, at i
-within : (c : tie.In-loop Inv-loop μ-loop) → c .before .loop .i + 1 < length (now (c .before .before .before .before .before .args .c))
-within c = let w = c .before .loop .inv in omega (arith, c .loop-test .taken, w .place, c .before .before .before .before .before .pre .even)
+-- ---- one round of the loop
+module _ (c : tie.In-loop Inv-loop μ-loop) where
+  abbrev first-edge : tie.After-way-from Inv-loop μ-loop
+  first-edge = c .before .before .before .before .before .before
 
-p-on : (c : tie.After-corner-at3 Inv-loop μ-loop) → CornerOnTable (c .corner-at3 .result)
-p-on c = read-on (c .before .before .before .before .before .before .pre) (c .before .before .loop .i) (within (c .before)) (c .corner-at3 .ensures)
+  abbrev start : tie.Start Inv-loop μ-loop
+  start = first-edge .before .before .before
 
-first-on : (c : tie.After-way-from Inv-loop μ-loop) → CornerOnTable (c .before .before .corner-at .result)
-first-on c = let g = c .before .before .before .pre in read-on g 0 (omega (arith, g .three)) (c .before .before .corner-at .ensures)
+  -- the corner that is read, at i
+  within : c .before .loop .i + 1 < length (now (start .args .c))
+  within = omega (arith, c .loop-test .taken, c .before .loop .inv .place, start .pre .even)
+
+  first-on : CornerOnTable (first-edge .before .before .corner-at .result)
+  first-on = read-on (start .pre) 0 (omega (arith, start .pre .three)) (first-edge .before .before .corner-at .ensures)
 
 corner-at-requires-3 : tie.Need-corner-at-requires-3 Inv-loop μ-loop
 corner-at-requires-3 c κs = within c
 
 way-from-requires-2 : tie.Need-way-from-requires-2 Inv-loop μ-loop
-way-from-requires-2 c κs = (first-on (c .before .before .before), p-on c)
+way-from-requires-2 c κs = let l = c .before in (first-on l, read-on (start l .pre) (l .before .loop .i) (within l) (c .corner-at3 .ensures))
 
-way-from-requires-3 : tie.Need-way-from-requires-3 Inv-loop μ-loop
-way-from-requires-3 c κs = let l = c .before in (latest-on (l .before .before .before .before .before .before .pre) (l .before .before .loop .inv), p-on l)
+way-between-requires : tie.Need-way-between-requires Inv-loop μ-loop
+way-between-requires c κs = (c .before .before .before .loop .inv .seen-short, c .way-from2 .ensures .1)
+
+-- what the test of a turn is about
+turn : (c : tie.After-way-from2 Inv-loop μ-loop) → let l = c .before .before in
+    Turn (now (start l .args .c)) (record { x = toZ w32 (l .before .loop .seen-x); y = toZ w32 (l .before .loop .seen-y) }) (record { x = toZ w32 (l .before .loop .edge-x); y = toZ w32 (l .before .loop .edge-y) }) (l .before .loop .i) (first-edge l .way-from .result) (c .before .corner-at3 .result) (c .way-from2 .result)
+turn c =
+    let l = c .before .before in record {
+      walked = l .before .loop .inv;
+      more = l .loop-test .taken;
+      base-is = based (first-edge l);
+      p-is = c .before .corner-at3 .ensures;
+      next-is = c .way-from2 .ensures .0 ∙ ap (λ (q : Corner). wayFrom q (c .before .corner-at3 .result)) (first-edge l .before .before .corner-at .ensures);
+      next-short = c .way-from2 .ensures .1;
+    }
+
+stepped-short : (c : tie.After-way-between Inv-loop μ-loop) → Short (c .way-between .result)
+stepped-short c = subst Short (sym (c .way-between .ensures)) (step-short (start (c .before .before .before) .pre) (turn (c .before)))
 
 keeps-turning-requires : tie.Need-keeps-turning-requires Inv-loop μ-loop
 keeps-turning-requires c κs =
-    let l = c .before .before .before .before in
-    (l .before .way-from .ensures .1, (l .loop .inv .seen-short, (l .loop .inv .edge-short, (c .before .way-from2 .ensures .1, c .way-from3 .ensures .1))))
-
--- what the test of a turn is about
-turn : (c : tie.After-way-from3 Inv-loop μ-loop) → let l = c .before .before .before in
-    Turn (now (l .before .before .before .before .before .args .c)) (l .before .loop .latest) (l .before .loop .seen) (l .before .loop .edge) (l .before .loop .i) (l .before .before .way-from .result) (c .before .before .corner-at3 .result) (c .before .way-from2 .result) (c .way-from3 .result)
-turn c =
     let l = c .before .before .before in
-    let a = l .before .before in record {
-      walked = l .before .loop .inv;
-      more = l .loop-test .taken;
-      base-is = based a;
-      p-is = c .before .before .corner-at3 .ensures;
-      next-is = c .before .way-from2 .ensures .0 ∙ ap (λ (q : Corner). wayFrom q (c .before .before .corner-at3 .result)) (a .before .before .corner-at .ensures);
-      next-short = c .before .way-from2 .ensures .1;
-      step-is = c .way-from3 .ensures .0;
-      step-short = c .way-from3 .ensures .1;
-    }
+    (first-edge l .way-from .ensures .1, (l .before .loop .inv .seen-short, (l .before .loop .inv .edge-short, (c .before .way-from2 .ensures .1, stepped-short c))))
 
-table : (c : tie.After-way-from3 Inv-loop μ-loop) → CornersOnTable (now (c .before .before .before .before .before .before .before .before .args .c))
-table c = c .before .before .before .before .before .before .before .before .pre
+-- the test, of the step as it is
+tested : (c : tie.After-keeps-turning Inv-loop μ-loop) → let b = c .before in let l = b .before .before .before in
+    c .keeps-turning .result ≡ keepsTurning (first-edge l .way-from .result) (record { x = toZ w32 (l .before .loop .seen-x); y = toZ w32 (l .before .loop .seen-y) }) (record { x = toZ w32 (l .before .loop .edge-x); y = toZ w32 (l .before .loop .edge-y) }) (b .before .way-from2 .result) (wayBetween (record { x = toZ w32 (l .before .loop .seen-x); y = toZ w32 (l .before .loop .seen-y) }) (b .before .way-from2 .result))
+tested c = c .keeps-turning .ensures ∙ ap (keepsTurning _ _ _ _) (c .before .way-between .ensures)
 
 returns : tie.Need-returns Inv-loop μ-loop
-returns c = let d = c .before .before in sym (not-turning (table d) (turn d) (sym (c .before .keeps-turning .ensures) ∙ not-true _ (c .if1 .taken)))
+returns c = let t = c .before in let b = t .before .before in sym (not-turning (start (b .before .before) .pre) (turn b) (sym (tested t) ∙ not-true _ (c .if1 .taken)))
+
+-- ---- on to the next round
+module _ (c : tie.After-struct-told8 Inv-loop μ-loop) where
+  abbrev test : tie.After-keeps-turning Inv-loop μ-loop
+  test = c .before .before .before .before .before
+
+  abbrev round : tie.In-loop Inv-loop μ-loop
+  round = test .before .before .before .before
 
 add-i : tie.Need-add-i Inv-loop μ-loop
-add-i c = let l = c .before .before .before .before .before in omega (arith, within l, l .before .before .before .before .before .good)
+add-i c = omega (arith, within (round c), start (round c) .good)
 
 loop-less : tie.Need-loop-less Inv-loop μ-loop
-loop-less c = omega (arith, within (c .before .before .before .before .before))
+loop-less c = omega (arith, within (round c))
 
 loop-again : tie.Need-loop-again Inv-loop μ-loop
-loop-again c = let d = c .before .before in walked-more (table d) (turn d) (sym (c .before .keeps-turning .ensures) ∙ not-false _ (c .if1 .left))
+loop-again c =
+    let t = test c in
+    let b = t .before in
+    let s = start (round c) in
+    let w = walked-more (s .pre) (turn (b .before)) (sym (tested t) ∙ not-false _ (c .before .before .before .before .if1 .left)) in
+    let seen = way-back (b .before .way-from2 .result) (b .before .way-from2 .ensures .1) in
+    let edge = way-back (b .way-between .result) (stepped-short b) ∙ b .way-between .ensures in
+    transport (λ i. Walked (now (s .args .c)) (sym seen i) (sym edge i) (round c .before .loop .i + 2)) w
 
 returns-2 : tie.Need-returns-2 Inv-loop μ-loop
-returns-2 c = sym (walked-end (c .before .before .before .before .before .pre) (c .before .loop .inv) (c .loop-test .left))
+returns-2 c = let a = c .before .before .before .before .before .before in sym (walked-end (a .before .before .before .pre) (c .before .loop .inv) (c .loop-test .left))
 
 pub strictly-convex-spec : {M : Type 1} → statement M
 strictly-convex-spec =
@@ -104,7 +138,7 @@ strictly-convex-spec =
     loop-holds
     corner-at-requires-3
     way-from-requires-2
-    way-from-requires-3
+    way-between-requires
     keeps-turning-requires
     returns
     add-i

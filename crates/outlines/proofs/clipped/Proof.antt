@@ -1,95 +1,60 @@
--- `outlines::clipped` meets its contract: the ring that the passes left is given from the memory that holds it. Assumes nothing.
-use mathlib.Core.Path.{_≡_, subst}
-use mathlib.Core.Bool.{Bool}
-use mathlib.Core.List.{List}
-use native.Mathlib.Omega.{arith}
+-- `outlines::clipped` meets its contract: where no side cuts anything off, the outline is what is left; where one leaves nothing there is no area; else what the passes leave is given. Assumes nothing.
 use borrow.Author.Needs.{needs}
-use denote.Ref.{now}
-use lib.IntN.{ℤ}
-use Rattle.whole.specs.Choice.{if_then_else_}
-use Rattle.outlines.proofs.Giving.{LeftRing, left-ring, give-left, give-none}
+use Rattle.passes.proofs.Outlines.{outline-ring}
+use Rattle.outlines.proofs.Giving.{give-ring, give-nothing}
+use Rattle.outlines.proofs.Reaching.{whole-left, nothing-left}
 use Rattle.outlines.proofs.clipped.Statement.{statement}
 use Rattle.outlines.proofs.clipped.Tie as tie
 
-slice-aggregate-run : tie.Need-slice-aggregate-run
-slice-aggregate-run c = search needs
+reach-of-requires : tie.Need-reach-of-requires
+reach-of-requires c κs = search needs
 
-slice-aggregate-run-2 : tie.Need-slice-aggregate-run-2
-slice-aggregate-run-2 c = search needs
+inside-requires : tie.Need-inside-requires
+inside-requires c κs = search needs
 
-run-requires : tie.Need-run-requires
-run-requires c κs = let p = c .before .before .pre in (p .0, (omega arith, (p .1 .1, (omega arith, omega arith))))
-
-returns : tie.Need-returns
-returns c =
-    let r = c .before .before .before in
-    let a = r .before .before .before in
-    give-none (a .pre .1 .0) (a .pre .1 .1) (r .run .ensures) (c .if1 .taken)
-
--- ---- the memory that holds the ring
-abbrev start : tie.Else1 → tie.Start
-start c = c .before .before .before .before .before .before
-
-abbrev Held : tie.Else1 → List ℤ → Type 0
-Held c m = LeftRing (start c .args .w) (start c .args .order) (now (start c .args .outline)) m (c .before .before .before .run .result .count)
-
-held : (c : tie.Else1) {s : Bool} → c .before .before .before .run .result .second ≡ s
-    → Held c (if s then c .before .before .before .run .last .1 .1 .1 .1 .0 else c .before .before .before .run .last .1 .1 .1 .0)
-held c e =
-    let r = c .before .before .before in
-    let a = start c in
-    subst (λ (s : Bool). Held c (if s then r .run .last .1 .1 .1 .1 .0 else r .run .last .1 .1 .1 .0)) e
-    (left-ring (a .pre .1 .0) (a .pre .1 .1) (r .run .ensures) (c .if1 .left))
-
-slice-aggregate-give-ring : tie.Need-slice-aggregate-give-ring
-slice-aggregate-give-ring c = search needs
-
-give-ring-requires : tie.Need-give-ring-requires
-give-ring-requires c κs =
-    let d = c .before .before in
-    let k = held (d .before) (d .if2 .taken) in
-    (omega (arith, k .few, d .before .before .before .before .run .kept .1 .1 .1 .1 .0), k .ring)
+give-whole-requires : tie.Need-give-whole-requires
+give-whole-requires c κs = let t = c .before .before .before .before .pre .1 .1 in (t .even, (t .few, outline-ring t))
 
 same-length : tie.Need-same-length
 same-length c = search needs
 
+returns : tie.Need-returns
+returns c =
+    let i = c .before .before .before in
+    let r = i .before .before in
+    let p = r .before .pre in
+    let g = outline-ring (p .1 .1) in
+    give-ring (p .1 .0) (p .1 .1) (whole-left (r .before .args .w) (r .reach-of .ensures) (r .before .args .order) (g .three) (i .before .inside .ensures (i .if1 .taken))) (c .before .give-whole .ensures)
+
+apart-requires : tie.Need-apart-requires
+apart-requires c κs = search needs
+
 returns-2 : tie.Need-returns-2
 returns-2 c =
-    let d = c .before .before .before .before in
-    let a = start (d .before) in
-    give-left (a .pre .1 .0) (a .pre .1 .1) (held (d .before) (d .if2 .taken)) (c .before .give-ring .ensures)
+    let r = c .before .before .before .before in
+    let p = r .before .pre in
+    give-nothing (p .1 .0) (p .1 .1) (nothing-left (r .before .args .w) (r .reach-of .ensures) (p .1 .0) (outline-ring (p .1 .1)) (c .before .apart .ensures (c .if2 .taken)))
 
-slice-aggregate-give-ring-2 : tie.Need-slice-aggregate-give-ring-2
-slice-aggregate-give-ring-2 c = search needs
-
-give-ring-requires-2 : tie.Need-give-ring-requires-2
-give-ring-requires-2 c κs =
-    let d = c .before .before in
-    let k = held (d .before) (d .if2 .left) in
-    (omega (arith, k .few, d .before .before .before .before .run .kept .1 .1 .1 .0), k .ring)
+cut-by-passes-requires : tie.Need-cut-by-passes-requires
+cut-by-passes-requires c κs = search needs
 
 same-length-2 : tie.Need-same-length-2
 same-length-2 c = search needs
 
 returns-3 : tie.Need-returns-3
-returns-3 c =
-    let d = c .before .before .before .before in
-    let a = start (d .before) in
-    give-left (a .pre .1 .0) (a .pre .1 .1) (held (d .before) (d .if2 .left)) (c .before .give-ring2 .ensures)
+returns-3 c = search needs
 
 pub clipped-spec : {M : Type 1} → statement M
 clipped-spec =
     tie.close
     (tie.spec
-    slice-aggregate-run
-    slice-aggregate-run-2
-    run-requires
-    returns
-    slice-aggregate-give-ring
-    give-ring-requires
+    reach-of-requires
+    inside-requires
+    give-whole-requires
     same-length
+    returns
+    apart-requires
     returns-2
-    slice-aggregate-give-ring-2
-    give-ring-requires-2
+    cut-by-passes-requires
     same-length-2
     returns-3)

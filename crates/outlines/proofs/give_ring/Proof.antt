@@ -1,17 +1,27 @@
 -- `outlines::give_ring` meets its contract: without room nothing is written; with room, the ring from its lowest corner on. Assumes nothing.
+use Prim.Native.Nat.{ℕ, _*_}
+use mathlib.Core.Path.{_≡_, ap}
 use native.Mathlib.Omega.{arith}
 use borrow.Author.Needs.{needs}
 use denote.Ref.{now}
+use lib.ListN.{length}
+use Rattle.passes.specs.Memory.{ringIn}
 use Rattle.passes.proofs.Memories.{ring-length}
+use Rattle.outlines.proofs.Lowest.{lowest-starts}
+use Rattle.outlines.proofs.Memory.{turned-at}
 use Rattle.outlines.proofs.Writing.{gave-short, gave-wrote}
 use Rattle.outlines.proofs.give_ring.Statement.{statement}
 use Rattle.outlines.proofs.give_ring.Tie as tie
+
+-- four numbers a corner
+four : (c : tie.Start) → 4 * length (ringIn (now (c .args .m)) (c .args .n)) ≡ 4 * c .args .n
+four c = ap (λ (k : ℕ). 4 * k) (ring-length (now (c .args .m)) 0 (c .args .n))
 
 mul-need : tie.Need-mul-need
 mul-need c = search needs
 
 returns : tie.Need-returns
-returns c = let a = c .before in gave-short (now (a .args .m)) (a .args .n) (a .pre .1) (c .if1 .taken)
+returns c = gave-short (c .before .pre .1) (four (c .before)) (c .if1 .taken)
 
 lowest-corner-requires : tie.Need-lowest-corner-requires
 lowest-corner-requires c κs = let g = c .before .pre .1 in (omega (arith, g .three, ring-length (now (c .before .args .m)) 0 (c .before .args .n)), (c .before .pre .0, g .proper))
@@ -26,7 +36,10 @@ returns-2 : tie.Need-returns-2
 returns-2 c =
     let l = c .before .before .before in
     let a = l .before .before in
-    gave-wrote (now (a .args .m)) (a .args .n) (a .pre .1) (l .lowest-corner .ensures) (l .before .if1 .left) (c .before .write-ring .ensures)
+    let m = now (a .args .m) in
+    let k = l .lowest-corner .ensures in
+    let below = k .inside in
+    gave-wrote (a .pre .1) (four a) (turned-at m (omega arith)) (lowest-starts m (a .pre .1) k) (l .before .if1 .left) (c .before .write-ring .ensures)
 
 pub give-ring-spec : {M : Type 1} → statement M
 give-ring-spec = tie.close (tie.spec mul-need returns lowest-corner-requires write-ring-requires same-length returns-2)

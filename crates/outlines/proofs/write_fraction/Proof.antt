@@ -1,4 +1,4 @@
--- `outlines::write_fraction` meets its contract: over 1 a fraction is in lowest terms; else both numbers are those of `lowest`, which fit 32 bits again. Assumes nothing.
+-- `outlines::write_fraction` meets its contract: over 1 a fraction is in lowest terms; else both numbers are those of `lowest_signed`, which fit 32 bits again. Assumes nothing.
 use mathlib.Core.Path.{_≡_, refl, sym, subst, subst₂}
 use native.Mathlib.Numerals.{towards-suc}
 use native.Mathlib.Omega.{arith}
@@ -9,13 +9,11 @@ use lib.Signed.{_<ℤ_}
 use mir.Syntax.{w32}
 use mir.Val.{SFits}
 use mir.Facts.{toZ-ofZ, sfits-lit}
-use Rattle.whole.specs.Within.{Within}
 use Rattle.whole.proofs.Comparisons.{bits-eq}
-use Rattle.whole.proofs.Ranges.{within-up}
 use Rattle.fraction.specs.Fraction.{LowestOf}
 use Rattle.fraction.proofs.LowestTerms.{lowest-over-one}
 use Rattle.outlines.proofs.Numbers.{num-fits, den-fits}
-use Rattle.outlines.proofs.Widths.{within-32, wide-fits, wide-is, narrow-fits, narrow-is}
+use Rattle.outlines.proofs.Widths.{narrow-fits, narrow-is}
 use Rattle.outlines.proofs.write_fraction.Statement.{statement}
 use Rattle.outlines.proofs.write_fraction.Tie as tie
 
@@ -47,36 +45,20 @@ returns c =
       output = simp (toZ-ofZ (f .n), toZ-ofZ (f .d)) (simp towards-suc);
     }
 
-cast-lowest : tie.Need-cast-lowest
-cast-lowest c = wide-fits (c .before .args .n) (c .before .fits .n .sfits)
+lowest-signed-requires : tie.Need-lowest-signed-requires
+lowest-signed-requires c κs = subst (λ (z : ℤ). pos 0 <ℤ z) (sym (toZ-ofZ (c .before .fits .d))) (c .before .pre .0)
 
-cast-lowest-2 : tie.Need-cast-lowest-2
-cast-lowest-2 c = wide-fits (c .before .args .d) (c .before .fits .d .sfits)
-
-lowest-requires : tie.Need-lowest-requires
-lowest-requires c κs =
-    let a = c .before .args in
-    let f = c .before .fits in
-    let n = wide-is (a .n) (f .n .sfits) in
-    let d = wide-is (a .d) (f .d .sfits) in (
-      subst (Within 4611686018427387904) (sym n) (within-up (omega arith) (within-32 (a .n) (f .n .sfits))),
-      (subst (Within 4611686018427387904) (sym d) (within-up (omega arith) (within-32 (a .d) (f .d .sfits))), subst (λ (z : ℤ). pos 0 <ℤ z) (sym d) (c .before .pre .0)),
-    )
-
--- ---- what `lowest` answers
-abbrev start : tie.After-lowest → tie.Start
+-- ---- what `lowest_signed` answers
+abbrev start : tie.After-lowest-signed → tie.Start
 start c = c .before .before
 
-lowest : (c : tie.After-lowest) → LowestOf (start c .args .n) (start c .args .d) (c .lowest .result)
-lowest c =
-    let a = start c .args in
-    let f = start c .fits in
-    subst₂ (λ (n d : ℤ). LowestOf n d (c .lowest .result)) (wide-is (a .n) (f .n .sfits)) (wide-is (a .d) (f .d .sfits)) (c .lowest .ensures)
+lowest : (c : tie.After-lowest-signed) → LowestOf (start c .args .n) (start c .args .d) (c .lowest-signed .result)
+lowest c = let f = start c .fits in subst₂ (λ (n d : ℤ). LowestOf n d (c .lowest-signed .result)) (toZ-ofZ (f .n)) (toZ-ofZ (f .d)) (c .lowest-signed .ensures)
 
-num-32 : (c : tie.After-lowest) → SFits w32 (c .lowest .result .num)
+num-32 : (c : tie.After-lowest-signed) → SFits w32 (c .lowest-signed .result .num)
 num-32 c = num-fits (start c .pre .0) (lowest c) (start c .fits .n)
 
-den-32 : (c : tie.After-lowest) → SFits w32 (c .lowest .result .den)
+den-32 : (c : tie.After-lowest-signed) → SFits w32 (c .lowest-signed .result .den)
 den-32 c = den-fits (start c .pre .0) (lowest c) (start c .fits .d)
 
 cast-num : tie.Need-cast-num
@@ -106,7 +88,7 @@ same-length-2 c = search needs
 returns-2 : tie.Need-returns-2
 returns-2 c =
     let l = c .before .before .before .before in
-    record { fraction = l .lowest .result; lowest = lowest l; output = simp (narrow-is (num-32 l), narrow-is (den-32 l)) (simp towards-suc) }
+    record { fraction = l .lowest-signed .result; lowest = lowest l; output = simp (narrow-is (num-32 l), narrow-is (den-32 l)) (simp towards-suc) }
 
 pub write-fraction-spec : {M : Type 1} → statement M
 write-fraction-spec =
@@ -119,9 +101,7 @@ write-fraction-spec =
     slice-set-from-d
     same-length
     returns
-    cast-lowest
-    cast-lowest-2
-    lowest-requires
+    lowest-signed-requires
     cast-num
     cast-den
     mul-num

@@ -1,0 +1,132 @@
+-- How far an outline reaches: found corner by corner; where no side cuts anything off, the passes leave the outline; where one side leaves only what is on its line, they leave nothing.
+use mathlib.Core.Path.{_≡_, sym, subst}
+use mathlib.Core.List.{List, [], _∷_, map, Permᴰ·symm}
+use mathlib.Core.Option.{Option, none, some}
+use Prim.Native.Nat.{ℕ, zero, suc, _+_, _*_, _/_, _<_, _≤_}
+use native.Mathlib.Omega.{arith}
+use borrow.Author.Count.{below-more}
+use lib.IntN.{ℤ, pos, _-ℤ_, negℤ}
+use lib.ListN.{length, getD}
+use lib.Signed.{_≤ℤ_}
+use Rattle.whole.proofs.Expressions.{Expr, var, neg, _⊕_, _⊗_}
+use Rattle.whole.proofs.Naturals.{neg-plus, neg-minus}
+use Rattle.whole.proofs.Order.{zarith, sub-is, ≤-antisym}
+use Rattle.whole.proofs.Polynomials.{ring}
+use Rattle.grid.specs.declared.Window.{Window}
+use Rattle.rings.specs.Cuts.{Inside, Cuts, no-more, cut, Outcome, area, Result, none-left}
+use Rattle.rings.specs.Lists.{All, ∅, _◂_}
+use Rattle.rings.specs.Points.{Point, Line, value, In, Under, Real}
+use Rattle.rings.specs.Rings.{Ring}
+use Rattle.rings.specs.Windows.{sides}
+use Rattle.rings.proofs.Fan.{corners-in}
+use Rattle.rings.proofs.Lists.{all-map}
+use Rattle.rings.proofs.OneCut.{few-on}
+use Rattle.rings.proofs.Orders.{some-result, all-order}
+use Rattle.rings.proofs.Theorems.{convex-ccw, fan, result-outcome}
+use Rattle.corners.specs.Corners.{cornersOf}
+use Rattle.passes.specs.Orders.{sideLine, sidesIn, linesIn}
+use Rattle.passes.specs.Outlines.{Reaches, Clear}
+use Rattle.passes.proofs.Orders.{lines-arranged}
+use Rattle.passes.proofs.Outlines.{corners-all}
+use Rattle.passes.proofs.Reaches.{left-at, right-at, bottom-at, top-at, clear-in}
+use Rattle.passes.proofs.Sides.{side-line-real}
+use Rattle.passes.proofs.Walks.{cut-nothing}
+use Rattle.outlines.specs.Workers.{Beyond}
+use Rattle.outlines.proofs.Passes.{lines-real}
+
+pub all-clear : {w b : Window} → w .left ≤ℤ b .left → b .right ≤ℤ w .right → w .bottom ≤ℤ b .bottom → b .top ≤ℤ w .top → (s : ℕ) → Clear w b s
+all-clear l r o t zero = l
+all-clear l r o t (suc zero) = r
+all-clear l r o t (suc (suc zero)) = o
+all-clear l r o t (suc (suc (suc s))) = t
+
+-- ---- the rectangle round the first n corners
+pub record Round (zs : List ℤ) (n : ℕ) (b : Window) : Type 0 where
+  pub left : (k : ℕ) → k < n → b .left ≤ℤ getD zs (2 * k) (pos 0)
+  pub right : (k : ℕ) → k < n → getD zs (2 * k) (pos 0) ≤ℤ b .right
+  pub bottom : (k : ℕ) → k < n → b .bottom ≤ℤ getD zs (2 * k + 1) (pos 0)
+  pub top : (k : ℕ) → k < n → getD zs (2 * k + 1) (pos 0) ≤ℤ b .top
+
+-- one corner more, and a rectangle that holds it and the one before
+pub round-more : {zs : List ℤ} {n : ℕ} {b c : Window} → Round zs n b
+    → (c .left ≤ℤ b .left) × (c .left ≤ℤ getD zs (2 * n) (pos 0)) → (b .right ≤ℤ c .right) × (getD zs (2 * n) (pos 0) ≤ℤ c .right)
+    → (c .bottom ≤ℤ b .bottom) × (c .bottom ≤ℤ getD zs (2 * n + 1) (pos 0)) → (b .top ≤ℤ c .top) × (getD zs (2 * n + 1) (pos 0) ≤ℤ c .top) → Round zs (n + 1) c
+round-more {zs} {n} {b} {c} r hl hr hb ht = record {
+  left = λ k l. below-more (λ (k : ℕ). c .left ≤ℤ getD zs (2 * k) (pos 0)) n (λ k h. let a = r .left k h in omega zarith) (hl .1) k (omega arith);
+  right = λ k l. below-more (λ (k : ℕ). getD zs (2 * k) (pos 0) ≤ℤ c .right) n (λ k h. let a = r .right k h in omega zarith) (hr .1) k (omega arith);
+  bottom = λ k l. below-more (λ (k : ℕ). c .bottom ≤ℤ getD zs (2 * k + 1) (pos 0)) n (λ k h. let a = r .bottom k h in omega zarith) (hb .1) k (omega arith);
+  top = λ k l. below-more (λ (k : ℕ). getD zs (2 * k + 1) (pos 0) ≤ℤ c .top) n (λ k h. let a = r .top k h in omega zarith) (ht .1) k (omega arith);
+}
+
+pub round-all : {zs : List ℤ} {n : ℕ} {b : Window} → length zs / 2 ≤ n → Round zs n b → Reaches zs b
+round-all h r = record { left = λ k l. r .left k (omega arith); right = λ k l. r .right k (omega arith); bottom = λ k l. r .bottom k (omega arith); top = λ k l. r .top k (omega arith) }
+
+-- ---- no side cuts anything off
+pub cuts-nothing : {hs : List Line} {r : List Point} → 3 ≤ length r → All (λ h. All (In h) r) hs → Cuts hs r (some r)
+cuts-nothing n ∅ = no-more
+cuts-nothing n (i ◂ a) = cut (cut-nothing i) n (cuts-nothing n a)
+
+-- ---- one side leaves only what is on its line: a ring would have three corners there
+module _ {hs : List Line} {r : List Point} (reals : All Real hs) (g : Ring r) (h : Line) (real : Real h) (among : (p : Point) → Inside hs p → In h p) (under : All (Under h) r) where
+  -- the same line, its inside outside
+  abbrev turned : Line
+  turned = record { A = negℤ (h .A); B = negℤ (h .B); C = negℤ (h .C) }
+
+  turned-value : (p : Point) → value turned p ≡ negℤ (value h p)
+  unfolding value
+  turned-value p = ring (h .A ∷ h .B ∷ h .C ∷ p .X ∷ p .Y ∷ p .W ∷ []) (line-at (neg (var 0)) (neg (var 1)) (neg (var 2))) (neg (line-at (var 0) (var 1) (var 2))) tt
+    where
+      line-at : Expr → Expr → Expr → Expr
+      line-at a b c = ((a ⊗ var 3) ⊕ (b ⊗ var 4)) ⊕ (c ⊗ var 5)
+
+  under-in : (p : Point) → Under h p → In turned p
+  under-in p u = subst (λ (z : ℤ). pos 0 ≤ℤ z) (sym (turned-value p)) (omega (zarith, neg-plus (value h p), neg-minus (value h p)))
+
+  in-under : (p : Point) → In turned p → Under h p
+  in-under p i = let j = subst (λ (z : ℤ). pos 0 ≤ℤ z) (turned-value p) i in omega (zarith, neg-plus (value h p), neg-minus (value h p))
+
+  no-ring : {s : List Point} → Outcome hs r (some s) → ⊥
+  no-ring (area l) =
+      let ccw = convex-ccw _ .0 (l .ring .convex) in
+      let on = all-map (λ p i. let k = l .points p .0 i in ≤-antisym (in-under p (fan turned p r g (k .0) (all-map under-in under))) (among p (k .1))) (corners-in ccw) in
+      let few = few-on h real _ ccw on in
+      let three = l .ring .three in
+      omega arith
+
+  pub cuts-away : Cuts hs r none
+  cuts-away = go (some-result hs r reals g)
+    where
+      go : (o : Option (List Point)) × Result hs r o → Cuts hs r none
+      go (none, none-left c) = c
+      go (some s, c) = absurd (no-ring (result-outcome reals g c))
+
+-- ---- the sides of the window, in an order
+-- a value of which both parts are compared with a number between them
+between : {v x y : ℤ} (m : ℤ) → v ≡ y -ℤ x → y ≤ℤ m → m ≤ℤ x → v ≤ℤ pos 0
+between {x = x} {y} m e h k = subst (λ z. z ≤ℤ pos 0) (sym e) (omega (zarith, sub-is y x))
+
+side-among : (w : Window) (s : ℕ) (p : Point) → Inside (sides (w .left) (w .bottom) (w .right) (w .top)) p → In (sideLine w s) p
+side-among w zero p (i ◂ a) = i
+side-among w (suc zero) p (i ◂ (j ◂ a)) = j
+side-among w (suc (suc zero)) p (i ◂ (j ◂ (k ◂ a))) = k
+side-among w (suc (suc (suc s))) p (i ◂ (j ◂ (k ◂ (l ◂ a)))) = l
+
+module _ (w : Window) {zs : List ℤ} {b : Window} (r : Reaches zs b) where
+  pub whole-left : (o : ℕ) → 3 ≤ length (cornersOf zs) → ((s : ℕ) → Clear w b s) → Cuts (linesIn o w) (cornersOf zs) (some (cornersOf zs))
+  unfolding linesIn
+  whole-left o n f = cuts-nothing n (all (sidesIn o))
+    where
+      all : (ss : List ℕ) → All (λ h. All (In h) (cornersOf zs)) (map (sideLine w) ss)
+      all [] = ∅
+      all (s ∷ ss) = clear-in w s r (f s) ◂ all ss
+
+  beyond-under : (s : ℕ) → Beyond w b s → All (Under (sideLine w s)) (cornersOf zs)
+  beyond-under zero c = corners-all zs (λ k h. between (b .right) (left-at (w .left) _ _) (r .right k h) c)
+  beyond-under (suc zero) c = corners-all zs (λ k h. between (b .left) (right-at (w .right) _ _) c (r .left k h))
+  beyond-under (suc (suc zero)) c = corners-all zs (λ k h. between (b .top) (bottom-at (w .bottom) _ _) (r .top k h) c)
+  beyond-under (suc (suc (suc s))) c = corners-all zs (λ k h. between (b .bottom) (top-at (w .top) _ _) c (r .bottom k h))
+
+  pub nothing-left : {o : ℕ} → o ≤ 23 → Ring (cornersOf zs) → (s : ℕ) × Beyond w b s → Cuts (linesIn o w) (cornersOf zs) none
+  nothing-left {o} h g (s, c) =
+      cuts-away (lines-real w h) g (sideLine w s) (side-line-real w s)
+      (λ p i. side-among w s p (all-order (Permᴰ·symm (lines-arranged o w h)) i)) (beyond-under s c)

@@ -1,0 +1,106 @@
+-- `outlines::reach::reach_of` meets its contract: the rectangle so far is round the corners so far. Assumes nothing.
+use Prim.Native.Nat.{_-_, _^_, _<_}
+use native.Mathlib.Omega.{arith}
+use borrow.Author.Needs.{needs}
+use lib.IntN.{ℤ}
+use lib.Signed.{_≤ℤ_, mag}
+use mir.Syntax.{w32}
+use mir.Val.{toZ, ofZ}
+use Rattle.whole.proofs.Comparisons.{back}
+use Rattle.whole.proofs.Order.{zarith}
+use Rattle.outlines.proofs.Reaching.{Round, round-more, round-all}
+use Rattle.outlines.proofs.reach.reach_of.Statement.{statement}
+use Rattle.outlines.proofs.reach.reach_of.Tie as tie
+
+abbrev Inv-loop : tie.InvT-loop
+Inv-loop outline left₀ bottom₀ right₀ top₀ n k₀ left bottom right top k = Round outline k (record { left = toZ w32 left; bottom = toZ w32 bottom; right = toZ w32 right; top = toZ w32 top })
+
+abbrev μ-loop : tie.MeasureT-loop
+μ-loop outline left₀ bottom₀ right₀ top₀ n k₀ left bottom right top k = n - k
+
+-- the lesser and the greater of two numbers, as they are read back
+module _ (r x : ℤ) {a : ℤ} (hr : mag r < 2 ^ 31) (hx : mag x < 2 ^ 31) where
+  lower : (r ≤ℤ a) × (r ≤ℤ toZ w32 (ofZ w32 x)) → (toZ w32 (ofZ w32 r) ≤ℤ a) × (toZ w32 (ofZ w32 r) ≤ℤ x)
+  lower p = let e = back w32 r hr in let f = back w32 x hx in let q = p .0 in let s = p .1 in (omega zarith, omega zarith)
+
+  upper : (a ≤ℤ r) × (toZ w32 (ofZ w32 x) ≤ℤ r) → (a ≤ℤ toZ w32 (ofZ w32 r)) × (x ≤ℤ toZ w32 (ofZ w32 r))
+  upper p = let e = back w32 r hr in let f = back w32 x hx in let q = p .0 in let s = p .1 in (omega zarith, omega zarith)
+
+loop-holds : tie.Need-loop-holds Inv-loop μ-loop
+loop-holds c = record { left = λ k l. absurd (omega arith); right = λ k l. absurd (omega arith); bottom = λ k l. absurd (omega arith); top = λ k l. absurd (omega arith) }
+
+mul-x : tie.Need-mul-x Inv-loop μ-loop
+mul-x c = search needs
+
+mul-x-2 : tie.Need-mul-x-2 Inv-loop μ-loop
+mul-x-2 c = search needs
+
+shared-slice-copy-out-x : tie.Need-shared-slice-copy-out-x Inv-loop μ-loop
+shared-slice-copy-out-x c = omega arith
+
+mul-y : tie.Need-mul-y Inv-loop μ-loop
+mul-y c = search needs
+
+add-y : tie.Need-add-y Inv-loop μ-loop
+add-y c = search needs
+
+mul-y-2 : tie.Need-mul-y-2 Inv-loop μ-loop
+mul-y-2 c = search needs
+
+shared-slice-copy-out-y : tie.Need-shared-slice-copy-out-y Inv-loop μ-loop
+shared-slice-copy-out-y c = omega arith
+
+lesser-requires : tie.Need-lesser-requires Inv-loop μ-loop
+lesser-requires c κs = tt
+
+lesser-requires-2 : tie.Need-lesser-requires-2 Inv-loop μ-loop
+lesser-requires-2 c κs = tt
+
+greater-requires : tie.Need-greater-requires Inv-loop μ-loop
+greater-requires c κs = tt
+
+greater-requires-2 : tie.Need-greater-requires-2 Inv-loop μ-loop
+greater-requires-2 c κs = tt
+
+add-k : tie.Need-add-k Inv-loop μ-loop
+add-k c = search needs
+
+loop-less : tie.Need-loop-less Inv-loop μ-loop
+loop-less c = omega arith
+
+loop-again : tie.Need-loop-again Inv-loop μ-loop
+loop-again c =
+    let l = c .before .before .before in
+    let y = l .before in
+    let x = y .before in
+    round-more (x .before .before .loop .inv)
+    (lower (l .lesser .result) _ (l .lesser .ok) (x .x .given) (l .lesser .ensures))
+    (upper (c .before .greater .result) _ (c .before .greater .ok) (x .x .given) (c .before .greater .ensures))
+    (lower (c .before .before .lesser2 .result) _ (c .before .before .lesser2 .ok) (y .y .given) (c .before .before .lesser2 .ensures))
+    (upper (c .greater2 .result) _ (c .greater2 .ok) (y .y .given) (c .greater2 .ensures))
+
+returns : tie.Need-returns Inv-loop μ-loop
+returns c = round-all (c .loop-test .left) (c .before .loop .inv)
+
+pub reach-of-spec : {M : Type 1} → statement M
+reach-of-spec =
+    tie.close
+    (tie.spec
+    Inv-loop
+    μ-loop
+    loop-holds
+    mul-x
+    mul-x-2
+    shared-slice-copy-out-x
+    mul-y
+    add-y
+    mul-y-2
+    shared-slice-copy-out-y
+    lesser-requires
+    lesser-requires-2
+    greater-requires
+    greater-requires-2
+    add-k
+    loop-less
+    loop-again
+    returns)

@@ -1,0 +1,113 @@
+-- `outlines::uncut::give_whole` meets its contract: without room nothing is written; with room, the corners from the lowest to the end, and behind them those before it. Assumes nothing.
+use Prim.Native.Nat.{_-_, _*_, _≤_}
+use mathlib.Core.Path.{_≡_, sym}
+use native.Mathlib.Omega.{arith}
+use borrow.Author.Needs.{needs}
+use denote.Ref.{now}
+use lib.ListN.{length, take, drop, length-take, length-drop}
+use lib.Seq.{take-all, length-take-le}
+use Rattle.outlines.proofs.Writing.{wrote-rest, gave-short, gave-wrote}
+use Rattle.outlines.proofs.OwnCorners.{four-a-corner, four-before, four-behind, own-turned, own-starts}
+use Rattle.outlines.proofs.uncut.give_whole.Statement.{statement}
+use Rattle.outlines.proofs.uncut.give_whole.Tie as tie
+
+-- the lowest corner's place
+below : (c : tie.After-lowest-place) → c .lowest-place .result ≤ length (now (c .before .before .args .outline))
+below c = let l = c .lowest-place .ensures .inside in omega arith
+
+mul-need : tie.Need-mul-need
+mul-need c = search needs
+
+returns : tie.Need-returns
+returns c = let a = c .before in gave-short (a .pre .1 .1) (four-a-corner (now (a .args .outline)) (a .pre .0)) (c .if1 .taken)
+
+lowest-place-requires : tie.Need-lowest-place-requires
+lowest-place-requires c κs = search needs
+
+sub-rest : tie.Need-sub-rest
+sub-rest c = search needs
+
+mul-rest : tie.Need-mul-rest
+mul-rest c = search needs
+
+mul-write-corners : tie.Need-mul-write-corners
+mul-write-corners c = search needs
+
+sub-write-corners : tie.Need-sub-write-corners
+sub-write-corners c = search needs
+
+part-write-corners-start : tie.Need-part-write-corners-start
+part-write-corners-start c = search needs
+
+part-write-corners-end : tie.Need-part-write-corners-end
+part-write-corners-end c = search needs
+
+write-corners-requires : tie.Need-write-corners-requires
+write-corners-requires c κs = search needs
+
+slice-aggregate-write-corners : tie.Need-slice-aggregate-write-corners
+slice-aggregate-write-corners c = sym (length-take-le _ _ (below (c .before .before .before .before .before)))
+
+mul-write-corners-2 : tie.Need-mul-write-corners-2
+mul-write-corners-2 c = search needs
+
+sub-write-corners-2 : tie.Need-sub-write-corners-2
+sub-write-corners-2 c = search needs
+
+part-write-corners-start-2 : tie.Need-part-write-corners-start-2
+part-write-corners-start-2 c = search needs
+
+part-write-corners-end-2 : tie.Need-part-write-corners-end-2
+part-write-corners-end-2 c = search needs
+
+write-corners-requires-2 : tie.Need-write-corners-requires-2
+write-corners-requires-2 c κs =
+    let l = c .before .before .before .before .before .before in
+    let zs = now (l .before .before .args .outline) in
+    let e : length (take (l .lowest-place .result) zs) ≡ l .lowest-place .result = length-take-le _ _ (below l) in
+    let b = below l in
+    let even = l .lowest-place .ensures .even in
+    (rw e even, rw e (simp (length-take, length-drop) (omega (arith, c .before .before .before .write-corners .kept .1 .0))))
+
+same-length : tie.Need-same-length
+same-length c = search needs
+
+returns-2 : tie.Need-returns-2
+returns-2 c =
+    let w = c .before .before .before .before .before in
+    let l = w .before .before .before in
+    let a = l .before .before in
+    let zs = now (a .args .outline) in
+    let k = l .lowest-place .result in
+    let s = l .lowest-place .ensures in
+    let b = below l in
+    let even = a .pre .0 in
+    let e : take (length zs - k) (drop k zs) ≡ drop k zs = take-all (length zs - k) (drop k zs) (omega (arith, length-drop k zs)) in
+    gave-wrote (a .pre .1 .1) (four-a-corner zs even)
+    (own-turned zs k (s .even) b)
+    (own-starts zs even (a .pre .1 .1) s)
+    (l .before .if1 .left)
+    (wrote-rest (2 * (length zs - k)) (four-behind zs k (s .even) b even) (omega (arith, four-before zs k (s .even) b, l .before .if1 .left)) (rw e at (w .write-corners .ensures)) (c .before .write-corners2 .ensures))
+
+pub give-whole-spec : {M : Type 1} → statement M
+give-whole-spec =
+    tie.close
+    (tie.spec
+    mul-need
+    returns
+    lowest-place-requires
+    sub-rest
+    mul-rest
+    mul-write-corners
+    sub-write-corners
+    part-write-corners-start
+    part-write-corners-end
+    write-corners-requires
+    slice-aggregate-write-corners
+    mul-write-corners-2
+    sub-write-corners-2
+    part-write-corners-start-2
+    part-write-corners-end-2
+    write-corners-requires-2
+    same-length
+    returns-2)

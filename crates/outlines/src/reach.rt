@@ -1,0 +1,85 @@
+// How far an outline reaches: the rectangle round its corners tells most outlines that no side cuts, and most that no side leaves.
+ghost use mathlib.Core.Path.{_≡_};
+ghost use mathlib.Core.Bool.{true};
+ghost use Prim.Native.Nat.{ℕ};
+ghost use lib.Signed.{_≤ℤ_};
+ghost use Rattle.passes.specs.Outlines.{Reaches, Clear};
+ghost use Rattle.outlines.specs.Workers.{Beyond};
+use grid::Window;
+
+fn lesser(a: i32, b: i32) -> i32
+    ensures { λ r. ⌜ (r ≤ℤ a) × (r ≤ℤ b) ⌝ }
+{
+    if b < a {
+        return b;
+    }
+    a
+}
+
+fn greater(a: i32, b: i32) -> i32
+    ensures { λ r. ⌜ (a ≤ℤ r) × (b ≤ℤ r) ⌝ }
+{
+    if a < b {
+        return b;
+    }
+    a
+}
+
+// A rectangle that every corner lies in.
+pub fn reach_of(outline: &[i32]) -> Window
+    ensures { λ r. ⌜ Reaches (now (outline .entry)) r ⌝ }
+{
+    let mut left: i32 = 16383;
+    let mut bottom: i32 = 16383;
+    let mut right: i32 = -16383;
+    let mut top: i32 = -16383;
+    let n = outline.len() / 2;
+    let mut k: usize = 0;
+    while k < n {
+        let x = outline[2 * k];
+        let y = outline[2 * k + 1];
+        left = lesser(left, x);
+        bottom = lesser(bottom, y);
+        right = greater(right, x);
+        top = greater(top, y);
+        k += 1;
+    }
+    Window {
+        left,
+        bottom,
+        right,
+        top,
+    }
+}
+
+// Whether no side of w cuts anything off that lies in b.
+pub fn inside(w: Window, b: Window) -> bool
+    ensures { λ r. ⌜ (r ≡ true → (s : ℕ) → Clear w b s) ⌝ }
+{
+    if b.left < w.left {
+        return false;
+    }
+    if w.right < b.right {
+        return false;
+    }
+    if b.bottom < w.bottom {
+        return false;
+    }
+    b.top <= w.top
+}
+
+// Whether one side of w leaves nothing of what lies in b, but what is on its line.
+pub fn apart(w: Window, b: Window) -> bool
+    ensures { λ r. ⌜ (r ≡ true → (s : ℕ) × Beyond w b s) ⌝ }
+{
+    if b.right <= w.left {
+        return true;
+    }
+    if w.right <= b.left {
+        return true;
+    }
+    if b.top <= w.bottom {
+        return true;
+    }
+    w.top <= b.bottom
+}
