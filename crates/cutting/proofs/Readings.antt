@@ -7,11 +7,11 @@ use native.Mathlib.Omega.{arith}
 use borrow.Author.Tests.{eqb-true, eqb-false, ne-eqb, le-leb}
 use lib.Dec.{eqb}
 use lib.IntN.{ℤ, pos}
-use lib.ListN.{length, take, drop, length-append}
+use lib.ListN.{length, take, drop}
 use lib.Seq.{take-at}
 use Rattle.whole.specs.Choice.{if_then_else_}
 use Rattle.grid.specs.Calls.{refusedBy, answered, written, Call}
-use Rattle.grid.specs.Refusals.{refuse, none, first, noArea, windowRefusal, strokesRefusal, mostStrokes}
+use Rattle.grid.specs.Refusals.{refuse, first, noArea, windowRefusal, strokesRefusal, mostStrokes}
 use Rattle.grid.specs.declared.Answer.{Answer}
 use Rattle.grid.specs.declared.Refusal.{Refusal}
 use Rattle.grid.specs.declared.Stroke.{Stroke}
@@ -22,9 +22,9 @@ use Rattle.drawing.specs.declared.DrawingAnswer.{DrawingAnswer}
 use Rattle.drawing.proofs.Strokes.{four-each}
 use Rattle.drawing.proofs.Theorems.{few-strokes, on-table}
 use Rattle.strokes.specs.declared.StrokeAnswer.{StrokeAnswer}
-use Rattle.batch.specs.Batches.{row, rows, RowsOf, batchRefusal, Batch}
+use Rattle.batch.specs.Batches.{rows, RowsOf, batchRefusal, Batch}
 use Rattle.batch.proofs.Rows.{rows-of-short}
-use Rattle.cutting.specs.Sheets.{refusedSheet, Cut, CutDrawing, faulty, no-area, cut}
+use Rattle.cutting.specs.Sheets.{refusedSheet, CutDrawing, faulty, no-area}
 use Rattle.cutting.specs.declared.Sheet.{Sheet}
 
 -- a list that is written where it has room stands at the front

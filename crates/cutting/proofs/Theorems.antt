@@ -2,16 +2,16 @@
 --   cut-of         where nothing is refused, the drawing is cut
 --   strokes-fit, rows-fit   the numbers that are counted are within the outputs
 --   sheet-unique   one sheet only
-use mathlib.Core.Path.{_≡_, refl, sym, ap, ap₂, _∙_, subst}
+use mathlib.Core.Path.{_≡_, refl, sym, ap, _∙_, subst}
 use mathlib.Core.List.{List}
 use Prim.Native.Nat.{ℕ, _*_, _≤_}
 use native.Mathlib.Omega.{arith}
 use lib.IntN.{ℤ}
-use lib.ListN.{length, take, length-take}
+use lib.ListN.{length, length-take}
 use Rattle.grid.specs.Refusals.{noArea}
 use Rattle.grid.specs.declared.Stroke.{Stroke}
 use Rattle.grid.specs.declared.Window.{Window}
-use Rattle.drawing.specs.Drawings.{fault, drawn, Means, numbersOf}
+use Rattle.drawing.specs.Drawings.{drawn, Means, numbersOf}
 use Rattle.drawing.proofs.Strokes.{four-each}
 use Rattle.drawing.proofs.Theorems.{means-unique, never-both}
 use Rattle.batch.specs.Batches.{RowsOf}

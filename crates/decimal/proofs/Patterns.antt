@@ -7,7 +7,7 @@ use native.Mathlib.Nat.{le-refl, le-trans, le-of-eq, le-of-lt, le-antisymm, lt-o
 use native.Mathlib.Omega.{arith}
 use lib.Dec.{lit<, lit≤}
 use lib.Pow.{pow-add, pow-pos, pow-mono, shl-lt, shl-shr}
-use lib.Ieee.{Float, nan, inf, fin, binary32, up, down, size, span, climb, units, round, toBits}
+use lib.Ieee.{Float, fin, binary32, up, down, size, span, climb, units, round, toBits}
 use lib.Ieee.Digits.{size-lt, size-le}
 use lib.Ieee.Fits.{down-pos, round-is}
 use lib.Ieee.Exact.{HasValue, units-val, round-exact}

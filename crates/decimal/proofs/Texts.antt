@@ -2,17 +2,16 @@
 use mathlib.Core.Path.{_≡_, refl, sym, ap, _∙_, subst}
 use mathlib.Core.Bool.{Bool, true, false, _&&_}
 use mathlib.Core.List.{List, [], _∷_, _++_}
-use Prim.Native.Nat.{ℕ, zero, suc, _+_, _-_, _*_, _^_, _<_, _≤_}
-use native.Mathlib.Nat.{le-refl, le-trans, le-of-eq, mul-le-mul-right, mul-one, mul-assoc, mul-comm, pow-suc}
+use Prim.Native.Nat.{ℕ, suc, _+_, _-_, _*_, _^_, _<_, _≤_}
+use native.Mathlib.Nat.{le-refl, le-trans, le-of-eq, mul-le-mul-right, mul-assoc, mul-comm, pow-suc}
 use native.Mathlib.Numerals.{add-one}
 use native.Mathlib.Omega.{arith}
 use borrow.Author.Tests.{leb-true}
 use lib.Dec.{leb}
-use lib.ListN.{length, getD, drop, drop-of-length-le}
+use lib.ListN.{length, getD, drop}
 use lib.Seq.{drop-cons}
-use Rattle.whole.specs.Choice.{if_then_else_}
-use Rattle.whole.proofs.Comparisons.{ff-tt, tt-ff}
-use Rattle.decimal.specs.Decimals.{isDigit, AllDigits, none, _and_, value}
+use Rattle.whole.proofs.Comparisons.{ff-tt}
+use Rattle.decimal.specs.Decimals.{isDigit, AllDigits, _and_, value}
 
 -- ---- a digit's range
 

@@ -10,7 +10,7 @@
 --   bitsOf s n k         the bits of the f32 nearest to n / 10^k with that sign, halves to the even one (`lib.Ieee.round`)
 --   Reads text r         r is what text is read as: a number's bits, or nothing where it is no number
 use mathlib.Core.Path.{_≡_}
-use mathlib.Core.Bool.{Bool, true, false, _&&_}
+use mathlib.Core.Bool.{Bool, true, _&&_}
 use mathlib.Core.List.{List, [], _∷_, _++_}
 use Prim.Native.Nat.{ℕ, _+_, _-_, _*_, _^_, _≤_, _<_}
 use lib.Dec.{leb}

@@ -21,7 +21,7 @@ pub fn first_end(rest: &[u8]) -> usize
     if rest.len() == 0 {
         return 0;
     }
-    words::word_end(rest, 1)
+    text::find(rest, 1, b' ')
 }
 
 pub fn read_order(argument: &[u8]) -> Order {

@@ -27,7 +27,7 @@ pub fn answer(
     if LONGEST < line.len() {
         return output::unknown(text, used);
     }
-    let end = words::word_end(line, 0);
+    let end = text::find(line, 0, b' ');
     let word = &line[0..end];
     let rest = &line[end..];
     if check::same(word, b"lb") {

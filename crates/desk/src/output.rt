@@ -50,13 +50,13 @@ pub fn unknown(text: &mut Text, used: usize) -> usize {
 pub fn put_natural(text: &mut Text, used: usize, n: u64) -> usize {
     let at = place(text, used);
     text[at] = b' ';
-    words::write_natural(text, at + 1, n)
+    text::put_natural(text, at + 1, n)
 }
 
 fn put_wide(text: &mut Text, used: usize, z: i64) -> usize {
     let at = place(text, used);
     text[at] = b' ';
-    words::write_integer(text, at + 1, z)
+    text::put_integer(text, at + 1, z)
 }
 
 pub fn put_integer(text: &mut Text, used: usize, z: i32) -> usize {
@@ -68,13 +68,13 @@ pub fn put_single(text: &mut Text, used: usize, x: f32) -> usize
 {
     let at = place(text, used);
     text[at] = b' ';
-    words::write_single(text, at + 1, x)
+    words::put_single(text, at + 1, x)
 }
 
 // A refusal's number and place: how every answer begins.
 pub fn put_refusal(text: &mut Text, used: usize, number: u8, refused: usize) -> usize {
     let at = place(text, used);
-    let at = words::write_natural(text, at, number as u64);
+    let at = text::put_natural(text, at, number as u64);
     put_natural(text, at, refused as u64)
 }
 

@@ -1,14 +1,20 @@
 // The way in by hand: reads lines of text from standard input, and writes the drawing that they tell to standard output.
 ghost use Prim.Native.Nat.{_+_, _*_, _≤_};
+ghost use mathlib.Core.Path.{_≡_};
 ghost use lib.ListN.{length};
-ghost use Rattle.pen.specs.Steps.{Within, Drawn};
+ghost use Rattle.pen.specs.Lines.{wordsEnd, spoken};
+ghost use Rattle.pen.specs.Texts.{Becomes};
+ghost use Rattle.pen.specs.Workers.{NumbersPut, AskedBy, RecordPut, Taken, Counted};
 use decimal::Reading;
 use libc::STDERR_FILENO;
 use libc::STDIN_FILENO;
 use libc::STDOUT_FILENO;
 
-// The longest text that is taken.
+// The longest text that is taken; a line end may follow it.
 const MOST_TEXT: usize = 524288;
+
+// The version of the drawing file, which is the first byte of the strip's record too.
+const VERSION: u8 = 1;
 
 // Why a line is not taken.
 enum Fault {
@@ -16,12 +22,12 @@ enum Fault {
     SecondStrip,
     UnknownWord,
     // Not as many numbers, or something after them.
-    Numbers(usize),
+    NotNumbers(usize),
     LongDrawing,
     LongText,
 }
 
-// What became of a line: the drawing's length after it, or why it is not taken.
+// What became of a line: where the drawing ends after it, or why it is not taken.
 enum Step {
     Done(usize),
     Wrong(Fault),
@@ -33,11 +39,18 @@ struct Outcome {
     step: Step,
 }
 
+// The record that a word asks for: its first byte, and how many numbers follow.
+struct Asked {
+    first: u8,
+    count: usize,
+}
+
 // Puts the numbers of a line from `from` on, and says whether they are as many as asked and nothing follows them.
 fn put_numbers(line: &[u8], from: usize, count: usize, page: &mut [u8], at: usize) -> bool
     requires { ⌜ from ≤ length (now line) ⌝ }
     requires { ⌜ count ≤ 4 ⌝ }
     requires { ⌜ at + count * 4 ≤ length (now page) ⌝ }
+    ensures { λ r. ⌜ NumbersPut (now (line .entry)) from count (now (page .entry)) (now (page .exit)) at r ⌝ }
 {
     let mut end = from;
     let mut i = 0;
@@ -54,58 +67,83 @@ fn put_numbers(line: &[u8], from: usize, count: usize, page: &mut [u8], at: usiz
 }
 
 // Puts a record: its first byte, and the numbers of the line from `from` on.
-fn put_record(line: &[u8], from: usize, first: u8, count: usize, page: &mut [u8], at: usize) -> Step
+fn put_record(line: &[u8], from: usize, asked: Asked, page: &mut [u8], at: usize) -> Step
     requires { ⌜ from ≤ length (now line) ⌝ }
-    requires { ⌜ count ≤ 4 ⌝ }
+    requires { ⌜ asked .count ≤ 4 ⌝ }
     requires { ⌜ at ≤ length (now page) ⌝ }
-    ensures { λ r. ⌜ Within r (now (page .exit)) ⌝ }
+    ensures { λ r. ⌜ RecordPut (now (line .entry)) from (asked .first) (asked .count) (now (page .entry)) (now (page .exit)) at r ⌝ }
 {
-    let next = at + 1 + count * 4;
+    let next = at + 1 + asked.count * 4;
     if page.len() < next {
         return Step::Wrong(Fault::LongDrawing);
     }
-    page[at] = first;
-    if put_numbers(line, from, count, page, at + 1) {
+    page[at] = asked.first;
+    if put_numbers(line, from, asked.count, page, at + 1) {
         return Step::Done(next);
     }
-    Step::Wrong(Fault::Numbers(count))
+    Step::Wrong(Fault::NotNumbers(asked.count))
 }
 
-// Takes a line without its comment. The strip's record is the version byte and its numbers, after room for the count of bytes.
+// The record that a word asks for; its first byte is 0 where the word asks for none.
+fn asked_by(word: &[u8]) -> Asked
+    ensures { λ r. ⌜ AskedBy (now (word .entry)) r ⌝ }
+{
+    if check::same(word, b"strip") {
+        return Asked {
+            first: VERSION,
+            count: 4,
+        };
+    }
+    if check::same(word, b"move") {
+        return Asked {
+            first: b'M',
+            count: 2,
+        };
+    }
+    if check::same(word, b"line") {
+        return Asked {
+            first: b'L',
+            count: 2,
+        };
+    }
+    if check::same(word, b"close") {
+        return Asked {
+            first: b'Z',
+            count: 0,
+        };
+    }
+    Asked { first: 0, count: 0 }
+}
+
+// Takes a line without its comment. The drawing starts at the place 4, behind room for the count of bytes.
 fn take_words(line: &[u8], page: &mut [u8], at: usize) -> Step
-    requires { ⌜ 4 ≤ length (now page) ⌝ }
-    requires { ⌜ at ≤ length (now page) ⌝ }
-    ensures { λ r. ⌜ Within r (now (page .exit)) ⌝ }
+    requires { ⌜ (4 ≤ at) × (at ≤ length (now page)) ⌝ }
+    ensures { λ r. ⌜ Taken (now (line .entry)) (now (page .entry)) (now (page .exit)) at r ⌝ }
 {
     let start = text::skip(line, 0, b' ');
     let end = text::find(line, start, b' ');
-    let word = &line[start..end];
-    if word.len() == 0 {
+    if end == start {
         return Step::Done(at);
     }
-    if check::same(word, b"strip") {
-        if at != 0 {
+    let asked = asked_by(&line[start..end]);
+    if asked.first == 0 {
+        return Step::Wrong(Fault::UnknownWord);
+    }
+    if asked.first == VERSION {
+        if at != 4 {
             return Step::Wrong(Fault::SecondStrip);
         }
-        return put_record(line, end, 1, 4, page, 4);
+        return put_record(line, end, asked, page, at);
     }
-    if at == 0 {
+    if at == 4 {
         return Step::Wrong(Fault::NoStrip);
     }
-    if check::same(word, b"move") {
-        return put_record(line, end, b'M', 2, page, at);
-    }
-    if check::same(word, b"line") {
-        return put_record(line, end, b'L', 2, page, at);
-    }
-    if check::same(word, b"close") {
-        return put_record(line, end, b'Z', 0, page, at);
-    }
-    Step::Wrong(Fault::UnknownWord)
+    put_record(line, end, asked, page, at)
 }
 
 // Where the words of a line end: at a comment, or at a carriage return that ends the line.
 fn words_end(line: &[u8]) -> usize
+    ensures { λ r. ⌜ r ≡ wordsEnd (now (line .entry)) ⌝ }
     ensures { λ r. ⌜ r ≤ length (now (line .entry)) ⌝ }
 {
     let end = text::find(line, 0, b'#');
@@ -121,12 +159,33 @@ fn words_end(line: &[u8]) -> usize
     end
 }
 
+// Takes a line.
+fn take_line(line: &[u8], page: &mut [u8], at: usize) -> Step
+    requires { ⌜ (4 ≤ at) × (at ≤ length (now page)) ⌝ }
+    ensures { λ r. ⌜ Taken (spoken (now (line .entry))) (now (page .entry)) (now (page .exit)) at r ⌝ }
+{
+    let end = words_end(line);
+    take_words(&line[..end], page, at)
+}
+
+// Puts the count of the bytes that follow it before a drawing.
+fn put_length(page: &mut [u8], at: usize) -> Step
+    requires { ⌜ (4 ≤ at) × (at ≤ length (now page)) × (length (now page) ≤ 65536) ⌝ }
+    ensures { λ r. ⌜ Counted (now (page .entry)) (now (page .exit)) at r ⌝ }
+{
+    if at == 4 {
+        return Step::Wrong(Fault::NoStrip);
+    }
+    text::put_bytes(page, 0, (at - 4) as u32);
+    Step::Done(at)
+}
+
 // Draws a text into a page, line by line.
 fn draw(text: &[u8], page: &mut [u8]) -> Outcome
     requires { ⌜ (4 ≤ length (now page)) × (length (now page) ≤ 65536) ⌝ }
-    ensures { λ r. ⌜ Drawn (r .step) (now (page .exit)) ⌝ }
+    ensures { λ r. ⌜ Becomes (now (text .entry)) (now (page .exit)) r ⌝ }
 {
-    let mut at: usize = 0;
+    let mut at: usize = 4;
     let mut line: usize = 1;
     let mut from = 0;
     while from < text.len() {
@@ -137,9 +196,7 @@ fn draw(text: &[u8], page: &mut [u8]) -> Outcome
                 step: Step::Wrong(Fault::LongText),
             };
         }
-        let whole = &text[from..end];
-        let to = words_end(whole);
-        match take_words(&whole[..to], page, at) {
+        match take_line(&text[from..end], page, at) {
             Step::Done(next) => {
                 at = next;
             }
@@ -153,22 +210,9 @@ fn draw(text: &[u8], page: &mut [u8]) -> Outcome
         from = end + 1;
         line += 1;
     }
-    if MOST_TEXT < text.len() {
-        return Outcome {
-            line,
-            step: Step::Wrong(Fault::LongText),
-        };
-    }
-    if at < 4 {
-        return Outcome {
-            line,
-            step: Step::Wrong(Fault::NoStrip),
-        };
-    }
-    text::put_bytes(page, 0, (at - 4) as u32);
     Outcome {
         line,
-        step: Step::Done(at),
+        step: put_length(page, at),
     }
 }
 
@@ -186,15 +230,18 @@ fn complain(line: usize, fault: Fault) {
         Fault::UnknownWord => {
             io::write_all(STDERR_FILENO, b": expected strip, move, line or close\n");
         }
-        Fault::Numbers(count) => match count {
+        Fault::NotNumbers(count) => match count {
             0 => {
                 io::write_all(STDERR_FILENO, b": expected nothing after close\n");
             }
             2 => {
-                io::write_all(STDERR_FILENO, b": expected two numbers\n");
+                io::write_all(STDERR_FILENO, b": expected two numbers of up to 9 digits\n");
             }
             _ => {
-                io::write_all(STDERR_FILENO, b": expected four numbers\n");
+                io::write_all(
+                    STDERR_FILENO,
+                    b": expected four numbers of up to 9 digits\n",
+                );
             }
         },
         Fault::LongDrawing => {
@@ -210,7 +257,8 @@ fn complain(line: usize, fault: Fault) {
 }
 
 fn main() {
-    let mut text = [0u8; 524289];
+    // A byte more than a text and its line end may have.
+    let mut text = [0u8; 524290];
     let count = io::read_full(STDIN_FILENO, &mut text);
     let mut page = [0u8; 65536];
     let outcome = draw(&text[..count], &mut page);

@@ -1,11 +1,11 @@
 -- The digits of a number are those that `io` writes, and few; and what is put for a number by its sign.
-use mathlib.Core.Path.{_≡_, refl, sym, ap, ap₂, _∙_, subst}
+use mathlib.Core.Path.{_≡_, sym, ap, ap₂, _∙_, subst}
 use mathlib.Core.Bool.{Bool, true, false, cond}
 use mathlib.Core.List.{List, [], _∷_, _++_}
-use Prim.Native.Nat.{ℕ, zero, suc, _+_, _-_, _*_, _/_, _%_, _^_, _<_, _≤_, suc-le-suc}
+use Prim.Native.Nat.{ℕ, zero, suc, _+_, _-_, _/_, _%_, _^_, _<_, _≤_, suc-le-suc}
 use native.Mathlib.Nat.{le-trans, lt-of-lt-of-le, lt-of-not-le, not-le-of-lt, le-of-suc-le-suc, pow-suc, pow-le-pow-right, mod-lt, le-div-iff-mul-le, div-lt-iff-lt-mul}
 use native.Mathlib.Omega.{arith}
-use borrow.Author.Tests.{ltb-true, ltb-false, lt-ltb, le-ltb}
+use borrow.Author.Tests.{ltb-true, lt-ltb, le-ltb}
 use lib.Dec.{T, ltb, lit<, lit≤}
 use lib.IntN.{ℤ, pos, negsuc, natAbs}
 use lib.ListN.{length, set, length-append}
@@ -17,12 +17,13 @@ use Rattle.text.proofs.Puts.{put-nothing, put-byte, put-then}
 
 -- ---- how many digits
 
--- a number below 10 ^ j has at most j digits
-pub few-digits : {n k : ℕ} (j : ℕ) → 0 < j → n < 10 ^ j → Io.Fewest 10 1 n k → k ≤ j
-few-digits {n} {k} j J h f = le-of-suc-le-suc (lt-of-not-le (λ (g : suc j ≤ k). not-le-of-lt (lt-of-lt-of-le h (pow-le-pow-right (lit< tt) (less j k g))) (f .2 (omega arith))))
+-- the fewest digits of a base, and no fewer than `least`, are no more than enough
+pub enough : (base least m : ℕ) {n k : ℕ} → 0 < base → least ≤ m → n < base ^ m → Io.Fewest base least n k → k ≤ m
+enough base least m {n} {k} b l h f =
+    le-of-suc-le-suc (lt-of-not-le (λ (g : suc m ≤ k). not-le-of-lt (lt-of-lt-of-le h (pow-le-pow-right b (less m k g))) (f .2 (omega arith))))
   where
-    less : (j k : ℕ) → suc j ≤ k → j ≤ k - 1
-    less j k g = omega arith
+    less : (m k : ℕ) → suc m ≤ k → m ≤ k - 1
+    less m k g = omega arith
 
 pub digits-few : (j k n : ℕ) → n < 10 ^ suc j → j < k → length (digits k n) ≤ suc j
 unfolding digits
@@ -71,20 +72,14 @@ natural-is {n} {k} h w = same-digits 19 k n h w
 
 -- ---- by the sign
 
-pub positive : {before after : List ℕ} {at end size : ℕ} (x : ℤ) (last : ℕ) → ltZ x (pos 0) ≡ false → size ≡ natAbs x → Put before after at end (natural size ++ last ∷ [])
-    → Put before after at end (integer x ++ last ∷ [])
+pub positive : {before after : List ℕ} {at end size : ℕ} (z : ℤ) → ltZ z (pos 0) ≡ false → size ≡ natAbs z → Put before after at end (natural size) → Put before after at end (integer z)
 unfolding integer
-positive {before} {after} {at} {end} (pos n) last e s p = subst (λ (k : ℕ). Put before after at end (natural k ++ last ∷ [])) s p
-positive (negsuc n) last e s p = absurd (subst T e tt)
+positive {before} {after} {at} {end} (pos n) e s p = subst (λ (k : ℕ). Put before after at end (natural k)) s p
+positive (negsuc n) e s p = absurd (subst T e tt)
 
-pub negative : {before after : List ℕ} {at end size : ℕ} (x : ℤ) (last : ℕ) → ltZ x (pos 0) ≡ true → size ≡ natAbs x → at < length before
-    → Put (set before at 45) after (at + 1) end (natural size ++ last ∷ []) → Put before after at end (integer x ++ last ∷ [])
+pub negative : {before after : List ℕ} {at end size : ℕ} (z : ℤ) → ltZ z (pos 0) ≡ true → size ≡ natAbs z → at < length before
+    → Put (set before at 45) after (at + 1) end (natural size) → Put before after at end (integer z)
 unfolding integer
-negative (pos n) last e s h p = absurd (omega (arith, ltb-true n 0 e))
-negative {before} {after} {at} {end} (negsuc n) last e s h p =
-    put-then (put-byte 45 h (put-nothing before (omega arith))) (subst (λ (k : ℕ). Put (set before at 45) after (at + 1) end (natural k ++ last ∷ [])) s p)
-
--- with the bound that goes with it
-pub within : {before after : List ℕ} {at end : ℕ} (x : ℤ) (last : ℕ) → mag x < 2 ^ 31 → Put before after at end (integer x ++ last ∷ [])
-    → Put before after at end (integer x ++ last ∷ []) × (end ≤ at + 12)
-within x last h p = (p, omega (arith, p .ends, length-append (integer x) (last ∷ []), integer-short x h))
+negative (pos n) e s h p = absurd (omega (arith, ltb-true n 0 e))
+negative {before} {after} {at} {end} (negsuc n) e s h p =
+    put-then (put-byte 45 h (put-nothing before (omega arith))) (subst (λ (k : ℕ). Put (set before at 45) after (at + 1) end (natural k)) s p)

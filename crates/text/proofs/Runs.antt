@@ -1,11 +1,11 @@
 -- A walk along a text that started at a place: one byte more that passes the test, the first that does not, and the end.
-use mathlib.Core.Path.{_≡_, refl, sym, ap, _∙_}
+use mathlib.Core.Path.{_≡_, refl}
 use mathlib.Core.Bool.{Bool, true, false}
 use mathlib.Core.List.{List, [], _∷_}
 use Prim.Native.Nat.{ℕ, suc, _+_, _<_, _≤_}
 use native.Mathlib.Numerals.{add-one}
 use native.Mathlib.Omega.{arith}
-use lib.ListN.{length, getD, drop, drop-of-length-le, length-drop}
+use lib.ListN.{length, getD, drop, drop-of-length-le}
 use lib.Seq.{drop-cons}
 use Rattle.whole.specs.Choice.{if_then_else_}
 use Rattle.text.specs.Runs.{run}
@@ -26,10 +26,6 @@ run-le test (b ∷ bs) = go (test b) (run-le test bs)
     go : (t : Bool) → run test bs ≤ length bs → (if t then suc (run test bs) else 0) ≤ suc (length bs)
     go true h = omega arith
     go false h = omega arith
-
--- where a run from a place ends, within the text
-pub run-within : (test : ℕ → Bool) (s : List ℕ) (from : ℕ) → from ≤ length s → from + run test (drop from s) ≤ length s
-run-within test s from h = omega (arith, run-le test (drop from s), length-drop from s)
 
 module _ (test : ℕ → Bool) (s : List ℕ) (i : ℕ) {whole : ℕ} (e : whole ≡ i + run test (drop i s)) where
   pub run-more : i < length s → test (getD s i 0) ≡ true → whole ≡ i + 1 + run test (drop (i + 1) s)

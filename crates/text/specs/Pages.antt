@@ -1,5 +1,5 @@
 -- What is put into a page.
---   Put before after at end word   word stands in the page from at to end; what stood before at is as it was, and the page is as long
+--   Put before after at end word   word stands in the page from at to end; all else is as it was, and the page is as long
 --   ascii t      the bytes of a text
 --   digits k n   the decimal digits of n, if they are k at the most
 --   natural n    the decimal digits of a number below 2 ^ 64, with no zero before them
@@ -13,11 +13,12 @@ use Prim.Native.Nat.{ℕ, zero, suc, _+_, _/_, _%_, _^_, _≤_}
 use Prim.Native.String as Text
 use lib.Dec.{ltb}
 use lib.IntN.{ℤ, pos, negsuc}
-use lib.ListN.{length, take}
+use lib.ListN.{length, take, drop}
 use Rattle.whole.specs.Choice.{if_then_else_}
 
 pub record Put (before after : List ℕ) (at end : ℕ) (word : List ℕ) : Type 0 where
   pub text : take end after ≡ take at before ++ word
+  pub rest : drop end after ≡ drop end before
   pub ends : end ≡ at + length word
   pub fits : end ≤ length after
   pub same : length after ≡ length before

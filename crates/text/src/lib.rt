@@ -63,15 +63,38 @@ pub fn put_bytes(page: &mut [u8], at: usize, n: u32) -> usize
     at + 4
 }
 
-// Puts a number in decimal, and one byte after it.
+// Puts a number in decimal.
+pub fn put_natural(page: &mut [u8], at: usize, n: u64) -> usize
+    requires { ⌜ at + 20 ≤ length (now page) ⌝ }
+    ensures { λ r. ⌜ Put (now (page .entry)) (now (page .exit)) at r (natural n) ⌝ }
+    ensures { λ r. ⌜ r ≤ at + 20 ⌝ }
+{
+    let mut digits = [0u8; 20];
+    let count = io::decimal(n, &mut digits);
+    put(page, at, &digits[..count])
+}
+
+// The same for a number with a sign.
+pub fn put_integer(page: &mut [u8], at: usize, z: i64) -> usize
+    requires { ⌜ at + 21 ≤ length (now page) ⌝ }
+    ensures { λ r. ⌜ Put (now (page .entry)) (now (page .exit)) at r (integer z) ⌝ }
+    ensures { λ r. ⌜ r ≤ at + 21 ⌝ }
+{
+    let size = whole::size(z);
+    if z < 0 {
+        page[at] = b'-';
+        return put_natural(page, at + 1, size);
+    }
+    put_natural(page, at, size)
+}
+
+// Puts a number, and one byte after it.
 pub fn put_count(page: &mut [u8], at: usize, n: u64, last: u8) -> usize
     requires { ⌜ at + 21 ≤ length (now page) ⌝ }
     ensures { λ r. ⌜ Put (now (page .entry)) (now (page .exit)) at r (natural n ++ last ∷ []) ⌝ }
     ensures { λ r. ⌜ r ≤ at + 21 ⌝ }
 {
-    let mut digits = [0u8; 20];
-    let count = io::decimal(n, &mut digits);
-    let end = put(page, at, &digits[..count]);
+    let end = put_natural(page, at, n);
     page[end] = last;
     end + 1
 }
@@ -82,12 +105,9 @@ pub fn put_number(page: &mut [u8], at: usize, x: i32, last: u8) -> usize
     ensures { λ r. ⌜ Put (now (page .entry)) (now (page .exit)) at r (integer x ++ last ∷ []) ⌝ }
     ensures { λ r. ⌜ r ≤ at + 12 ⌝ }
 {
-    let size = whole::size(x as i64);
-    if x < 0 {
-        page[at] = b'-';
-        return put_count(page, at + 1, size, last);
-    }
-    put_count(page, at, size, last)
+    let end = put_integer(page, at, x as i64);
+    page[end] = last;
+    end + 1
 }
 
 // Puts a refusal's words: its number and its place, and one byte after them.

@@ -5,6 +5,5 @@ pub mod Patterns
 pub mod Spaces
 pub mod Lists
 pub mod Pairs
-pub mod Writing
 pub mod Theorems
 pub mod Examples

@@ -1,3 +1,2 @@
 pub mod Digits
 pub mod Words
-pub mod Written

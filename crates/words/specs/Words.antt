@@ -6,7 +6,7 @@
 --   integer o         the number o, where it is one that an i32 holds
 --   withBits n        the f32 with the bits n, where there are such; every pattern of a NaN is the NaN
 --   single w          the f32 that the word w is: eight hexadecimal digits of its bits
---   size w            how many bytes of w come before its first space
+--   pattern x         the word of the f32 x, in small letters
 --   onto b ws         the words ws, with the byte b in front of the first
 --   words l           l, cut at each space
 --   arguments l       the words of l after its first byte; none where it is empty
@@ -19,12 +19,13 @@ use mathlib.Core.Path.{_≡_}
 use mathlib.Core.Bool.{Bool, true, false, _&&_}
 use mathlib.Core.List.{List, [], _∷_}
 use mathlib.Core.Option.{Option, none, some, Option·map}
-use Prim.Native.Nat.{ℕ, suc, _+_, _*_, _≤_, _<_, _^_}
+use Prim.Native.Nat.{ℕ, _+_, _*_, _≤_, _<_, _^_}
 use lib.Dec.{leb, ltb, eqb}
 use lib.IntN.{ℤ, pos, negsuc, negℤ}
-use lib.Ieee.{binary32, ofBits}
+use lib.Ieee.{Float, binary32, ofBits, toBits}
 use lib.ListN.{length, take, drop}
 use lib.Signed.{mag}
+use Rattle.io.specs.Digits.{digits}
 use Rattle.whole.specs.Choice.{if_then_else_}
 use Rattle.words.specs.Digits.{digitOf, value}
 use Rattle.words.specs.declared.Natural.{Natural}
@@ -64,11 +65,10 @@ withBits (Natural.Is n) = Single.Is (ofBits binary32 n)
 unfoldable pub single : List ℕ → Single
 single w = if eqb (length w) 8 then withBits (upTo 0xffff_ffff (value 16 w)) else Single.Bad
 
--- ---- words
+abbrev pub pattern : Float → List ℕ
+pattern x = digits 16 8 (toBits binary32 x)
 
-unfoldable pub size : List ℕ → ℕ
-size [] = 0
-size (b ∷ l) = if eqb b 32 then 0 else suc (size l)
+-- ---- words
 
 abbrev pub onto : ℕ → List (List ℕ) → List (List ℕ)
 onto b [] = (b ∷ []) ∷ []

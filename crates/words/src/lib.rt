@@ -1,14 +1,14 @@
-// Words of a line: where they end, the numbers that they are, and numbers written as words.
+// Words of a line: the numbers that they are, and the word of an f32.
 ghost use mathlib.Core.Path.{_≡_};
 ghost use mathlib.Core.Bool.{false, not};
 ghost use Prim.Native.Nat.{_+_, _≤_, _<_, _^_};
 ghost use lib.IntN.{pos, negℤ};
 ghost use lib.Dec.{T};
 ghost use lib.Ieee.{binary32, ofBits, isNan};
-ghost use lib.ListN.{length, drop};
+ghost use lib.ListN.{length};
+ghost use Rattle.text.specs.Pages.{Put};
 ghost use Rattle.words.specs.Digits.{digitOf, value};
-ghost use Rattle.words.specs.Words.{upTo, hasMinus, numeral, unsigned, integer, single, size, arguments, integers, pairs, bytes, Into};
-ghost use Rattle.words.specs.Written.{Put, Wrote, Decimal, Numeral, Pattern};
+ghost use Rattle.words.specs.Words.{upTo, hasMinus, numeral, unsigned, integer, single, pattern, arguments, integers, pairs, bytes, Into};
 
 // The number that a word is, or that it is none of those asked for.
 pub enum Natural {
@@ -140,22 +140,6 @@ pub fn read_single(word: &[u8]) -> Single
     }
 }
 
-// The end of the word that starts at from: the place of the next space, or the end of the line.
-pub fn word_end(line: &[u8], from: usize) -> usize
-    requires { ⌜ from ≤ length (now line) ⌝ }
-    ensures { λ r. ⌜ r ≡ from + size (drop from (now (line .entry))) ⌝ }
-    ensures { λ r. ⌜ r ≤ length (now (line .entry)) ⌝ }
-{
-    let mut i = from;
-    while i < line.len() {
-        if line[i] == b' ' {
-            return i;
-        }
-        i += 1;
-    }
-    i
-}
-
 fn unread() -> Read
     ensures { λ r. ⌜ r ≡ record { whole = false; count = 0 } ⌝ }
 {
@@ -173,7 +157,7 @@ pub fn read_integers(text: &[u8], out: &mut [i32]) -> Read
     let mut at = 0;
     while at < text.len() {
         let start = at + 1;
-        let end = word_end(text, start);
+        let end = text::find(text, start, b' ');
         let Integer::Is(x) = read_integer(&text[start..end]) else {
             return unread();
         };
@@ -239,52 +223,14 @@ fn read_pairs(text: &[u8], out: &mut [u8]) -> Read
     }
 }
 
-// Puts a word into out from at on, and says where it ends.
-fn put(out: &mut [u8], at: usize, word: &[u8]) -> usize
-    requires { ⌜ at + length (now word) ≤ length (now out) ⌝ }
-    ensures { λ r. ⌜ Put at (now (out .entry)) (now (word .entry)) (now (out .exit)) r ⌝ }
-{
-    let mut i = 0;
-    while i < word.len() {
-        out[at + i] = word[i];
-        i += 1;
-    }
-    at + i
-}
-
-// Writes n from at on, and says where it ends.
-pub fn write_natural(out: &mut [u8], at: usize, n: u64) -> usize
-    requires { ⌜ at + 20 ≤ length (now out) ⌝ }
-    ensures { λ r. ⌜ Wrote (Decimal n) at (now (out .entry)) (now (out .exit)) r ⌝ }
-    ensures { λ r. ⌜ r ≤ at + 20 ⌝ }
-{
-    let mut digits = [0u8; 20];
-    let k = io::decimal(n, &mut digits);
-    put(out, at, &digits[..k])
-}
-
-// Writes z from at on, and says where it ends.
-pub fn write_integer(out: &mut [u8], at: usize, z: i64) -> usize
-    requires { ⌜ at + 21 ≤ length (now out) ⌝ }
-    ensures { λ r. ⌜ Wrote (Numeral z) at (now (out .entry)) (now (out .exit)) r ⌝ }
-    ensures { λ r. ⌜ r ≤ at + 21 ⌝ }
-{
-    let n = whole::size(z);
-    if z < 0 {
-        out[at] = b'-';
-        return write_natural(out, at + 1, n);
-    }
-    write_natural(out, at, n)
-}
-
-// Writes the bits of x from at on, and says where they end.
-pub fn write_single(out: &mut [u8], at: usize, x: f32) -> usize
+// Puts the bits of x from the place `at` on, and says where they end.
+pub fn put_single(out: &mut [u8], at: usize, x: f32) -> usize
     requires { ⌜ at + 8 ≤ length (now out) ⌝ }
     requires { ⌜ T (not (isNan x)) ⌝ }
-    ensures { λ r. ⌜ Wrote (Pattern x) at (now (out .entry)) (now (out .exit)) r ⌝ }
+    ensures { λ r. ⌜ Put (now (out .entry)) (now (out .exit)) at r (pattern x) ⌝ }
     ensures { λ r. ⌜ r ≡ at + 8 ⌝ }
 {
     let mut digits = [0u8; 16];
     let k = io::hex(f32::to_bits(x) as u64, 8, &mut digits);
-    put(out, at, &digits[..k])
+    text::put(out, at, &digits[..k])
 }

@@ -1,3 +1,4 @@
+-- `cutting::cut_drawing` meets its contract: the reading has room for every drawing, and the batch refuses nothing of it (`proofs/Readings.antt`). Assumes nothing.
 use mathlib.Core.Path.{sym}
 use native.Mathlib.Omega.{arith}
 use denote.Ref.{now}
@@ -8,27 +9,19 @@ use Rattle.cutting.proofs.Readings.{Read, read, Drawn, Kept, kept}
 use borrow.Author.Needs.{needs}
 use Rattle.cutting.proofs.cut_drawing.Statement.{statement}
 use Rattle.cutting.proofs.cut_drawing.Tie as tie
-use Rattle.cutting.proofs.cut_drawing.Reads as reads
-use Rattle.cutting.proofs.cut_drawing.Lts as lts
-use Rattle.batch.proofs.batch.Reads as batch-reads
-use Rattle.drawing.proofs.read_drawing.Reads as read-drawing-reads
 
--- src/lib.rt:22:9
 read-drawing-requires : tie.Need-read-drawing-requires
 read-drawing-requires c κs = search needs
 
--- src/lib.rt:25:9
 same-length : tie.Need-same-length
 same-length c = search needs
 
--- src/lib.rt:25:9
 seen : (c : tie.After-strokes) → Read (now (c .before .before .before .before .args .bytes)) (c .before .read-drawing .result) (c .before .read-drawing .last .1 .0)
 seen c = read (c .before .before .before .before .pre .0) (c .strokes .given) (c .before .read-drawing .ensures)
 
 returns : tie.Need-returns
 returns c = seen (c .before .before .before) .refuses (c .if1 .taken) _
 
--- src/lib.rt:33:19
 -- nothing was refused
 drawn-of : (c : tie.Else1) → Drawn (now (c .before .before .before .before .before .before .before .args .bytes)) (c .before .before .before .before .read-drawing .result) (c .before .before .before .before .read-drawing .last .1 .0)
 drawn-of c = seen (c .before .before .before) .draws (c .if1 .left)
@@ -36,27 +29,21 @@ drawn-of c = seen (c .before .before .before) .draws (c .if1 .left)
 mul-numbers : tie.Need-mul-numbers
 mul-numbers c = omega (arith, drawn-of (c .before) .few, drawn-of (c .before) .count)
 
--- src/lib.rt:34:39
 slice-reshare-prefix-batch : tie.Need-slice-reshare-prefix-batch
 slice-reshare-prefix-batch c = drawn-of (c .before) .fits
 
--- src/lib.rt:34:39
 slice-aggregate-batch : tie.Need-slice-aggregate-batch
 slice-aggregate-batch c = sym (length-take-le _ _ (drawn-of (c .before .before) .fits))
 
--- src/lib.rt:34:9
 batch-requires : tie.Need-batch-requires
 batch-requires c κs = search needs
 
--- src/lib.rt:17:1
 same-length-2 : tie.Need-same-length-2
 same-length-2 c = search needs
 
--- src/lib.rt:17:1
 same-length-3 : tie.Need-same-length-3
 same-length-3 c = search needs
 
--- src/lib.rt:17:1
 kept-of : (c : tie.After-batch) → let d = drawn-of (c .before .before .before .before) in Kept (c .before .before .before .before .before .before .before .before .read-drawing .result .window) (numbersOf (d .lines)) (c .batch .result) (c .batch .last .1 .1 .0)
 kept-of c =
     let d = drawn-of (c .before .before .before .before) in

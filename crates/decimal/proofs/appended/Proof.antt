@@ -1,3 +1,4 @@
+-- `decimal::appended` meets its contract: the digits read so far, followed by those left, spell the same number. Assumes nothing.
 use Prim.Native.Nat.{_+_, _*_, _<_, _^_}
 use mathlib.Core.Path.{_∙_, sym}
 use native.Mathlib.Nat.{le-of-eq, lt-of-le-of-lt, le-trans}
@@ -12,8 +13,6 @@ use Rattle.decimal.specs.Decimals.{AllDigits, value}
 use Rattle.decimal.proofs.Texts.{digit-range, next-digit, next-rest, next-value, value-from, value-nil}
 use Rattle.decimal.proofs.appended.Statement.{statement}
 use Rattle.decimal.proofs.appended.Tie as tie
-use Rattle.decimal.proofs.appended.Reads as reads
-use Rattle.decimal.proofs.appended.Lts as lts
 
 abbrev Inv-loop : tie.InvT-loop
 Inv-loop n digits number₀ i₀ number i = (i ≤ length digits) × (value number (drop i digits) ≡ value n digits) × AllDigits (drop i digits)
@@ -21,11 +20,9 @@ Inv-loop n digits number₀ i₀ number i = (i ≤ length digits) × (value numb
 abbrev μ-loop : tie.MeasureT-loop
 μ-loop n digits number₀ i₀ number i = length digits - i
 
--- src/lib.rt:106:5
 loop-holds : tie.Need-loop-holds Inv-loop μ-loop
 loop-holds c = (omega arith, refl, c .pre .0)
 
--- src/lib.rt:107:18
 -- the next digit, and the sum with it, which is no more than the whole number
 digit : (c : tie.After-shared-slice-known Inv-loop μ-loop) → (48 ≤ getD (now (c .before .before .before .args .digits)) (c .before .before .loop .i) 0) × (getD (now (c .before .before .before .args .digits)) (c .before .before .loop .i) 0 ≤ 57)
 digit c = digit-range _ (next-digit _ _ (c .before .loop-test .taken) (c .before .before .loop .inv .2))
@@ -39,35 +36,27 @@ sum c =
 mul-number : tie.Need-mul-number Inv-loop μ-loop
 mul-number c = omega (arith, sum c)
 
--- src/lib.rt:107:34
 shared-slice-read-number : tie.Need-shared-slice-read-number Inv-loop μ-loop
 shared-slice-read-number c = search needs
 
--- src/lib.rt:107:34
 sub-number : tie.Need-sub-number Inv-loop μ-loop
 sub-number c = digit c .0
 
--- src/lib.rt:107:33
 cast-number : tie.Need-cast-number Inv-loop μ-loop
 cast-number c = omega (arith, digit c .1)
 
--- src/lib.rt:107:18
 add-number : tie.Need-add-number Inv-loop μ-loop
 add-number c = omega (arith, sum (c .before))
 
--- src/lib.rt:108:9
 add-i : tie.Need-add-i Inv-loop μ-loop
 add-i c = omega arith
 
--- src/lib.rt:106:5
 loop-less : tie.Need-loop-less Inv-loop μ-loop
 loop-less c = omega arith
 
--- src/lib.rt:106:5
 loop-again : tie.Need-loop-again Inv-loop μ-loop
 loop-again c = let a = c .before .before in (omega arith, sym (next-value _ _ (c .before .loop-test .taken) (a .loop .inv .2) _) ∙ a .loop .inv .1, next-rest _ _ (c .before .loop-test .taken) (a .loop .inv .2))
 
--- src/lib.rt:99:1
 returns : tie.Need-returns Inv-loop μ-loop
 returns c = sym (sym (c .before .loop .inv .1) ∙ rw (drop-of-length-le _ (c .loop-test .left)) (value-nil _))
 

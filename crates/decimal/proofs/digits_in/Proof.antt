@@ -1,3 +1,4 @@
+-- `decimal::digits_in` meets its contract: the run from the start goes on as long as the bytes are digits. Assumes nothing.
 use mathlib.Core.Path.{_≡_, sym, _∙_}
 use Prim.Native.Nat.{_+_, _-_, _≤_}
 use native.Mathlib.Omega.{arith}
@@ -9,9 +10,6 @@ use Rattle.text.specs.Runs.{run}
 use Rattle.text.proofs.Runs.{run-more, run-here, run-end}
 use Rattle.decimal.proofs.digits_in.Statement.{statement}
 use Rattle.decimal.proofs.digits_in.Tie as tie
-use Rattle.decimal.proofs.digits_in.Reads as reads
-use Rattle.decimal.proofs.digits_in.Lts as lts
-use Rattle.decimal.proofs.is_digit.Reads as is-digit-reads
 
 abbrev Inv-loop : tie.InvT-loop
 Inv-loop text i₀ i = (i ≤ length text) × (run isDigit text ≡ i + run isDigit (drop i text))
@@ -19,35 +17,27 @@ Inv-loop text i₀ i = (i ≤ length text) × (run isDigit text ≡ i + run isDi
 abbrev μ-loop : tie.MeasureT-loop
 μ-loop text i₀ i = length text - i
 
--- src/lib.rt:89:5
 loop-holds : tie.Need-loop-holds Inv-loop μ-loop
 loop-holds c = omega arith
 
--- src/lib.rt:90:22
 shared-slice-read-is-digit : tie.Need-shared-slice-read-is-digit Inv-loop μ-loop
 shared-slice-read-is-digit c = search needs
 
--- src/lib.rt:90:13
 is-digit-requires : tie.Need-is-digit-requires Inv-loop μ-loop
 is-digit-requires c κs = search needs
 
--- src/lib.rt:91:13
 returns : tie.Need-returns Inv-loop μ-loop
 returns c = let a = c .before .before .before in run-here isDigit _ _ (a .before .loop .inv .1) (a .loop-test .taken) (sym (c .before .is-digit .ensures) ∙ not-true _ (c .if1 .taken))
 
--- src/lib.rt:93:9
 add-i : tie.Need-add-i Inv-loop μ-loop
 add-i c = omega arith
 
--- src/lib.rt:89:5
 loop-less : tie.Need-loop-less Inv-loop μ-loop
 loop-less c = omega arith
 
--- src/lib.rt:89:5
 loop-again : tie.Need-loop-again Inv-loop μ-loop
 loop-again c = let a = c .before .before .before in (omega arith, run-more isDigit _ _ (a .before .loop .inv .1) (a .loop-test .taken) (sym (c .before .is-digit .ensures) ∙ not-false _ (c .if1 .left)))
 
--- src/lib.rt:85:1
 returns-2 : tie.Need-returns-2 Inv-loop μ-loop
 returns-2 c = run-end isDigit _ _ (c .before .loop .inv .1) (c .loop-test .left)
 

@@ -1,16 +1,13 @@
+-- `decimal::is_digit` meets its contract: the two tests are those of the definition. Assumes nothing.
 use borrow.Author.Tests.{le-leb, lt-leb}
 use Rattle.decimal.specs.Decimals.{isDigit}
 use Rattle.decimal.proofs.is_digit.Statement.{statement}
 use Rattle.decimal.proofs.is_digit.Tie as tie
-use Rattle.decimal.proofs.is_digit.Reads as reads
-use Rattle.decimal.proofs.is_digit.Lts as lts
 
--- src/lib.rt:79:9
 returns : tie.Need-returns
 unfolding isDigit
 returns c = simp (le-leb _ _ (c .if1 .taken))
 
--- src/lib.rt:75:1
 returns-2 : tie.Need-returns-2
 unfolding isDigit
 returns-2 c = simp (lt-leb _ _ (c .if1 .left))

@@ -1,16 +1,13 @@
+-- `decimal::nearest_bits` meets its contract: the number is scaled by a power of two until 24 digits stand before the point (`proofs/Patterns.antt`). Assumes nothing.
 use mathlib.Core.Path.{_≡_, sym, _∙_}
 use mathlib.Core.Bool.{false}
 use Prim.Native.Nat.{_+_, _*_, _≤_, _<_}
 use native.Mathlib.Nat.{le-trans, le-of-eq}
 use lib.Ieee.{binary32, round, toBits}
 use native.Mathlib.Omega.{arith}
-use borrow.Author.Needs.{needs}
 use Rattle.decimal.proofs.Patterns.{Scaled, scaled-start, scaled-left, scaled-on, no-more, nearest-bits}
 use Rattle.decimal.proofs.nearest_bits.Statement.{statement}
 use Rattle.decimal.proofs.nearest_bits.Tie as tie
-use Rattle.decimal.proofs.nearest_bits.Reads as reads
-use Rattle.decimal.proofs.nearest_bits.Lts as lts
-use Rattle.decimal.proofs.closest.Reads as closest-reads
 
 abbrev Inv-loop : tie.InvT-loop
 Inv-loop n d unit scaled₀ dropped₀ scaled dropped = Scaled n d scaled dropped
@@ -18,42 +15,33 @@ Inv-loop n d unit scaled₀ dropped₀ scaled dropped = Scaled n d scaled droppe
 abbrev μ-loop : tie.MeasureT-loop
 μ-loop n d unit scaled₀ dropped₀ scaled dropped = dropped
 
--- src/lib.rt:40:16
 mul-unit : tie.Need-mul-unit Inv-loop μ-loop
 mul-unit c = omega arith
 
--- src/lib.rt:43:5
 loop-holds : tie.Need-loop-holds Inv-loop μ-loop
 loop-holds c = scaled-start (c .pre .1 .0) (c .pre .0 .1)
 
--- src/lib.rt:43:20
 mul-loop : tie.Need-mul-loop Inv-loop μ-loop
 mul-loop c = omega arith
 
--- src/lib.rt:44:9
 mul-scaled : tie.Need-mul-scaled Inv-loop μ-loop
 mul-scaled c = omega arith
 
 left : (c : tie.In-loop Inv-loop μ-loop) → 0 < c .before .loop .dropped
 left c = scaled-left (c .before .before .pre .0 .0) (c .before .before .pre .1 .1) (c .before .loop .inv) (c .loop-test .taken)
 
--- src/lib.rt:45:9
 sub-dropped : tie.Need-sub-dropped Inv-loop μ-loop
 sub-dropped c = left c
 
--- src/lib.rt:43:5
 loop-less : tie.Need-loop-less Inv-loop μ-loop
 loop-less c = omega (arith, left c)
 
--- src/lib.rt:43:5
 loop-again : tie.Need-loop-again Inv-loop μ-loop
 loop-again c = scaled-on (left c) (c .loop-test .taken) (c .before .loop .inv)
 
--- src/lib.rt:48:5
 mul-result : tie.Need-mul-result Inv-loop μ-loop
 mul-result c = omega arith
 
--- src/lib.rt:48:27
 closest-requires : tie.Need-closest-requires Inv-loop μ-loop
 closest-requires c κs = omega arith
 
@@ -67,11 +55,9 @@ bits c =
     nearest-bits false (c .before .before .before .pre .1 .0) (c .before .before .loop .inv) (omega arith)
     ∙ omega (arith, c .closest .ensures)
 
--- src/lib.rt:48:5
 add-result : tie.Need-add-result Inv-loop μ-loop
 add-result c = omega (arith, kept c)
 
--- src/lib.rt:35:1
 returns : tie.Need-returns Inv-loop μ-loop
 returns c = (sym (bits c), omega (arith, kept c))
 

@@ -1,6 +1,6 @@
-use mathlib.Core.Path.{_≡_, sym, ap, _∙_, subst}
-use mathlib.Core.List.{List}
-use Prim.Native.Nat.{ℕ, _+_, _-_, _<_, _^_}
+-- `decimal::read` meets its contract: the first byte shows the sign, and what follows decides. Assumes nothing.
+use mathlib.Core.Path.{sym, subst}
+use Prim.Native.Nat.{_+_, _-_, _<_, _^_}
 use native.Mathlib.Nat.{le-of-eq}
 use native.Mathlib.Omega.{arith}
 use denote.Ref.{now}
@@ -14,47 +14,34 @@ use Rattle.decimal.proofs.Signs.{reads-none, reads-plain, reads-negativ
 use borrow.Author.Needs.{needs}
 use Rattle.decimal.proofs.read.Statement.{statement}
 use Rattle.decimal.proofs.read.Tie as tie
-use Rattle.decimal.proofs.read.Reads as reads
-use Rattle.decimal.proofs.read.Lts as lts
-use Rattle.decimal.proofs.read_plain.Reads as read-plain-reads
 
--- src/lib.rt:151:9
 returns : tie.Need-returns
 returns c = subst (λ t. Reads t Nothing) (sym (drop-of-length-le _ (le-of-eq (c .if1 .taken)))) reads-none
 
--- src/lib.rt:153:8
 shared-slice-read-if2 : tie.Need-shared-slice-read-if2
 shared-slice-read-if2 c = search needs
 
--- src/lib.rt:154:9
 read-plain-requires : tie.Need-read-plain-requires
 read-plain-requires c κs = search needs
 
--- src/lib.rt:154:9
 returns-2 : tie.Need-returns-2
 returns-2 c = reads-plain _ (c .before .if2 .taken) (c .read-plain .ensures)
 
--- src/lib.rt:156:22
 sub-read-plain : tie.Need-sub-read-plain
 sub-read-plain c = search needs
 
--- src/lib.rt:156:22
 part-read-plain-start : tie.Need-part-read-plain-start
 part-read-plain-start c = search needs
 
--- src/lib.rt:156:22
 part-read-plain-end : tie.Need-part-read-plain-end
 part-read-plain-end c = search needs
 
--- src/lib.rt:156:11
 read-plain-requires-2 : tie.Need-read-plain-requires-2
 read-plain-requires-2 c κs = search needs
 
--- src/lib.rt:157:25
 enum-known-bits : tie.Need-enum-known-bits
 enum-known-bits c = search needs
 
--- src/lib.rt:157:50
 -- the part that is lent is all but the first byte
 rest : (a : tie.Start) {r : Reading} → ReadsPlain (take (length (now (a .args .text)) - 1) (drop 1 (now (a .args .text)))) r → ReadsPlain (drop 1 (now (a .args .text))) r
 rest a {r} = subst (λ t. ReadsPlain t r) (take-all _ _ (le-of-eq (length-drop 1 (now (a .args .text)))))
@@ -68,15 +55,12 @@ read c =
 add-t12 : tie.Need-add-t12
 add-t12 c = omega (arith, read c .0)
 
--- src/lib.rt:158:29
 enum-told : tie.Need-enum-told
 enum-told c = search needs
 
--- src/lib.rt:147:1
 returns-3 : tie.Need-returns-3
 returns-3 c = read c .1
 
--- src/lib.rt:147:1
 returns-4 : tie.Need-returns-4
 returns-4 c = let b = c .before .before .before .before in reads-no-negative _ (omega arith) (b .if2 .left) (rest (c .before .before .before .before .before .before .before .before) (subst (ReadsPlain _) (c .enum-told .given .1) (c .before .before .read-plain2 .ensures)))
 

@@ -1,3 +1,4 @@
+-- `decimal::read_plain` meets its contract: the first digits end the text, or a point must follow them. Assumes nothing.
 use Prim.Native.Nat.{_<_, _≤_, _^_}
 use Rattle.decimal.specs.Decimals.{value}
 use Rattle.decimal.proofs.Shapes.{reads as reads-number}
@@ -5,44 +6,30 @@ use mathlib.Core.Path.{refl}
 use native.Mathlib.Nat.{le-antisymm}
 use native.Mathlib.Omega.{arith}
 use denote.Ref.{now}
-use Rattle.text.specs.Runs.{run}
 use Rattle.text.proofs.Runs.{run-le}
 use lib.ListN.{length}
 use Rattle.decimal.specs.Decimals.{isDigit, AllDigits}
-use Rattle.decimal.specs.Workers.{ReadsPlain, number, nothing}
-use Rattle.decimal.specs.declared.Reading.the-variants.{Number}
+use Rattle.decimal.specs.Workers.{nothing}
 use Rattle.decimal.proofs.Shapes.{digits-of-all, small, some-digits, few-digits, whole-number}
 use borrow.Author.Needs.{needs}
 use Rattle.decimal.proofs.read_plain.Statement.{statement}
 use Rattle.decimal.proofs.read_plain.Tie as tie
-use Rattle.decimal.proofs.read_plain.Reads as reads
-use Rattle.decimal.proofs.read_plain.Lts as lts
-use Rattle.decimal.proofs.appended.Reads as appended-reads
-use Rattle.decimal.proofs.digits_in.Reads as digits-in-reads
-use Rattle.decimal.proofs.plain_bits.Reads as plain-bits-reads
-use Rattle.decimal.proofs.read_pointed.Reads as read-pointed-reads
 
--- src/lib.rt:143:9
 digits-in-requires : tie.Need-digits-in-requires
 digits-in-requires c κs = search needs
 
--- src/lib.rt:145:9
 returns : tie.Need-returns
 returns c = nothing (λ n k p. omega (arith, some-digits p (c .before .digits-in .ensures)))
 
--- src/lib.rt:148:9
 read-pointed-requires : tie.Need-read-pointed-requires
 read-pointed-requires c κs = search needs
 
--- src/lib.rt:148:9
 returns-2 : tie.Need-returns-2
 returns-2 c = search needs
 
--- src/lib.rt:151:9
 returns-3 : tie.Need-returns-3
 returns-3 c = nothing (λ n k p. omega (arith, few-digits p (c .before .before .before .digits-in .ensures)))
 
--- src/lib.rt:153:32
 -- the text is digits alone, from 1 to 9 of them
 digits : (c : tie.Else3) → AllDigits (now (c .before .before .before .before .before .args .text))
 digits c =
@@ -61,11 +48,9 @@ below c = small (digits c) (few c)
 appended-requires : tie.Need-appended-requires
 appended-requires c κs = (digits c, omega (arith, below c))
 
--- src/lib.rt:153:21
 plain-bits-requires : tie.Need-plain-bits-requires
 plain-bits-requires c κs = omega (arith, c .appended .ensures, below (c .before))
 
--- src/lib.rt:140:1
 returns-4 : tie.Need-returns-4
 returns-4 c = let d = c .before .before in reads-number (whole-number _ (some d) (few d) (digits d)) (c .before .appended .ensures) refl (c .plain-bits .ensures)
 

@@ -1,3 +1,4 @@
+-- `decimal::ten_to` meets its contract: the power so far is 10 to the steps done. Assumes nothing.
 use mathlib.Core.Path.{_≡_, sym, ap, _∙_}
 use Prim.Native.Nat.{_-_, _*_, _^_, _≤_}
 use native.Mathlib.Nat.{pow-suc, pow-le-pow-right, le-antisymm}
@@ -5,8 +6,6 @@ use native.Mathlib.Numerals.{add-one}
 use native.Mathlib.Omega.{arith}
 use Rattle.decimal.proofs.ten_to.Statement.{statement}
 use Rattle.decimal.proofs.ten_to.Tie as tie
-use Rattle.decimal.proofs.ten_to.Reads as reads
-use Rattle.decimal.proofs.ten_to.Lts as lts
 
 abbrev Inv-loop : tie.InvT-loop
 Inv-loop k power₀ i₀ power i = (i ≤ k) × (power ≡ 10 ^ i)
@@ -14,27 +13,21 @@ Inv-loop k power₀ i₀ power i = (i ≤ k) × (power ≡ 10 ^ i)
 abbrev μ-loop : tie.MeasureT-loop
 μ-loop k power₀ i₀ power i = k - i
 
--- src/lib.rt:56:5
 loop-holds : tie.Need-loop-holds Inv-loop μ-loop
 loop-holds c = omega arith
 
--- src/lib.rt:57:9
 mul-power : tie.Need-mul-power Inv-loop μ-loop
 mul-power c = omega (arith, pow-le-pow-right {n = 10} (omega arith) {i = c .before .loop .i} {j = 9} (omega arith))
 
--- src/lib.rt:58:9
 add-i : tie.Need-add-i Inv-loop μ-loop
 add-i c = omega arith
 
--- src/lib.rt:56:5
 loop-less : tie.Need-loop-less Inv-loop μ-loop
 loop-less c = omega arith
 
--- src/lib.rt:56:5
 loop-again : tie.Need-loop-again Inv-loop μ-loop
 loop-again c = (omega arith, ap (λ p. p * 10) (c .before .loop .inv .1) ∙ sym (pow-suc 10 _) ∙ ap (λ k. 10 ^ k) (sym (add-one _)))
 
--- src/lib.rt:50:1
 returns : tie.Need-returns Inv-loop μ-loop
 returns c = c .before .loop .inv .1 ∙ ap (λ k. 10 ^ k) (le-antisymm (c .before .loop .inv .0) (c .loop-test .left))
 

@@ -1,3 +1,4 @@
+-- `listing::list` meets its contract: a refused sheet has its line alone, and any other is cut. Assumes nothing.
 use mathlib.Core.Path.{sym}
 use native.Mathlib.Omega.{arith}
 use denote.Ref.{now}
@@ -8,70 +9,51 @@ use Rattle.listing.proofs.Listed.{refused, cut, room, front}
 use borrow.Author.Needs.{needs}
 use Rattle.listing.proofs.list.Statement.{statement}
 use Rattle.listing.proofs.list.Tie as tie
-use Rattle.listing.proofs.list.Reads as reads
-use Rattle.listing.proofs.list.Lts as lts
-use Rattle.cutting.proofs.cut_drawing.Reads as cut-drawing-reads
-use Rattle.listing.proofs.put_listing.Reads as put-listing-reads
-use Rattle.text.proofs.put_refusal.Reads as put-refusal-reads
 
--- src/main.rt:89:9
 cut-drawing-requires : tie.Need-cut-drawing-requires
 cut-drawing-requires c κs = search needs
 
--- src/main.rt:91:9
 put-refusal-requires : tie.Need-put-refusal-requires
 put-refusal-requires c κs = search needs
 
--- src/main.rt:91:9
 same-length : tie.Need-same-length
 same-length c = search needs
 
--- src/main.rt:91:9
 same-length-2 : tie.Need-same-length-2
 same-length-2 c = search needs
 
--- src/main.rt:91:9
 same-length-3 : tie.Need-same-length-3
 same-length-3 c = search needs
 
--- src/main.rt:91:9
 returns : tie.Need-returns
 returns c = front (c .before .before .put-refusal .ensures .0) (refused (c .before .before .before .before .before .before .before .before .cut-drawing .ensures) (c .before .before .before .before .if1 .taken))
 
--- src/main.rt:94:17
 cut-sheet : (c : tie.Else1) → Cut (now (c .before .before .before .before .before .before .before .before .before .args .bytes)) (c .before .before .before .before .cut-drawing .result) (c .before .before .before .before .cut-drawing .last .1 .0) (c .before .before .before .before .cut-drawing .last .1 .1 .0)
 cut-sheet c = cut-of (c .before .before .before .before .cut-drawing .ensures) (c .if1 .left)
 
 mul-count : tie.Need-mul-count
 mul-count c = omega (arith, rows-fit (cut-sheet (c .before .before)))
 
--- src/main.rt:95:31
 slice-reshare-prefix-put-listing : tie.Need-slice-reshare-prefix-put-listing
 slice-reshare-prefix-put-listing c = rows-fit (cut-sheet (c .before .before .before))
 
--- src/main.rt:95:31
 slice-aggregate-put-listing : tie.Need-slice-aggregate-put-listing
 slice-aggregate-put-listing c = sym (length-take-le _ _ (rows-fit (cut-sheet (c .before .before .before .before))))
 
--- src/main.rt:95:5
 put-listing-requires : tie.Need-put-listing-requires
 put-listing-requires c κs = let s = cut-sheet (c .before .before .before .before) in
     let d = c .before .before .before .before .before .before .before .before .cut-drawing in
     room (d .last .1 .1 .0) (rows-fit s) (c .before .before .before .before .before .before .rows .given) (c .before .before .before .before .before .before .before .before .before .before .before .before .before .pre .1 .1)
 
--- src/main.rt:82:1
 same-length-4 : tie.Need-same-length-4
 same-length-4 c = search needs
 
--- src/main.rt:82:1
 same-length-5 : tie.Need-same-length-5
 same-length-5 c = search needs
 
--- src/main.rt:82:1
 same-length-6 : tie.Need-same-length-6
 same-length-6 c = search needs
 
--- src/main.rt:82:1
 returns-2 : tie.Need-returns-2
 returns-2 c = front (c .before .before .put-listing .ensures) (cut (cut-sheet (c .before .before .before .before .before .before .before)))
 

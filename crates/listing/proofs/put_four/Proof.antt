@@ -1,34 +1,26 @@
+-- `listing::put_four` meets its contract: four numbers, one after the other. Assumes nothing.
 use native.Mathlib.Omega.{arith}
 use mir.Facts.{toZ-ofZ}
 use Rattle.listing.proofs.Lines.{four}
 use borrow.Author.Needs.{needs}
 use Rattle.listing.proofs.put_four.Statement.{statement}
 use Rattle.listing.proofs.put_four.Tie as tie
-use Rattle.listing.proofs.put_four.Reads as reads
-use Rattle.listing.proofs.put_four.Lts as lts
-use Rattle.text.proofs.put_number.Reads as put-number-reads
 
--- src/main.rt:18:9
 put-number-requires : tie.Need-put-number-requires
 put-number-requires c κs = search needs
 
--- src/main.rt:19:9
 put-number-requires-2 : tie.Need-put-number-requires-2
 put-number-requires-2 c κs = search needs
 
--- src/main.rt:20:9
 put-number-requires-3 : tie.Need-put-number-requires-3
 put-number-requires-3 c κs = search needs
 
--- src/main.rt:21:5
 put-number-requires-4 : tie.Need-put-number-requires-4
 put-number-requires-4 c κs = search needs
 
--- src/main.rt:13:1
 same-length : tie.Need-same-length
 same-length c = search needs
 
--- src/main.rt:13:1
 returns : tie.Need-returns
 returns c = let f = c .before .before .before .before .before .before .before .before .before .before .before .before .before .before .before .before .before .fits in
     let x = c .before .before .before .before .before .before .before .before .before .before .before .before .before .before .put-number .ensures in

@@ -1,3 +1,4 @@
+-- `listing::put_row` meets its contract: the index, and four numbers after it. Assumes nothing.
 use native.Mathlib.Omega.{arith}
 use denote.Ref.{now}
 use mir.Syntax.{w32}
@@ -9,80 +10,58 @@ use Rattle.listing.proofs.Lines.{row}
 use borrow.Author.Needs.{needs}
 use Rattle.listing.proofs.put_row.Statement.{statement}
 use Rattle.listing.proofs.put_row.Tie as tie
-use Rattle.listing.proofs.put_row.Reads as reads
-use Rattle.listing.proofs.put_row.Lts as lts
-use Rattle.listing.proofs.put_four.Reads as put-four-reads
-use Rattle.text.proofs.put_number.Reads as put-number-reads
 
--- src/main.rt:41:43
 mul-put-number : tie.Need-mul-put-number
 mul-put-number c = search needs
 
--- src/main.rt:41:43
 shared-slice-copy-out-put-number : tie.Need-shared-slice-copy-out-put-number
 shared-slice-copy-out-put-number c = search needs
 
--- src/main.rt:41:9
 put-number-requires : tie.Need-put-number-requires
 put-number-requires c κs = search needs
 
--- src/main.rt:42:31
 add-put-four : tie.Need-add-put-four
 add-put-four c = search needs
 
--- src/main.rt:42:26
 mul-put-four : tie.Need-mul-put-four
 mul-put-four c = search needs
 
--- src/main.rt:42:26
 shared-slice-copy-out-put-four : tie.Need-shared-slice-copy-out-put-four
 shared-slice-copy-out-put-four c = search needs
 
--- src/main.rt:42:44
 add-put-four-2 : tie.Need-add-put-four-2
 add-put-four-2 c = search needs
 
--- src/main.rt:42:39
 mul-put-four-2 : tie.Need-mul-put-four-2
 mul-put-four-2 c = search needs
 
--- src/main.rt:42:39
 shared-slice-copy-out-put-four-2 : tie.Need-shared-slice-copy-out-put-four-2
 shared-slice-copy-out-put-four-2 c = search needs
 
--- src/main.rt:42:57
 add-put-four-3 : tie.Need-add-put-four-3
 add-put-four-3 c = search needs
 
--- src/main.rt:42:52
 mul-put-four-3 : tie.Need-mul-put-four-3
 mul-put-four-3 c = search needs
 
--- src/main.rt:42:52
 shared-slice-copy-out-put-four-3 : tie.Need-shared-slice-copy-out-put-four-3
 shared-slice-copy-out-put-four-3 c = search needs
 
--- src/main.rt:42:70
 add-put-four-4 : tie.Need-add-put-four-4
 add-put-four-4 c = search needs
 
--- src/main.rt:42:65
 mul-put-four-4 : tie.Need-mul-put-four-4
 mul-put-four-4 c = search needs
 
--- src/main.rt:42:65
 shared-slice-copy-out-put-four-4 : tie.Need-shared-slice-copy-out-put-four-4
 shared-slice-copy-out-put-four-4 c = search needs
 
--- src/main.rt:42:5
 put-four-requires : tie.Need-put-four-requires
 put-four-requires c κs = search needs
 
--- src/main.rt:35:1
 same-length : tie.Need-same-length
 same-length c = search needs
 
--- src/main.rt:35:1
 returns : tie.Need-returns
 returns c = let p = c .before .before .before .before .before .before .before .before .before .before .put-number .ensures in
     let q = c .before .before .put-four .ensures in

@@ -1,3 +1,4 @@
+-- `listing::put_strip` meets its contract: a word, and four numbers after it. Assumes nothing.
 use native.Mathlib.Omega.{arith}
 use mir.Syntax.{w32}
 use Rattle.whole.proofs.Comparisons.{back}
@@ -5,28 +6,19 @@ use Rattle.listing.proofs.Lines.{strip}
 use borrow.Author.Needs.{needs}
 use Rattle.listing.proofs.put_strip.Statement.{statement}
 use Rattle.listing.proofs.put_strip.Tie as tie
-use Rattle.listing.proofs.put_strip.Reads as reads
-use Rattle.listing.proofs.put_strip.Lts as lts
-use Rattle.listing.proofs.put_four.Reads as put-four-reads
-use Rattle.text.proofs.put.Reads as put-reads
 
--- src/main.rt:30:36
 slice-aggregate-put : tie.Need-slice-aggregate-put
 slice-aggregate-put c = search needs
 
--- src/main.rt:30:9
 put-requires : tie.Need-put-requires
 put-requires c κs = search needs
 
--- src/main.rt:31:5
 put-four-requires : tie.Need-put-four-requires
 put-four-requires c κs = search needs
 
--- src/main.rt:25:1
 same-length : tie.Need-same-length
 same-length c = search needs
 
--- src/main.rt:25:1
 returns : tie.Need-returns
 returns c = let s = c .before .before .before .before .before .before .struct-told .given in
     let p = c .before .before .before .before .before .before .before .before .before .before .put .ensures in

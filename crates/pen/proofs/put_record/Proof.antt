@@ -1,55 +1,43 @@
-use native.Mathlib.Omega.{arith}
+-- `pen::put_record` meets its contract: there is no room for it, or its numbers follow its first byte. Assumes nothing.
 use lib.ListN.{length-set}
+use Rattle.pen.specs.Workers.{long}
+use Rattle.pen.proofs.Records.{recorded, not-recorded}
 use borrow.Author.Needs.{needs}
 use Rattle.pen.proofs.put_record.Statement.{statement}
 use Rattle.pen.proofs.put_record.Tie as tie
-use Rattle.pen.proofs.put_record.Reads as reads
-use Rattle.pen.proofs.put_record.Lts as lts
-use Rattle.pen.proofs.put_numbers.Reads as put-numbers-reads
 
--- src/main.rt:63:16
 add-next : tie.Need-add-next
 add-next c = search needs
 
--- src/main.rt:63:25
 mul-next : tie.Need-mul-next
 mul-next c = search needs
 
--- src/main.rt:63:16
 add-next-2 : tie.Need-add-next-2
 add-next-2 c = search needs
 
--- src/main.rt:65:9
 returns : tie.Need-returns
-returns c = search needs
+returns c = long (c .if1 .taken)
 
--- src/main.rt:67:5
 slice-write-page : tie.Need-slice-write-page
 slice-write-page c = search needs
 
--- src/main.rt:68:45
 add-put-numbers : tie.Need-add-put-numbers
 add-put-numbers c = search needs
 
--- src/main.rt:68:8
 put-numbers-requires : tie.Need-put-numbers-requires
 put-numbers-requires c κs = search needs
 
--- src/main.rt:69:9
 same-length : tie.Need-same-length
 same-length c = simp length-set at (c .before .before .page .given)
 
--- src/main.rt:69:9
 returns-2 : tie.Need-returns-2
-returns-2 c = omega (arith, simp length-set at (c .before .before .page .given))
+returns-2 c = recorded (c .before .before .before .before .before .if1 .left) (c .if2 .taken) (c .before .before .before .put-numbers .ensures)
 
--- src/main.rt:57:1
 same-length-2 : tie.Need-same-length-2
 same-length-2 c = simp length-set at (c .before .before .page .given)
 
--- src/main.rt:57:1
 returns-3 : tie.Need-returns-3
-returns-3 c = search needs
+returns-3 c = not-recorded (c .before .before .before .before .before .if1 .left) (c .if2 .left) (c .before .before .before .put-numbers .ensures)
 
 pub put-record-spec : {M : Type 1} → statement M
 put-record-spec =

@@ -1,3 +1,4 @@
+-- `text::put_refusal` meets its contract: four pieces, one after the other. Assumes nothing.
 use mathlib.Core.Path.{_≡_, subst}
 use mathlib.Core.List.{List, [], _∷_, _++_, append-assoc}
 use Prim.Native.Nat.{ℕ}
@@ -7,40 +8,28 @@ use Rattle.text.proofs.Puts.{put-then}
 use borrow.Author.Needs.{needs}
 use Rattle.text.proofs.put_refusal.Statement.{statement}
 use Rattle.text.proofs.put_refusal.Tie as tie
-use Rattle.text.proofs.put_refusal.Reads as reads
-use Rattle.text.proofs.put_refusal.Lts as lts
-use Rattle.text.proofs.put.Reads as put-reads
-use Rattle.text.proofs.put_count.Reads as put-count-reads
 
--- src/lib.rt:99:27
 slice-aggregate-put : tie.Need-slice-aggregate-put
 slice-aggregate-put c = search needs
 
--- src/lib.rt:99:9
 put-requires : tie.Need-put-requires
 put-requires c κs = search needs
 
--- src/lib.rt:100:9
 put-count-requires : tie.Need-put-count-requires
 put-count-requires c κs = search needs
 
--- src/lib.rt:101:26
 slice-aggregate-put-2 : tie.Need-slice-aggregate-put-2
 slice-aggregate-put-2 c = search needs
 
--- src/lib.rt:101:9
 put-requires-2 : tie.Need-put-requires-2
 put-requires-2 c κs = search needs
 
--- src/lib.rt:102:5
 put-count-requires-2 : tie.Need-put-count-requires-2
 put-count-requires-2 c κs = search needs
 
--- src/lib.rt:94:1
 same-length : tie.Need-same-length
 same-length c = search needs
 
--- src/lib.rt:94:1
 words : (n p : List ℕ) (b : ℕ) → ascii "refused " ++ ((n ++ 32 ∷ []) ++ (ascii "place " ++ (p ++ b ∷ []))) ≡ (ascii "refused " ++ (n ++ ascii " place " ++ p)) ++ b ∷ []
 words n p b = simp append-assoc
 

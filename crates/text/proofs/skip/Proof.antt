@@ -1,3 +1,4 @@
+-- `text::skip` meets its contract: the run from the start goes on as long as the bytes pass the test. Assumes nothing.
 use mathlib.Core.Path.{_≡_, refl}
 use Prim.Native.Nat.{_+_, _-_, _≤_}
 use native.Mathlib.Omega.{arith}
@@ -8,8 +9,6 @@ use Rattle.text.specs.Runs.{run, is}
 use Rattle.text.proofs.Runs.{run-more, run-here, run-end}
 use Rattle.text.proofs.skip.Statement.{statement}
 use Rattle.text.proofs.skip.Tie as tie
-use Rattle.text.proofs.skip.Reads as reads
-use Rattle.text.proofs.skip.Lts as lts
 
 abbrev Inv-loop : tie.InvT-loop
 Inv-loop text from b i₀ i = (i ≤ length text) × (from + run (is b) (drop from text) ≡ i + run (is b) (drop i text))
@@ -17,31 +16,24 @@ Inv-loop text from b i₀ i = (i ≤ length text) × (from + run (is b) (drop fr
 abbrev μ-loop : tie.MeasureT-loop
 μ-loop text from b i₀ i = length text - i
 
--- src/lib.rt:32:5
 loop-holds : tie.Need-loop-holds Inv-loop μ-loop
 loop-holds c = (c .pre, refl)
 
--- src/lib.rt:33:12
 shared-slice-read-if1 : tie.Need-shared-slice-read-if1 Inv-loop μ-loop
 shared-slice-read-if1 c = search needs
 
--- src/lib.rt:34:13
 returns : tie.Need-returns Inv-loop μ-loop
 returns c = let l = c .before .before .before in (run-here _ _ _ (l .loop .inv .1) (c .before .before .loop-test .taken) (ne-eqb _ _ (c .if1 .taken)), l .loop .inv .0)
 
--- src/lib.rt:36:9
 add-i : tie.Need-add-i Inv-loop μ-loop
 add-i c = omega arith
 
--- src/lib.rt:32:5
 loop-less : tie.Need-loop-less Inv-loop μ-loop
 loop-less c = omega arith
 
--- src/lib.rt:32:5
 loop-again : tie.Need-loop-again Inv-loop μ-loop
 loop-again c = let l = c .before .before .before in (omega arith, run-more _ _ _ (l .loop .inv .1) (c .before .before .loop-test .taken) (eq-eqb _ _ (c .if1 .left)))
 
--- src/lib.rt:26:1
 returns-2 : tie.Need-returns-2 Inv-loop μ-loop
 returns-2 c = (run-end _ _ _ (c .before .loop .inv .1) (c .loop-test .left), c .before .loop .inv .0)
 

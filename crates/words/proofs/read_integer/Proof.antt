@@ -11,7 +11,6 @@ use mir.Facts.{toZ-ofZ, toZ-pos}
 use Rattle.words.specs.Digits.{value}
 use Rattle.words.specs.Words.{upTo, hasMinus, numeral, integer}
 use Rattle.words.proofs.Numerals.{minus-long, up-to-is, minus, plus, integer-minus, integer-plus}
-use Rattle.words.specs.declared.Natural.the-variants as Natural
 use borrow.Author.Needs.{needs}
 use Rattle.words.proofs.read_integer.Statement.{statement}
 use Rattle.words.proofs.read_integer.Tie as tie

@@ -26,13 +26,13 @@ abbrev μ-loop : tie.MeasureT-loop
 
 -- the numbers of the text after this word
 abbrev left : tie.After-read-integer Inv-loop μ-loop → Option (List ℤ)
-left c = integers (arguments (drop (c .before .before .word-end .result) (now (c .before .before .before .before .before .before .args .text))))
+left c = integers (arguments (drop (c .before .before .find .result) (now (c .before .before .before .before .before .before .args .text))))
 
 turn : (c : tie.After-read-integer Inv-loop μ-loop) (r : Integer) → c .read-integer .result ≡ r → let l = c .before .before .before .before .loop in
     integers (arguments (now (c .before .before .before .before .before .before .args .text))) ≡ after (take (l .n) (l .out)) (number r (left c))
 turn c r e =
     let l = c .before .before .before .before .loop in
-    l .inv .3 ∙ ap (after (take (l .n) (l .out))) (integers-cut _ (l .at) _ r (omega arith) (c .before .before .word-end .ensures .0) (sym e ∙ c .read-integer .ensures))
+    l .inv .3 ∙ ap (after (take (l .n) (l .out))) (integers-cut _ (l .at) _ r (omega arith) (c .before .before .find .ensures .0) (sym e ∙ c .read-integer .ensures))
 
 back : (c : tie.Else1 Inv-loop μ-loop) → toZ w32 (ofZ w32 (c .before .before .x .given .0 .0)) ≡ c .before .before .x .given .0 .0
 back c = toZ-ofZ {w = w32} (record { sfits = c .before .known-told .given .0 .1 })
@@ -43,8 +43,8 @@ loop-holds c = (search needs, search needs, search needs, start (integers (argum
 add-start : tie.Need-add-start Inv-loop μ-loop
 add-start c = search needs
 
-word-end-requires : tie.Need-word-end-requires Inv-loop μ-loop
-word-end-requires c κs = search needs
+find-requires : tie.Need-find-requires Inv-loop μ-loop
+find-requires c κs = search needs
 
 sub-read-integer : tie.Need-sub-read-integer Inv-loop μ-loop
 sub-read-integer c = search needs
@@ -112,7 +112,7 @@ read-integers-spec =
     μ-loop
     loop-holds
     add-start
-    word-end-requires
+    find-requires
     sub-read-integer
     part-read-integer-start
     part-read-integer-end

@@ -1,23 +1,24 @@
--- `words::write_single` meets its contract: a u32 has at most eight hexadecimal digits, and the call writes no fewer. Assumes nothing.
+-- `words::put_single` meets its contract: a u32 has at most eight hexadecimal digits, and the call writes no fewer. Assumes nothing.
 use Rattle.whole.proofs.Comparisons.{true-T}
 use Rattle.io.specs.Digits.{digits}
-use mathlib.Core.Path.{_≡_, ap, _∙_}
+use mathlib.Core.Path.{_≡_, ap, _∙_, subst}
 use Prim.Native.Nat.{_<_, _^_}
 use native.Mathlib.Omega.{arith}
 use native.Mathlib.Nat.{le-antisymm}
-use lib.Dec.{lit<}
+use lib.Dec.{lit<, lit≤}
 use lib.Ieee.{binary32, toBits}
 use lib.Ieee.Bits.{toBits-lt}
-use Rattle.words.proofs.Writing.{enough}
+use Rattle.text.specs.Pages.{Put}
+use Rattle.text.proofs.Numbers.{enough}
 use borrow.Author.Needs.{needs}
-use Rattle.words.proofs.write_single.Statement.{statement}
-use Rattle.words.proofs.write_single.Tie as tie
+use Rattle.words.proofs.put_single.Statement.{statement}
+use Rattle.words.proofs.put_single.Tie as tie
 
 small : (c : tie.After-slice-known) → toBits binary32 (c .before .args .x) < 2 ^ 32
 small c = toBits-lt binary32 (c .before .args .x) (true-T (c .before .good .1 .1 .0 .1))
 
 eight : (c : tie.After-hex) → c .hex .result ≡ 8
-eight c = le-antisymm (enough 16 8 _ _ 8 (c .hex .ensures .1 .0) (lit< tt) (small (c .before .before)) (omega arith)) (c .hex .ensures .1 .0 .0)
+eight c = le-antisymm (enough 16 8 8 (lit< tt) (lit≤ tt) (small (c .before .before)) (c .hex .ensures .1 .0)) (c .hex .ensures .1 .0 .0)
 
 float-to-bits-hex : tie.Need-float-to-bits-hex
 float-to-bits-hex c = search needs
@@ -41,10 +42,16 @@ same-length : tie.Need-same-length
 same-length c = search needs
 
 returns : tie.Need-returns
-returns c = let h = c .before .before .before .before .before .hex in let p = c .before .before .put .ensures in (record { word = _; is = h .ensures .1 .1 ∙ ap (λ k. digits 16 k (toBits binary32 (c .before .before .before .before .before .before .before .before .args .x))) (eight (c .before .before .before .before .before)); put = p }, omega (arith, p .ends, eight (c .before .before .before .before .before), h .ensures .0 .1))
+returns c =
+    let h = c .before .before .before .before .before .hex in
+    let p = c .before .before .put .ensures in
+    let e = eight (c .before .before .before .before .before) in (
+      subst (Put _ _ _ _) (h .ensures .1 .1 ∙ ap (λ k. digits 16 k (toBits binary32 (c .before .before .before .before .before .before .before .before .args .x))) e) p,
+      omega (arith, p .ends, e, h .ensures .0 .1),
+    )
 
-pub write-single-spec : {M : Type 1} → statement M
-write-single-spec =
+pub put-single-spec : {M : Type 1} → statement M
+put-single-spec =
     tie.close
     (tie.spec
     float-to-bits-hex
