@@ -1,0 +1,3 @@
+pub mod Views
+pub mod Lines
+pub mod Drawn

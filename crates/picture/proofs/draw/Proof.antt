@@ -1,0 +1,72 @@
+-- A refusal is pictured by its number and place; a drawing that is cut, by what was read and kept.
+use mathlib.Core.Path.{sym}
+use native.Mathlib.Omega.{arith}
+use denote.Ref.{now}
+use lib.Seq.{length-take-le}
+use Rattle.cutting.specs.Sheets.{Cut}
+use Rattle.cutting.proofs.Theorems.{cut-of, strokes-fit, rows-fit}
+use Rattle.picture.proofs.Drawn.{refused, cut, room, front}
+use borrow.Author.Needs.{needs}
+use Rattle.picture.proofs.draw.Statement.{statement}
+use Rattle.picture.proofs.draw.Tie as tie
+
+cut-drawing-requires : tie.Need-cut-drawing-requires
+cut-drawing-requires c κs = search needs
+
+put-refused-requires : tie.Need-put-refused-requires
+put-refused-requires c κs = search needs
+
+same-length : tie.Need-same-length
+same-length c = search needs
+
+same-length-2 : tie.Need-same-length-2
+same-length-2 c = search needs
+
+same-length-3 : tie.Need-same-length-3
+same-length-3 c = search needs
+
+returns : tie.Need-returns
+returns c = front (c .before .before .put-refused .ensures) (refused (c .before .before .before .before .before .before .before .before .cut-drawing .ensures) (c .before .before .before .before .if1 .taken))
+
+-- nothing was refused
+cut-sheet : (c : tie.Else1) → Cut (now (c .before .before .before .before .before .before .before .before .before .args .bytes)) (c .before .before .before .before .cut-drawing .result) (c .before .before .before .before .cut-drawing .last .1 .0) (c .before .before .before .before .cut-drawing .last .1 .1 .0)
+cut-sheet c = cut-of (c .before .before .before .before .cut-drawing .ensures) (c .if1 .left)
+
+mul-numbers : tie.Need-mul-numbers
+mul-numbers c = omega (arith, strokes-fit (cut-sheet (c .before .before)))
+
+mul-count : tie.Need-mul-count
+mul-count c = omega (arith, rows-fit (cut-sheet (c .before .before .before)))
+
+slice-reshare-prefix-put-picture : tie.Need-slice-reshare-prefix-put-picture
+slice-reshare-prefix-put-picture c = strokes-fit (cut-sheet (c .before .before .before .before))
+
+slice-aggregate-put-picture : tie.Need-slice-aggregate-put-picture
+slice-aggregate-put-picture c = sym (length-take-le _ _ (strokes-fit (cut-sheet (c .before .before .before .before .before))))
+
+slice-reshare-prefix-put-picture-2 : tie.Need-slice-reshare-prefix-put-picture-2
+slice-reshare-prefix-put-picture-2 c = rows-fit (cut-sheet (c .before .before .before .before .before))
+
+slice-aggregate-put-picture-2 : tie.Need-slice-aggregate-put-picture-2
+slice-aggregate-put-picture-2 c = sym (length-take-le _ _ (rows-fit (cut-sheet (c .before .before .before .before .before .before))))
+
+put-picture-requires : tie.Need-put-picture-requires
+put-picture-requires c κs =
+    let s = (cut-sheet (c .before .before .before .before .before .before)) in
+    let d = c .before .before .before .before .before .before .before .before .before .before .cut-drawing in
+    room (d .last .1 .0) (d .last .1 .1 .0) (strokes-fit s) (rows-fit s) (c .before .before .before .before .before .before .before .before .before .strokes .given) (c .before .before .before .before .before .before .before .before .rows .given) (c .before .before .before .before .before .before .before .before .before .before .before .before .before .before .before .pre .1 .1)
+
+same-length-4 : tie.Need-same-length-4
+same-length-4 c = search needs
+
+same-length-5 : tie.Need-same-length-5
+same-length-5 c = search needs
+
+same-length-6 : tie.Need-same-length-6
+same-length-6 c = search needs
+
+returns-2 : tie.Need-returns-2
+returns-2 c = front (c .before .before .put-picture .ensures) (cut (cut-sheet (c .before .before .before .before .before .before .before .before .before)))
+
+pub draw-spec : {M : Type 1} → statement M
+draw-spec = tie.close (tie.spec cut-drawing-requires put-refused-requires same-length same-length-2 same-length-3 returns mul-numbers mul-count slice-reshare-prefix-put-picture slice-aggregate-put-picture slice-reshare-prefix-put-picture-2 slice-aggregate-put-picture-2 put-picture-requires same-length-4 same-length-5 same-length-6 returns-2)
