@@ -1,0 +1,211 @@
+/* Gerlyantu: exact clipping of strokes and outlines to strips of a glass table.
+ *
+ * Coordinates are whole grid numbers, 1/32 mm each, from -16,383 to 16,383. A stroke is x1 y1 x2 y2, a rectangle is left bottom right top, a corner
+ * is x y.
+ *
+ * Any numbers may be passed to any call: what it does not take it refuses. Every answer has the refusal's number, 0 where the call was done, and its
+ * place. A refused call sets every other field to 0, fractions to 0/1, and writes nothing. Where several refusals apply, the first in the list that
+ * stands beside the call is given.
+ *
+ * A list is a pointer to its first number and the count of its numbers (of a drawing, its bytes). The pointer is aligned for its type, and nothing
+ * else changes what it points to during the call. For a list of length 0 any pointer will do, also a null pointer: nothing is read or written
+ * through it.
+ *
+ * An output is lent: a done call writes its numbers from the front, and the rest stays as it was. An output has no byte in common with an input.
+ * No call keeps a pointer, allocates memory or has a state, so calls may run at the same time. */
+#ifndef GERLYANTU_H
+#define GERLYANTU_H
+
+#include <stdbool.h>
+#include <stddef.h>
+#include <stdint.h>
+
+#ifdef __cplusplus
+extern "C" {
+#endif
+
+/* ---- limits */
+
+enum {
+    GERLYANTU_LARGEST = 16383,        /* the largest grid number; the least is its negative */
+    GERLYANTU_STROKES = 4096,         /* strokes in a list or a drawing, at most */
+    GERLYANTU_WINDOW_CORNERS = 16,    /* corners of a corner window, at most; at least 3 */
+    GERLYANTU_OUTLINE_CORNERS = 64,   /* corners of an outline, at most; at least 3 */
+    GERLYANTU_DRAWING_BYTES = 65536,  /* bytes of a drawing, at most, its four count bytes included */
+    GERLYANTU_LAST_ORDER = 23         /* the side orders are 0 to 23 */
+};
+
+/* ---- refusals: each is given exactly when what stands beside it holds; the place follows the semicolon */
+
+enum {
+    GERLYANTU_DONE = 0,             /* the call was done; 0 */
+    GERLYANTU_WINDOW_OFF = 2,       /* a window number is off the grid range; index of the first */
+    GERLYANTU_NO_WINDOW = 3,        /* left >= right or bottom >= top; a corner window of odd length, of wrong count, or not strictly convex; 0 */
+    GERLYANTU_NO_ORDER = 4,         /* side order above 23; 0 */
+    GERLYANTU_WRONG_LENGTH = 5,     /* stroke list not a multiple of four or too long; outline of odd length or wrong count; 0 */
+    GERLYANTU_NUMBER_OFF = 6,       /* a stroke or outline number is off the grid range; index of the first */
+    GERLYANTU_NOT_CONVEX = 7,       /* outline not strictly convex counterclockwise; 0 */
+    GERLYANTU_NO_ROOM = 8,          /* output shorter than needed; numbers needed */
+    GERLYANTU_NOT_A_NUMBER = 9,     /* a millimetre number is NaN; its index */
+    GERLYANTU_TOO_FAR = 10,         /* a millimetre number is infinite or falls off the grid range; its index */
+    GERLYANTU_BAD_DRAWING = 11      /* any fault in a drawing file; 0 */
+};
+
+/* ---- what goes in */
+
+/* A point in millimetres. */
+typedef struct {
+    float x;
+    float y;
+} gerlyantu_point_mm;
+
+/* A rectangle in millimetres. */
+typedef struct {
+    float left;
+    float bottom;
+    float right;
+    float top;
+} gerlyantu_window_mm;
+
+/* A rectangle of the grid, its border included. */
+typedef struct {
+    int32_t left;
+    int32_t bottom;
+    int32_t right;
+    int32_t top;
+} gerlyantu_window;
+
+/* A stroke from (x1, y1) to (x2, y2). */
+typedef struct {
+    int32_t x1;
+    int32_t y1;
+    int32_t x2;
+    int32_t y2;
+} gerlyantu_stroke;
+
+/* ---- what comes back */
+
+/* A fraction num/den in lowest terms; den is above 0, and 0 is 0/1. */
+typedef struct {
+    int64_t num;
+    int64_t den;
+} gerlyantu_fraction;
+
+typedef struct {
+    uint8_t number;
+    size_t place;
+    int32_t x;
+    int32_t y;
+} gerlyantu_point_answer;
+
+typedef struct {
+    uint8_t number;
+    size_t place;
+    gerlyantu_window window;
+} gerlyantu_window_answer;
+
+typedef struct {
+    uint8_t number;
+    size_t place;
+    float mm;
+} gerlyantu_back_answer;
+
+/* The kept part goes from t0 to t1 of the stroke's way; (ax, ay) and (bx, by) are its two ends, rounded to the grid. A missed stroke is done with
+ * kept false, both fractions 0/1 and the points 0. */
+typedef struct {
+    uint8_t number;
+    size_t place;
+    bool kept;
+    gerlyantu_fraction t0;
+    gerlyantu_fraction t1;
+    int32_t ax;
+    int32_t ay;
+    int32_t bx;
+    int32_t by;
+} gerlyantu_stroke_answer;
+
+typedef struct {
+    gerlyantu_stroke_answer answer;
+    uint32_t shortenings; /* 0 to 4; counted for missed strokes too */
+} gerlyantu_counted_answer;
+
+/* As for a rectangle, without points: rounded points may lie outside a slanted side. */
+typedef struct {
+    uint8_t number;
+    size_t place;
+    bool kept;
+    gerlyantu_fraction t0;
+    gerlyantu_fraction t1;
+} gerlyantu_corner_answer;
+
+typedef struct {
+    uint8_t number;
+    size_t place;
+    size_t count; /* how many numbers were written */
+} gerlyantu_answer;
+
+typedef struct {
+    uint8_t number;
+    size_t place;
+    gerlyantu_window window;
+    size_t count; /* how many strokes; four numbers each were written */
+} gerlyantu_drawing_answer;
+
+/* ---- millimetres */
+
+/* The grid point of a point in millimetres: the whole numbers nearest to 32x and 32y, halves to the even one.
+ * Refusals: 9 or 10, whichever number comes first; the place is its index, 0 or 1. */
+gerlyantu_point_answer gerlyantu_point_to_grid(gerlyantu_point_mm p);
+
+/* The same for the four numbers of a rectangle. It need not have area: the clipping calls test that.
+ * Refusals: 9 or 10, whichever number comes first; the place is its index, 0 to 3. */
+gerlyantu_window_answer gerlyantu_window_to_grid(gerlyantu_window_mm w);
+
+/* A grid number in millimetres: g / 32, which a float holds exactly.
+ * Refusals: 6 where g is off the range, place 0. */
+gerlyantu_back_answer gerlyantu_to_millimetres(int32_t g);
+
+/* ---- strokes */
+
+/* What a rectangle keeps of a stroke, by the Liang-Barsky rule.
+ * Refusals: 2 (index in the window, 0 to 3), 3 (0), 6 (index in the stroke, 0 to 3). */
+gerlyantu_stroke_answer gerlyantu_liang_barsky(gerlyantu_window w, gerlyantu_stroke s);
+
+/* The same by the Cohen-Sutherland rule, with the count of its shortenings; fractions and points are those of gerlyantu_liang_barsky.
+ * Refusals: 2 (index in the window, 0 to 3), 3 (0), 6 (index in the stroke, 0 to 3). */
+gerlyantu_counted_answer gerlyantu_cohen_sutherland(gerlyantu_window w, gerlyantu_stroke s);
+
+/* A list of strokes, four numbers each, against a rectangle. For each kept stroke in order, writes its index and its four rounded numbers: five
+ * numbers a kept stroke.
+ * Refusals: 2 (index in the window), 3 (0), 5 where length is not a multiple of four or there are more than 4,096 strokes (0), 6 (index in the
+ * list), 8 (numbers needed). */
+gerlyantu_answer gerlyantu_batch(gerlyantu_window w, const int32_t *strokes, size_t length, int32_t *out, size_t room);
+
+/* What a convex corner window keeps of a stroke, by the Cyrus-Beck rule: 3 to 16 corners, two numbers each, counterclockwise.
+ * Refusals: 3 for a length that is odd or not of 3 to 16 corners (0), 2 (index in the list of corners), 3 where they are not strictly convex
+ * counterclockwise (0), 6 (index in the stroke). */
+gerlyantu_corner_answer gerlyantu_cyrus_beck(const int32_t *corners, size_t length, gerlyantu_stroke s);
+
+/* ---- outlines */
+
+/* What a rectangle keeps of a strictly convex outline of 3 to 64 corners, two numbers each, counterclockwise: one pass a side, in the order asked
+ * for. Sides are left, right, bottom, top; orders 0 to 23 are their arrangements in dictionary order, and all give the same ring. Writes the ring
+ * counterclockwise from its lowest corner, of those the leftmost, four numbers a corner: x and y as fractions in lowest terms, numerator before
+ * denominator. A ring has at most four corners more than its outline, so 272 numbers are always room enough. Without area the call is done and
+ * writes 0 numbers.
+ * Refusals: 2 (index in the window), 3 (0), 4 (0), 5 for a length that is odd or not of 3 to 64 corners (0), 6 (index in the outline), 7 (0),
+ * 8 (numbers needed). */
+gerlyantu_answer gerlyantu_clip_outline(gerlyantu_window w, uint32_t order, const int32_t *outline, size_t length, int32_t *out, size_t room);
+
+/* ---- drawings */
+
+/* Reads a drawing file's bytes: the window's grid numbers and the count of strokes come back, and the strokes are written in order, four numbers
+ * each.
+ * Refusals: 11 for any fault (0), 3 where the window has no area (0), 8 (numbers needed). */
+gerlyantu_drawing_answer gerlyantu_read_drawing(const uint8_t *bytes, size_t length, int32_t *out, size_t room);
+
+#ifdef __cplusplus
+}
+#endif
+
+#endif
