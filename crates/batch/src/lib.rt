@@ -52,13 +52,15 @@ fn write_rows(w: Window, s: &[i32], out: &mut [i32]) -> usize
     ensures { λ r. ⌜ Wrote w (now (s .entry)) r (now (out .entry)) (now (out .exit)) ⌝ }
 {
     let mut n = 0;
+    let mut k: u32 = 0;
     let mut p = 0;
     while p < s.len() {
         let c = strokes::cut_stroke(w, grid::stroke_at(s, p));
         if c.kept {
-            put(out, n, (p / 4) as i32, c);
+            put(out, n, k as i32, c);
             n += 5;
         }
+        k += 1;
         p += 4;
     }
     n

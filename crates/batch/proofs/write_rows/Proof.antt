@@ -1,5 +1,5 @@
 -- `batch::write_rows` meets its contract: n numbers of the computed rows stand at the front of the output, those of the strokes from p on are still to come. Assumes nothing.
-use Prim.Native.Nat.{ℕ, _<_, _≤_, _-_, _+_, _%_, _/_, _^_}
+use Prim.Native.Nat.{ℕ, _<_, _≤_, _-_, _+_, _*_, _/_, _^_}
 use mathlib.Core.Path.{_≡_, sym, ap, _∙_, subst}
 use mathlib.Core.Logic.{⊎-elim}
 use mathlib.Core.List.{List, [], _∷_, _++_}
@@ -19,10 +19,10 @@ use Rattle.batch.proofs.write_rows.Statement.{statement}
 use Rattle.batch.proofs.write_rows.Tie as tie
 
 abbrev Inv-loop : tie.InvT-loop
-Inv-loop w s out₀ n₀ p₀ out n p = (p % 4 ≡ 0) × (p ≤ length s) × (length (rowsFrom w s 0) ≤ length out₀) × Filled (rowsFrom w s 0) (rowsFrom w s p) out out₀ n
+Inv-loop w s out₀ n₀ k₀ p₀ out n k p = (p ≡ 4 * k) × (p ≤ length s) × (length (rowsFrom w s 0) ≤ length out₀) × Filled (rowsFrom w s 0) (rowsFrom w s p) out out₀ n
 
 abbrev μ-loop : tie.MeasureT-loop
-μ-loop w s out₀ n₀ p₀ out n p = length s - p
+μ-loop w s out₀ n₀ k₀ p₀ out n k p = length s - p
 
 -- a whole stroke is left
 whole : (c : tie.In-loop Inv-loop μ-loop) → c .before .loop .p + 4 ≤ length (now (c .before .before .args .s))
@@ -65,6 +65,9 @@ put-requires c κs = room (c .before)
 add-n : tie.Need-add-n Inv-loop μ-loop
 add-n c = omega (arith, room (c .before .before .before), due (c .before .before .before) .same, c .before .before .before .before .before .before .before .before .good)
 
+add-k : tie.Need-add-k Inv-loop μ-loop
+add-k c = omega (arith, c .before .before .before .before .before .pre .1 .0 .few)
+
 add-p : tie.Need-add-p Inv-loop μ-loop
 add-p c = omega (arith, c .before .before .before .before .before .pre .1 .0 .few)
 
@@ -80,9 +83,10 @@ loop-again c =
     ⊎-elim
     (λ o.
     let t : tie.Then1 Inv-loop μ-loop = record { before = k; if1 = o .0 } in
-    let i : l .p / 4 < 2 ^ 31 = omega (arith, a .pre .1 .0 .few) in
+    let i : l .k < 2 ^ 31 = omega (arith, a .pre .1 .0 .few) in
+    let e : l .k ≡ l .p / 4 = omega arith in
     let r = k .cut-stroke .result in
-    let wrote : c .if1 .out ≡ sets (l .out) (l .n) (five (l .p / 4) r) = o .4 ∙ o .2 .ensures ∙ ap (λ (z : ℤ). sets (l .out) (l .n) (z ∷ r .ax ∷ r .ay ∷ r .bx ∷ r .by ∷ [])) (toZ-pos w32 i) in
+    let wrote : c .if1 .out ≡ sets (l .out) (l .n) (five (l .p / 4) r) = o .4 ∙ o .2 .ensures ∙ ap (λ (z : ℤ). sets (l .out) (l .n) (z ∷ r .ax ∷ r .ay ∷ r .bx ∷ r .by ∷ [])) (toZ-pos w32 i ∙ ap pos e) in
     (omega arith, whole b, l .inv .2, rw (wrote, o .5) (filled-put (five (l .p / 4) r) (due t) (l .inv .2))))
     (λ o. (
       omega arith,
@@ -103,4 +107,4 @@ returns c =
     record { numbers = rowsFrom (a .args .w) (now (a .args .s)) 0; are = computed-rows (a .pre .0) (a .pre .1 .0); count = omega (arith, filled-room f); output = filled-end f }
 
 pub write-rows-spec : {M : Type 1} → statement M
-write-rows-spec = tie.close (tie.spec Inv-loop μ-loop loop-holds stroke-at-requires cut-stroke-requires cast-put put-requires add-n add-p loop-less loop-again same-length returns)
+write-rows-spec = tie.close (tie.spec Inv-loop μ-loop loop-holds stroke-at-requires cut-stroke-requires cast-put put-requires add-n add-k add-p loop-less loop-again same-length returns)
