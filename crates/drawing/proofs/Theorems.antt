@@ -4,21 +4,16 @@
 --   read, read-unique        every call has a result, and one only: answer and output
 --   enough                   a walk of more steps than there are bytes means the same
 --   few-strokes, on-table    a drawing has no more than 4,096 strokes, and its numbers are on the table
---   count-fits               four numbers for each counted stroke are within the output
 --   example, example-read    the worked example: what its 40 bytes mean, and its reading
 use mathlib.Core.Path.{_≡_, refl, sym, _∙_}
 use mathlib.Core.List.{List, [], _∷_}
-use Prim.Native.Nat.{ℕ, _*_, _≤_, zero-le}
+use Prim.Native.Nat.{ℕ, _≤_}
 use native.Mathlib.Omega.{arith}
-use borrow.Author.Tests.{leb-true}
-use lib.Dec.{eqb, leb}
 use lib.Ieee.{ofBits}
 use lib.IntN.{ℤ, pos, negsuc}
 use lib.ListN.{length}
-use Rattle.whole.proofs.Comparisons.{by-test}
 use Rattle.grid.specs.Refusals.{first, noArea, mostStrokes, windowRefusal, strokesRefusal}
 use Rattle.grid.specs.Calls.{answered, written}
-use Rattle.grid.specs.declared.Answer.{Answer}
 use Rattle.grid.specs.declared.Stroke.{Stroke}
 use Rattle.grid.specs.declared.Window.{Window}
 use Rattle.intake.specs.Millimetres.{pointFault, pointAnswer, windowFault, windowAnswer}
@@ -31,18 +26,9 @@ use Rattle.drawing.specs.declared.DrawingAnswer.{DrawingAnswer}
 use Rattle.drawing.specs.declared.pen.Pen.{Pen}
 use Rattle.drawing.proofs.Computed.{computed, is-computed, by-computed}
 use Rattle.drawing.proofs.Walks.{steps-agree}
-use Rattle.drawing.proofs.Strokes.{four-each, kept}
+use Rattle.drawing.proofs.Strokes.{kept}
 use Rattle.drawing.proofs.OnTable.{area-only, strokes-taken}
-use Rattle.drawing.proofs.Readings.{answerOf, readAnswer, readOutput, to-reading, reading-is}
-
-fits : (d : Drawing) (room : ℕ) → 4 * readAnswer d room .count ≤ room
-unfolding readAnswer answered
-fits (fault place) room = zero-le
-fits (drawn w ss) room =
-    let P : Answer → Type 0 = λ a. 4 * answerOf (drawn w ss) a .count ≤ room in
-    by-test (eqb (noArea w .number) 0) P
-    (λ _. by-test (leb (length (numbersOf ss)) room) P (λ l. omega (arith, leb-true (length (numbersOf ss)) room l, four-each ss)) (λ _. zero-le))
-    (λ n. simp n zero-le)
+use Rattle.drawing.proofs.Readings.{readAnswer, readOutput, to-reading, reading-is}
 
 module _ (bs : List ℕ) where
   -- ---- one meaning
@@ -74,10 +60,6 @@ module _ (bs : List ℕ) where
 
   pub read-unique : {a b : DrawingAnswer} {out after after′ : List ℤ} → ReadDrawing bs a out after → ReadDrawing bs b out after′ → (a ≡ b) × (after ≡ after′)
   read-unique p q = (reading-is bs p .0 ∙ sym (reading-is bs q .0), reading-is bs p .1 ∙ sym (reading-is bs q .1))
-
-  -- the count that is answered is that of strokes in the output, so a caller may take that part of it
-  pub count-fits : {a : DrawingAnswer} {out after : List ℤ} → ReadDrawing bs a out after → 4 * a .count ≤ length out
-  count-fits {out = out} r = rw (reading-is bs r .0) (fits (meaning computed bs) (length out))
 
 -- ---- the worked example: window 0 0 0.3125 0.3125, move to (-0.15625, 0.15625), line to (0.46875, 0.15625), close
 

@@ -1,5 +1,5 @@
 -- Rounding: a number has one rounding, which lies between the whole numbers that the number lies between, and which moves and mirrors with it. So the way from the start is rounded, a half falling to 0, and then gone forward or back.
-use mathlib.Core.Path.{_≡_, sym, subst}
+use mathlib.Core.Path.{_≡_, subst}
 use mathlib.Core.Logic.{⊎-elim}
 use mathlib.Core.List.{[], _∷_}
 use Prim.Native.Nat.{ℕ, _+_, _*_, _-_, _/_, _%_, _<_}
@@ -100,9 +100,6 @@ along-same {n} {d} {f} a b l = eq-by (a ∷ b ∷ n ∷ d ∷ (f .num) ∷ (f .d
 
 pub rounded-same : {a n d r : ℤ} {f : Fraction} (b : ℤ) → pos 0 <ℤ d → LowestOf n d f → Rounded a (along a b n d) d r → Rounded a (along a b (f .num) (f .den)) (f .den) r
 rounded-same {a} b h l p = rounded-equal h (l .lowest .positive) (along-same a b l) p
-
-pub same-rounded : {a n d r : ℤ} {f : Fraction} (b : ℤ) → pos 0 <ℤ d → LowestOf n d f → Rounded a (along a b (f .num) (f .den)) (f .den) r → Rounded a (along a b n d) d r
-same-rounded {a} b h l p = rounded-equal (l .lowest .positive) h (sym (along-same a b l)) p
 
 -- ---- the way from the start, a half falling to 0
 abbrev pub halfDown : ℕ → ℕ → ℕ

@@ -2,7 +2,7 @@
 use mathlib.Core.Path.{_≡_, sym, subst}
 use mathlib.Core.List.{List, [], _∷_, map, Permᴰ·symm}
 use mathlib.Core.Option.{Option, none, some}
-use Prim.Native.Nat.{ℕ, zero, suc, _+_, _*_, _/_, _<_, _≤_}
+use Prim.Native.Nat.{ℕ, zero, suc, _+_, _*_, _/_, _≤_}
 use native.Mathlib.Omega.{arith}
 use borrow.Author.Count.{below-more}
 use lib.IntN.{ℤ, pos, _-ℤ_, negℤ}
@@ -25,7 +25,7 @@ use Rattle.rings.proofs.Orders.{some-result, all-order}
 use Rattle.rings.proofs.Theorems.{convex-ccw, fan, result-outcome}
 use Rattle.corners.specs.Corners.{cornersOf}
 use Rattle.passes.specs.Orders.{sideLine, sidesIn, linesIn}
-use Rattle.passes.specs.Outlines.{Reaches, Clear}
+use Rattle.passes.specs.Outlines.{Round, Reaches, Clear}
 use Rattle.passes.proofs.Orders.{lines-arranged}
 use Rattle.passes.proofs.Outlines.{corners-all}
 use Rattle.passes.proofs.Reaches.{left-at, right-at, bottom-at, top-at, clear-in}
@@ -41,12 +41,6 @@ all-clear l r o t (suc (suc zero)) = o
 all-clear l r o t (suc (suc (suc s))) = t
 
 -- ---- the rectangle round the first n corners
-pub record Round (zs : List ℤ) (n : ℕ) (b : Window) : Type 0 where
-  pub left : (k : ℕ) → k < n → b .left ≤ℤ getD zs (2 * k) (pos 0)
-  pub right : (k : ℕ) → k < n → getD zs (2 * k) (pos 0) ≤ℤ b .right
-  pub bottom : (k : ℕ) → k < n → b .bottom ≤ℤ getD zs (2 * k + 1) (pos 0)
-  pub top : (k : ℕ) → k < n → getD zs (2 * k + 1) (pos 0) ≤ℤ b .top
-
 -- one corner more, and a rectangle that holds it and the one before
 pub round-more : {zs : List ℤ} {n : ℕ} {b c : Window} → Round zs n b
     → (c .left ≤ℤ b .left) × (c .left ≤ℤ getD zs (2 * n) (pos 0)) → (b .right ≤ℤ c .right) × (getD zs (2 * n) (pos 0) ≤ℤ c .right)

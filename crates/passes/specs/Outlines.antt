@@ -1,6 +1,7 @@
 -- What the passes are given: outlines that no call refuses, and a window's side to cut along.
 --   OutlineOnTable zs   zs is x and y of 3 to 64 corners, all on the table, in strictly convex order
---   Reaches zs b        every corner of the outline zs lies in the rectangle b
+--   Round zs n b        the first n corners of the outline zs lie in the rectangle b
+--   Reaches zs b        all of them do
 --   Clear w b s         no point of the rectangle b lies outside the side s of the window w
 --   Job w zs s          a window and an outline on the table, and one of the window's four sides
 use mathlib.Core.Path.{_≡_}
@@ -22,11 +23,14 @@ pub record OutlineOnTable (zs : List ℤ) : Type 0 where
   pub on : (k : ℕ) → k < length zs → Within farthest (getD zs k (pos 0))
   pub convex : StrictlyConvex (cornersOf zs)
 
-pub record Reaches (zs : List ℤ) (b : Window) : Type 0 where
-  pub left : (k : ℕ) → k < length zs / 2 → b .left ≤ℤ getD zs (2 * k) (pos 0)
-  pub right : (k : ℕ) → k < length zs / 2 → getD zs (2 * k) (pos 0) ≤ℤ b .right
-  pub bottom : (k : ℕ) → k < length zs / 2 → b .bottom ≤ℤ getD zs (2 * k + 1) (pos 0)
-  pub top : (k : ℕ) → k < length zs / 2 → getD zs (2 * k + 1) (pos 0) ≤ℤ b .top
+pub record Round (zs : List ℤ) (n : ℕ) (b : Window) : Type 0 where
+  pub left : (k : ℕ) → k < n → b .left ≤ℤ getD zs (2 * k) (pos 0)
+  pub right : (k : ℕ) → k < n → getD zs (2 * k) (pos 0) ≤ℤ b .right
+  pub bottom : (k : ℕ) → k < n → b .bottom ≤ℤ getD zs (2 * k + 1) (pos 0)
+  pub top : (k : ℕ) → k < n → getD zs (2 * k + 1) (pos 0) ≤ℤ b .top
+
+abbrev pub Reaches : List ℤ → Window → Type 0
+Reaches zs b = Round zs (length zs / 2) b
 
 abbrev pub Clear : Window → Window → ℕ → Type 0
 Clear w b zero = w .left ≤ℤ b .left

@@ -8,10 +8,9 @@ use Rattle.whole.proofs.Naturals.{neg-plus, neg-minus}
 use Rattle.whole.proofs.Order.{zarith, <→≤, sub-is}
 use Rattle.whole.specs.Within.{Within}
 use Rattle.whole.proofs.Certificates.{ge, ge-by, clash, po, nn, le, lt, _⊞_, _⊠_}
-use Rattle.whole.proofs.Ranges.{within-up}
 use Rattle.spans.specs.declared.Span.{Span}
 use Rattle.spans.specs.Parts.{Time}
-use Rattle.spans.specs.Spans.{In, Proper, Sized, CutBy}
+use Rattle.spans.specs.Spans.{In, Proper, CutBy}
 
 pub minus-within : {A : ℕ} {z : ℤ} → Within A z → Within A (pos 0 -ℤ z)
 minus-within {A} {z} h = record { low = omega (zarith, sub-is (pos 0) z, h .high, h .low, neg-plus (pos A), neg-minus (pos A)); high = omega (zarith, sub-is (pos 0) z, h .low, neg-plus (pos A), neg-minus (pos A)) }
@@ -21,9 +20,6 @@ one-within {A} h = record { low = omega (zarith, neg-plus (pos A), neg-minus (po
 
 pub zero-within : {A : ℕ} → Within A (pos 0)
 zero-within {A} = record { low = omega (zarith, neg-plus (pos A), neg-minus (pos A)); high = omega zarith }
-
-pub sized-up : {A B : ℕ} {s : Span} → A ≤ B → Sized A s → Sized B s
-sized-up l z = record { n0 = within-up l (z .n0); d0 = within-up l (z .d0); n1 = within-up l (z .n1); d1 = within-up l (z .d1) }
 
 -- a fraction of a proper span is from 0 to 1
 pub in-time : {s : Span} {n d : ℤ} → Proper s → pos 0 <ℤ d → In s n d → Time n d

@@ -8,7 +8,8 @@ use mir.Syntax.{w32}
 use mir.Val.{toZ, ofZ}
 use Rattle.whole.proofs.Comparisons.{back}
 use Rattle.whole.proofs.Order.{zarith}
-use Rattle.outlines.proofs.Reaching.{Round, round-more, round-all}
+use Rattle.passes.specs.Outlines.{Round}
+use Rattle.outlines.proofs.Reaching.{round-more, round-all}
 use Rattle.outlines.proofs.reach.reach_of.Statement.{statement}
 use Rattle.outlines.proofs.reach.reach_of.Tie as tie
 
