@@ -30,7 +30,7 @@ use Rattle.passes.proofs.Orders.{lines-arranged}
 use Rattle.passes.proofs.Outlines.{corners-all}
 use Rattle.passes.proofs.Reaches.{left-at, right-at, bottom-at, top-at, clear-in}
 use Rattle.passes.proofs.Sides.{side-line-real}
-use Rattle.passes.proofs.Walks.{cut-nothing}
+use Rattle.passes.proofs.Pieces.{cut-nothing}
 use Rattle.outlines.specs.Workers.{Beyond}
 use Rattle.outlines.proofs.Passes.{lines-real}
 

@@ -181,18 +181,24 @@ fn give_ring(m: &[i32], n: usize, out: &mut [i32]) -> Answer
     }
 }
 
-// What the passes leave of an outline, given into a lent output.
-fn cut_by_passes(w: Window, reach: Window, order: u32, outline: &[i32], out: &mut [i32]) -> Answer
+// What the passes leave of an outline in a memory, given into a lent output.
+fn cut_in(
+    w: Window,
+    reach: Window,
+    order: u32,
+    outline: &[i32],
+    m: &mut [i32],
+    out: &mut [i32],
+) -> Answer
     requires { ⌜ WindowOnTable w ⌝ }
     requires { ⌜ order ≤ 23 ⌝ }
     requires { ⌜ OutlineOnTable (now outline) ⌝ }
     requires { ⌜ Reaches (now outline) reach ⌝ }
+    requires { ⌜ 2 * length (now outline) + 16 ≤ length (now m) ⌝ }
     ensures { λ r. ⌜ Given (Clipped w order (now (outline .entry))) r (now (out .entry)) (now (out .exit)) ⌝ }
 {
-    let mut a = [0i32; 272];
-    let mut b = [0i32; 272];
-    let left = passes::run(w, reach, order, outline, &mut a, &mut b);
-    let n = left.count;
+    let left = passes::run(w, reach, order, outline, m);
+    let n = left.to - left.from;
     if n == 0 {
         return Answer {
             number: 0,
@@ -200,10 +206,23 @@ fn cut_by_passes(w: Window, reach: Window, order: u32, outline: &[i32], out: &mu
             count: 0,
         };
     }
-    if left.second {
-        return give_ring(&b, n, out);
+    give_ring(&m[4 * left.from..], n, out)
+}
+
+// The same with a memory of its own; few corners need only a small one, which is sooner cleared.
+fn cut_by_passes(w: Window, reach: Window, order: u32, outline: &[i32], out: &mut [i32]) -> Answer
+    requires { ⌜ WindowOnTable w ⌝ }
+    requires { ⌜ order ≤ 23 ⌝ }
+    requires { ⌜ OutlineOnTable (now outline) ⌝ }
+    requires { ⌜ Reaches (now outline) reach ⌝ }
+    ensures { λ r. ⌜ Given (Clipped w order (now (outline .entry))) r (now (out .entry)) (now (out .exit)) ⌝ }
+{
+    if outline.len() <= 24 {
+        let mut few = [0i32; 64];
+        return cut_in(w, reach, order, outline, &mut few, out);
     }
-    give_ring(&a, n, out)
+    let mut m = [0i32; 272];
+    cut_in(w, reach, order, outline, &mut m, out)
 }
 
 // What the window leaves of an outline in which nothing is refused, the plain cases first: they need no pass.

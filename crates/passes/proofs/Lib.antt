@@ -1,9 +1,11 @@
 pub mod Sides
+pub mod Limits
 pub mod Orders
 pub mod Memories
 pub mod Outlines
 pub mod Reaches
 pub mod Meetings
-pub mod Walks
-pub mod Traces
-pub mod Runs
+pub mod Pieces
+pub mod Passing
+pub mod Corners
+pub mod Running

@@ -1,13 +1,17 @@
 -- The sides in each order are an arrangement of the four: one after the other is taken out of those that are left.
 use mathlib.Core.Path.{_≡_, refl, ap}
 use mathlib.Core.List.{List, [], _∷_, map, List·Permᴰ, List·Permᴰ·nil, List·Permᴰ·cons, List·Permᴰ·swap, List·Permᴰ·trans, Permᴰ·refl}
-use Prim.Native.Nat.{ℕ, zero, suc, _/_, _%_, _<_, _≤_}
+use Prim.Native.Nat.{ℕ, zero, suc, _+_, _*_, _/_, _%_, _<_, _≤_}
 use native.Mathlib.Omega.{arith}
+use lib.Dec.{ltb, ltb→lt}
 use lib.ListN.{length, getD, drop, length-map, List·getD-map}
 use lib.Seq.{drop-cons}
+use Rattle.whole.proofs.Comparisons.{true-T}
 use Rattle.grid.specs.declared.Window.{Window}
 use Rattle.rings.specs.Windows.{sides}
-use Rattle.passes.specs.Orders.{sideLine, member, without, sidesIn, linesIn}
+use Rattle.corners.specs.Corners.{every}
+use Rattle.corners.proofs.Places.{every-at}
+use Rattle.passes.specs.Orders.{sideLine, member, without, sidesIn, linesIn, packed}
 
 -- ---- one taken out
 taken : (k : ℕ) (xs : List ℕ) → k < length xs → List·Permᴰ xs (member k xs ∷ without k xs)
@@ -67,3 +71,12 @@ module _ (o : ℕ) (w : Window) (h : o ≤ 23) where
   pub lines-from : (k : ℕ) → k < 4 → drop k (linesIn o w) ≡ sideLine w (getD (sidesIn o) k 0) ∷ drop (suc k) (linesIn o w)
   unfolding linesIn
   lines-from k l = rw (drop-cons (linesIn o w) k (sideLine w 0) (omega (arith, lines-length)), List·getD-map (sideLine w) (sidesIn o) k 0)
+
+  -- and the sides packed
+  pub packed-from : (k : ℕ) → k < 4 → packed (drop k (sidesIn o)) ≡ getD (sidesIn o) k 0 + 4 * packed (drop (suc k) (sidesIn o))
+  unfolding packed
+  packed-from k l = ap packed (drop-cons (sidesIn o) k 0 (omega (arith, sides-length o h)))
+
+  pub side-below : (k : ℕ) → k < 4 → getD (sidesIn o) k 0 < 4
+  unfolding sidesIn every
+  side-below k l = ltb→lt (getD (sidesIn o) k 0) 4 (true-T (every-at 4 (λ k. ltb (getD (sidesIn o) k 0) 4) (every-at 24 (λ o. every 4 (λ k. ltb (getD (sidesIn o) k 0) 4)) refl o (omega arith)) k l))

@@ -1,9 +1,10 @@
 -- The sides of a window, and the orders in which an outline is cut along them.
 --   sideLine w k      the line of side k: 0 left, 1 right, 2 bottom, 3 top; what is in it is where the window lies
 --   sidesIn o         the four sides in the order o: of their arrangements in dictionary order that at place o, from 0 to 23
+--   packed ss         sides in one number, two bits each
 --   linesIn o w       the lines of a window's sides in the order o
 use mathlib.Core.List.{List, [], _∷_, map}
-use Prim.Native.Nat.{ℕ, zero, suc, _/_, _%_}
+use Prim.Native.Nat.{ℕ, zero, suc, _+_, _*_, _/_, _%_}
 use Rattle.grid.specs.declared.Window.{Window}
 use Rattle.rings.specs.Points.{Line}
 use Rattle.rings.specs.Windows.{left-side, right-side, bottom-side, top-side}
@@ -35,3 +36,8 @@ sidesIn o =
 
 unfoldable pub linesIn : ℕ → Window → List Line
 linesIn o w = map (sideLine w) (sidesIn o)
+
+-- the first in the lowest two bits
+unfoldable pub packed : List ℕ → ℕ
+packed [] = 0
+packed (s ∷ ss) = s + 4 * packed ss

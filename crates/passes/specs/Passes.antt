@@ -1,39 +1,49 @@
 -- What one pass promises, and what all four do.
---   Held w zs m n              the first n corners of the memory m are a ring, small and traced
---   Passed w zs s src n dst r  of the n corners in src the side s leaves the r corners in dst, which are small and traced
---   heldBy l a b               of two memories a and b the one that holds what was left
---   Ran w o zs a b l           the sides of the window in the order o leave of the outline zs what l says: no area, or the ring that one of the memories a and b holds
+--   places i k                 the places from i up to k
+--   ringAt m p                 the ring at the places p of the memory m
+--   cornersAt m p              its corners with their tags
+--   Held w zs m p              the corners at the places p of the memory m are a ring, traced
+--   Passed w zs s m p m′ p′    of the ring at p in m the side s leaves that at p′ in m′, which is traced and ends at most one place later
+--   Ran w o zs m p             the sides of the window in the order o leave of the outline zs the ring at p in m, or no area, and p has no place
 use mathlib.Core.Path.{_≡_}
 use mathlib.Core.List.{List}
 use mathlib.Core.Option.{none, some}
-use Prim.Native.Nat.{ℕ, _+_, _*_, _<_, _≤_}
+use Prim.Native.Nat.{ℕ, suc, _+_, _-_, _*_, _≤_}
 use lib.IntN.{ℤ}
 use lib.ListN.{length}
-use Rattle.whole.specs.Choice.{if_then_else_}
 use Rattle.grid.specs.declared.Window.{Window}
+use Rattle.rings.specs.Lists.{All}
+use Rattle.rings.specs.Points.{Point}
 use Rattle.rings.specs.Rings.{Ring}
 use Rattle.rings.specs.Cuts.{CutBy, Cuts}
 use Rattle.corners.specs.Corners.{cornersOf}
-use Rattle.passes.specs.Memory.{pointIn, ringIn, Small}
+use Rattle.passes.specs.Memory.{ringFrom, Small}
 use Rattle.passes.specs.Orders.{sideLine, linesIn}
-use Rattle.passes.specs.Tags.{Traced}
-use Rattle.passes.specs.declared.Left.{Left}
+use Rattle.passes.specs.Runs.{Tagged, cornersFrom, Traced}
+use Rattle.passes.specs.declared.Places.{Places}
 
-pub record Held (w : Window) (zs m : List ℤ) (n : ℕ) : Type 0 where
-  pub room : 4 * n ≤ length m
-  pub ring : Ring (ringIn m n)
-  pub traced : Traced w zs m n
+abbrev pub places : ℕ → ℕ → Places
+places i k = record { from = i; to = k }
 
-pub record Passed (w : Window) (zs : List ℤ) (s : ℕ) (src : List ℤ) (n : ℕ) (dst : List ℤ) (r : ℕ) : Type 0 where
-  pub cut : CutBy (sideLine w s) (ringIn src n) (ringIn dst r)
-  pub traced : Traced w zs dst r
+abbrev pub ringAt : List ℤ → Places → List Point
+ringAt m p = ringFrom m (p .from) (p .to - p .from)
 
-abbrev pub heldBy : Left → List ℤ → List ℤ → List ℤ
-heldBy l a b = if l .second then b else a
+abbrev pub cornersAt : List ℤ → Places → List Tagged
+cornersAt m p = cornersFrom m (p .from) (p .to - p .from)
 
-pub data Ran (w : Window) (o : ℕ) (zs a b : List ℤ) (l : Left) : Type 0 where
-  no-area : l .count ≡ 0 → Cuts (linesIn o w) (cornersOf zs) none → Ran w o zs a b l
-  area : 3 ≤ l .count → l .count ≤ length (cornersOf zs) + 4
-      → Cuts (linesIn o w) (cornersOf zs) (some (ringIn (heldBy l a b) (l .count)))
-      → ((i : ℕ) → i < l .count → Small (pointIn (heldBy l a b) i))
-      → Ran w o zs a b l
+pub record Held (w : Window) (zs m : List ℤ) (p : Places) : Type 0 where
+  pub ring : Ring (ringAt m p)
+  pub traced : Traced w zs (cornersAt m p)
+
+pub record Passed (w : Window) (zs : List ℤ) (s : ℕ) (m : List ℤ) (p : Places) (m′ : List ℤ) (p′ : Places) : Type 0 where
+  pub order : p′ .from ≤ p′ .to
+  pub end : p′ .to ≤ suc (p .to)
+  pub cut : CutBy (sideLine w s) (ringAt m p) (ringAt m′ p′)
+  pub traced : Traced w zs (cornersAt m′ p′)
+
+pub data Ran (w : Window) (o : ℕ) (zs m : List ℤ) (p : Places) : Type 0 where
+  no-area : p .to ≡ p .from → Cuts (linesIn o w) (cornersOf zs) none → Ran w o zs m p
+  area : p .from ≤ p .to → 4 * p .to ≤ length m → 3 ≤ p .to - p .from → p .to - p .from ≤ length (cornersOf zs) + 4
+      → Cuts (linesIn o w) (cornersOf zs) (some (ringAt m p))
+      → All Small (ringAt m p)
+      → Ran w o zs m p

@@ -3,12 +3,13 @@
 --   Meets h e p                 p is where the stroke e meets the line h, if it does not run along it
 --   Meeting w zs s t p          p is where the line that the tag t names meets the window's side s
 --   putAt m n p t               the memory m with the point p, tagged t, at place n
---   Room here there n size      n corners and what is left of a step between the values here and there have room in so many numbers
---   Step w zs s src i here there dst n dst′ n′   the step from the corner i of src, where the side s has the value here, to a corner where it has the value there,
---                               makes dst′ with n′ corners of dst with n
+--   Entered w zs s there m o m′ r   between the corner o outside the side s and one of the value there the crossing took the place of o, unless that corner is on the
+--                               line; what is left begins at the place r
+--   Went w zs s here m i m′ r   after the corner i, of the value here, the crossing was put, or, where it is on the line, its next edge lies along the side; what is
+--                               left ends before the place r
 use mathlib.Core.Path.{_≡_}
 use mathlib.Core.List.{List, [], _∷_}
-use Prim.Native.Nat.{ℕ, _+_, _*_, _≤_}
+use Prim.Native.Nat.{ℕ, _+_, _*_}
 use lib.IntN.{ℤ, pos}
 use lib.Seq.{sets}
 use lib.Signed.{_≤ℤ_, _<ℤ_}
@@ -37,15 +38,10 @@ pub record Meeting (w : Window) (zs : List ℤ) (s : ℕ) (t : ℤ) (p : Point) 
 abbrev pub putAt : List ℤ → ℕ → Point → ℤ → List ℤ
 putAt m n p t = sets m (4 * n) (p .X ∷ p .Y ∷ p .W ∷ t ∷ [])
 
-pub record Room (here there : ℤ) (n size : ℕ) : Type 0 where
-  pub kept : pos 0 ≤ℤ here → 4 * n + 4 ≤ size
-  pub enters : here <ℤ pos 0 → pos 0 <ℤ there → 4 * n + 4 ≤ size
-  pub leaves : pos 0 <ℤ here → there <ℤ pos 0 → 4 * n + 8 ≤ size
+pub data Entered (w : Window) (zs : List ℤ) (s : ℕ) (there : ℤ) (m : List ℤ) (o : ℕ) : List ℤ → ℕ → Type 0 where
+  on-line : there ≤ℤ pos 0 → Entered w zs s there m o m (o + 1)
+  crosses : {p : Point} → pos 0 <ℤ there → Meeting w zs s (tagIn m o) p → Entered w zs s there m o (putAt m o p (tagIn m o)) o
 
-pub data Step (w : Window) (zs : List ℤ) (s : ℕ) (src : List ℤ) (i : ℕ) (here there : ℤ) (dst : List ℤ) (n : ℕ) : List ℤ → ℕ → Type 0 where
-  stays-out : here <ℤ pos 0 → there ≤ℤ pos 0 → Step w zs s src i here there dst n dst n
-  comes-in : (p : Point) → here <ℤ pos 0 → pos 0 <ℤ there → Meeting w zs s (tagIn src i) p → Step w zs s src i here there dst n (putAt dst n p (tagIn src i)) (n + 1)
-  stays-in : pos 0 ≤ℤ here → pos 0 ≤ℤ there → Step w zs s src i here there dst n (putAt dst n (pointIn src i) (tagIn src i)) (n + 1)
-  leaves-line : here ≡ pos 0 → there <ℤ pos 0 → Step w zs s src i here there dst n (putAt dst n (pointIn src i) (pos (64 + s))) (n + 1)
-  goes-out : (p : Point) → pos 0 <ℤ here → there <ℤ pos 0 → Meeting w zs s (tagIn src i) p
-      → Step w zs s src i here there dst n (putAt (putAt dst n (pointIn src i) (tagIn src i)) (n + 1) p (pos (64 + s))) (n + 2)
+pub data Went (w : Window) (zs : List ℤ) (s : ℕ) (here : ℤ) (m : List ℤ) (i : ℕ) : List ℤ → ℕ → Type 0 where
+  on-line : here ≤ℤ pos 0 → Went w zs s here m i (putAt m i (pointIn m i) (pos (64 + s))) (i + 1)
+  crosses : {p : Point} → pos 0 <ℤ here → Meeting w zs s (tagIn m i) p → Went w zs s here m i (putAt m (i + 1) p (pos (64 + s))) (i + 2)

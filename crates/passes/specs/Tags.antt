@@ -9,7 +9,6 @@
 --   Named w zs t        t names a line
 --   Lies w zs t p q     p and q lie on the line that t names
 --   tagIn m i           the tag of the corner at place i of the memory m: it names the line of the edge from this corner to the next
---   Traced w zs m n     each of n corners in the memory m is small, and lies with the next on the line that its tag names
 --   Loaded zs m n       the first n corners of the outline zs stand in the memory m, each tagged with its own edge
 use mathlib.Core.Path.{_≡_}
 use mathlib.Core.List.{List}
@@ -66,10 +65,6 @@ pub record Lies (w : Window) (zs : List ℤ) (t : ℤ) (p q : Point) : Type 0 wh
 
 abbrev pub tagIn : List ℤ → ℕ → ℤ
 tagIn m i = getD m (4 * i + 3) (pos 0)
-
-pub record Traced (w : Window) (zs m : List ℤ) (n : ℕ) : Type 0 where
-  pub small : (i : ℕ) → i < n → Small (pointIn m i)
-  pub lies : (i k : ℕ) → Edge n i k → Lies w zs (tagIn m i) (pointIn m i) (pointIn m k)
 
 pub record Loaded (zs m : List ℤ) (n : ℕ) : Type 0 where
   pub corner : (k : ℕ) → k < n → pointIn m k ≡ gridPoint (getD zs (2 * k) (pos 0)) (getD zs (2 * k + 1) (pos 0))

@@ -1,20 +1,28 @@
 // Cutting an outline along the sides of a window, one pass a side, in the order given.
 use grid::Stroke;
 use grid::Window;
+use limit::Limit;
 ghost use mathlib.Core.Path.{_≡_};
-ghost use mathlib.Core.Bool.{true};
+ghost use mathlib.Core.Bool.{true, false};
 ghost use Prim.Native.Nat.{ℕ, _+_, _*_, _/_, _%_, _<_, _≤_};
-ghost use lib.IntN.{pos, _-ℤ_, _*ℤ_};
-ghost use lib.ListN.{length, getD};
+ghost use lib.Dec.{eqb};
+ghost use lib.ListN.{length};
+ghost use Rattle.whole.specs.Choice.{if_then_else_};
 ghost use Rattle.whole.specs.Within.{Within};
 ghost use Rattle.grid.specs.Table.{farthest, WindowOnTable, StrokeOnTable};
+ghost use Rattle.rings.specs.Points.{Out};
 ghost use Rattle.rings.specs.Windows.{«left-side»};
-ghost use Rattle.passes.specs.Memory.{pointIn, Small};
-ghost use Rattle.passes.specs.Orders.{sidesIn};
+ghost use Rattle.passes.specs.Memory.{pointIn};
+ghost use Rattle.passes.specs.Orders.{sideLine, sidesIn, packed};
 ghost use Rattle.passes.specs.Outlines.{OutlineOnTable, Reaches, Clear, Job};
 ghost use Rattle.passes.specs.Tags.{stroke, numberOf, signOf, edgeOf, tagIn, Names, Named, Loaded};
-ghost use Rattle.passes.specs.Steps.{pointOf, Meets, Meeting, putAt, Room, Step};
-ghost use Rattle.passes.specs.Passes.{Held, Passed, heldBy, Ran};
+ghost use Rattle.passes.specs.Limits.{LimitOnTable, limitLine, RunTo};
+ghost use Rattle.passes.specs.Steps.{pointOf, Meets, Meeting, putAt, Entered, Went};
+ghost use Rattle.passes.specs.Runs.{Moved};
+ghost use Rattle.passes.specs.Passes.{places, Held, Passed, Ran};
+
+mod limit;
+mod moves;
 
 // A corner at (x/den, y/den).
 struct Corner {
@@ -23,22 +31,46 @@ struct Corner {
     den: i32,
 }
 
-// What the passes left: so many corners, in the second of two memories or in the first.
-pub struct Left {
-    pub count: usize,
-    pub second: bool,
+// The places that a ring has in a memory: from one up to another.
+pub struct Places {
+    pub from: usize,
+    pub to: usize,
 }
 
-// The sides in each of the 24 orders, one after the other: 0 left, 1 right, 2 bottom, 3 top.
-const SIDES: [u8; 96] =
-    *b"012301320213023103120321102310321203123013021320201320312103213023012310301230213102312032013210";
+// The sides in each of the 24 orders, the first in the lowest two bits: 0 left, 1 right, 2 bottom, 3 top.
+const SIDES: [u8; 24] = [
+    228,
+    180,
+    216,
+    120,
+    156,
+    108,
+    225,
+    177,
+    201,
+    57,
+    141,
+    45,
+    210,
+    114,
+    198,
+    54,
+    78,
+    30,
+    147,
+    99,
+    135,
+    39,
+    75,
+    27,
+];
 
-// The side that comes k-th in an order.
-fn side_at(order: u32, k: usize) -> usize
-    requires { ⌜ (order ≤ 23) × (k < 4) ⌝ }
-    ensures { λ r. ⌜ (r ≡ getD (sidesIn order) k 0) × (r < 4) ⌝ }
+// The sides in an order, packed like that.
+fn sides_of(order: u32) -> u8
+    requires { ⌜ order ≤ 23 ⌝ }
+    ensures { λ r. ⌜ r ≡ packed (sidesIn order) ⌝ }
 {
-    (SIDES[4 * (order as usize) + k] - b'0') as usize
+    SIDES[order as usize]
 }
 
 // The window's number of a side.
@@ -84,16 +116,19 @@ fn clear(w: Window, side: usize, reach: Window) -> bool
     reach.top <= w.top
 }
 
-// The value of a side's line at the corner i: positive inside, 0 on the line, negative outside.
-// It is sign times X, or Y where axis is 1, less c times the denominator.
-fn value_at(sign: i32, axis: usize, c: i32, m: &[i32], i: usize) -> i32
-    requires { ⌜ (Within 1 sign) × (axis < 2) × (Within farthest c) ⌝ }
-    requires { ⌜ 4 * i + 4 ≤ length (now m) ⌝ }
-    requires { ⌜ Small (pointIn (now m) i) ⌝ }
-    ensures { λ r. ⌜ r ≡ sign *ℤ getD (now (m .entry)) (4 * i + axis) (pos 0) -ℤ c *ℤ getD (now (m .entry)) (4 * i + 2) (pos 0) ⌝ }
+// The limit that a side sets.
+fn limit_of(w: Window, side: usize) -> Limit
+    requires { ⌜ WindowOnTable w ⌝ }
+    requires { ⌜ side < 4 ⌝ }
+    ensures { λ r. ⌜ limitLine r ≡ sideLine w side ⌝ }
+    ensures { λ r. ⌜ LimitOnTable r ⌝ }
 {
-    let at = 4 * i;
-    sign * m[at + axis] - c * m[at + 2]
+    let sign = sign_of(side);
+    Limit {
+        sign,
+        axis: side / 2,
+        c: sign * number(w, side),
+    }
 }
 
 // The outline's edge from its corner k to the next.
@@ -210,102 +245,44 @@ fn put(m: &mut [i32], i: usize, p: Corner, tag: i32)
     m[at + 3] = tag;
 }
 
-// The step from the corner i, where the side's line has the value here, to one where it has the value there.
-fn step(
-    w: Window,
-    side: usize,
-    outline: &[i32],
-    src: &[i32],
-    i: usize,
-    here: i32,
-    there: i32,
-    dst: &mut [i32],
-    n: usize,
-) -> usize
+// Where the ring comes in from the corner o outside to one of the value there: the crossing takes the place of o.
+// What is left begins at the place answered.
+fn enter(w: Window, side: usize, outline: &[i32], m: &mut [i32], o: usize, there: i32) -> usize
     requires { ⌜ Job w (now outline) side ⌝ }
-    requires { ⌜ 4 * i + 4 ≤ length (now src) ⌝ }
-    requires { ⌜ Named w (now outline) (tagIn (now src) i) ⌝ }
-    requires { ⌜ Room here there n (length (now dst)) ⌝ }
-    ensures { λ r. ⌜ Step w (now (outline .entry)) side (now (src .entry)) i here there (now (dst .entry)) n (now (dst .exit)) r ⌝ }
+    requires { ⌜ 4 * o + 4 ≤ length (now m) ⌝ }
+    requires { ⌜ Named w (now outline) (tagIn (now m) o) ⌝ }
+    ensures { λ r. ⌜ Entered w (now (outline .entry)) side there (now (m .entry)) o (now (m .exit)) r ⌝ }
 {
-    let tag = src[4 * i + 3];
-    if here < 0 {
-        if there <= 0 {
-            return n;
-        }
-        put(dst, n, crossing(w, side, outline, tag), tag);
-        return n + 1;
+    if there <= 0 {
+        return o + 1;
     }
-    let u = corner_at(src, i);
-    if 0 <= there {
-        put(dst, n, u, tag);
-        return n + 1;
-    }
+    let tag = m[4 * o + 3];
+    put(m, o, crossing(w, side, outline, tag), tag);
+    o
+}
+
+// Where the ring goes out from the corner i inside, of the value here: the crossing comes after it, or its next edge lies
+// along the side. What is left ends before the place answered.
+fn leave(w: Window, side: usize, outline: &[i32], m: &mut [i32], i: usize, here: i32) -> usize
+    requires { ⌜ Job w (now outline) side ⌝ }
+    requires { ⌜ 4 * i + 8 ≤ length (now m) ⌝ }
+    requires { ⌜ Named w (now outline) (tagIn (now m) i) ⌝ }
+    ensures { λ r. ⌜ Went w (now (outline .entry)) side here (now (m .entry)) i (now (m .exit)) r ⌝ }
+{
     let cut = 64 + (side as i32);
-    if here == 0 {
-        put(dst, n, u, cut);
-        return n + 1;
+    if here <= 0 {
+        put(m, i, corner_at(m, i), cut);
+        return i + 1;
     }
-    put(dst, n, u, tag);
-    put(dst, n + 1, crossing(w, side, outline, tag), cut);
-    n + 2
-}
-
-// Copies the corner i with its tag to the place n of another memory.
-fn copy(src: &[i32], i: usize, dst: &mut [i32], n: usize)
-    requires { ⌜ 4 * i + 4 ≤ length (now src) ⌝ }
-    requires { ⌜ 4 * n + 4 ≤ length (now dst) ⌝ }
-    ensures { λ _. ⌜ now (dst .exit) ≡ putAt (now (dst .entry)) n (pointIn (now (src .entry)) i) (tagIn (now (src .entry)) i) ⌝ }
-{
-    let from = 4 * i;
-    let to = 4 * n;
-    let x = src[from];
-    let y = src[from + 1];
-    let den = src[from + 2];
-    let tag = src[from + 3];
-    dst[to] = x;
-    dst[to + 1] = y;
-    dst[to + 2] = den;
-    dst[to + 3] = tag;
-}
-
-// One pass: what a side leaves of n corners, from one memory into another. Each corner's value is computed once.
-// From a corner to one on the same side of the line the first is copied or left out; only the others take a step.
-fn cut(w: Window, side: usize, outline: &[i32], src: &[i32], n: usize, dst: &mut [i32]) -> usize
-    requires { ⌜ Job w (now outline) side ⌝ }
-    requires { ⌜ Held w (now outline) (now src) n ⌝ }
-    requires { ⌜ 4 * n + 4 ≤ length (now dst) ⌝ }
-    ensures { λ r. ⌜ Passed w (now (outline .entry)) side (now (src .entry)) n (now (dst .exit)) r ⌝ }
-{
-    let sign = sign_of(side);
-    let axis = side / 2;
-    let c = sign * number(w, side);
-    let first = value_at(sign, axis, c, src, 0);
-    let mut here = first;
-    let mut count = 0;
-    let mut i = 0;
-    while i + 1 < n {
-        let there = value_at(sign, axis, c, src, i + 1);
-        if there < 0 {
-            if 0 <= here {
-                count = step(w, side, outline, src, i, here, there, dst, count);
-            }
-        } else if here < 0 {
-            count = step(w, side, outline, src, i, here, there, dst, count);
-        } else {
-            copy(src, i, dst, count);
-            count += 1;
-        }
-        here = there;
-        i += 1;
-    }
-    step(w, side, outline, src, i, here, first, dst, count)
+    let tag = m[4 * i + 3];
+    put(m, i + 1, crossing(w, side, outline, tag), cut);
+    i + 2
 }
 
 // The outline's own corners, each tagged with its own edge.
 fn load(outline: &[i32], m: &mut [i32])
     requires { ⌜ length (now outline) ≤ 128 ⌝ }
-    requires { ⌜ 256 ≤ length (now m) ⌝ }
+    requires { ⌜ 2 * length (now outline) ≤ length (now m) ⌝ }
     ensures { λ _. ⌜ Loaded (now (outline .entry)) (now (m .exit)) (length (now (outline .entry)) / 2) ⌝ }
 {
     let n = outline.len() / 2;
@@ -321,62 +298,142 @@ fn load(outline: &[i32], m: &mut [i32])
     }
 }
 
-// One pass along a side, from the memory that holds the ring into the other.
-fn pass(w: Window, side: usize, outline: &[i32], a: &mut [i32], b: &mut [i32], l: Left) -> Left
-    requires { ⌜ Job w (now outline) side ⌝ }
-    requires { ⌜ l .count ≤ 67 ⌝ }
-    requires { ⌜ (272 ≤ length (now a)) × (272 ≤ length (now b)) ⌝ }
-    requires { ⌜ Held w (now outline) (heldBy l (now a) (now b)) (l .count) ⌝ }
-    ensures { λ r. ⌜ Passed w (now (outline .entry)) side (heldBy l (now (a .entry)) (now (b .entry))) (l .count) (heldBy r (now (a .exit)) (now (b .exit))) (r .count) ⌝ }
+// Where the run outside, from the place a to the place last, is only one corner, all from it on move up by one place, so that two crossings have
+// room. By so many places they have moved.
+fn make_room(m: &mut [i32], a: usize, last: usize, to: usize) -> usize
+    requires { ⌜ (a ≤ last) × (last < to) ⌝ }
+    requires { ⌜ 4 * to + 4 ≤ length (now m) ⌝ }
+    ensures { λ r. ⌜ (r ≤ 1) × (a < last + r) ⌝ }
+    ensures { λ r. ⌜ Moved (now (m .entry)) (now (m .exit)) a to (a + r) ⌝ }
 {
-    let n = l.count;
-    if l.second {
-        return Left {
-            count: cut(w, side, outline, b, n, a),
-            second: false,
-        };
+    if a < last {
+        return 0;
     }
-    Left {
-        count: cut(w, side, outline, a, n, b),
-        second: true,
+    moves::move_up(m, a, to);
+    1
+}
+
+// The place after the last of a run, which is the first place of the ring after its last.
+fn after(b: usize, from: usize, to: usize) -> usize
+    ensures { λ r. ⌜ r ≡ (if eqb b to then from else b) ⌝ }
+{
+    if b == to {
+        return from;
+    }
+    b
+}
+
+// A pass over a ring of which the corners before the place a lie inside and that at a outside: the run outside is cut out,
+// and what comes after it moves there.
+fn cut_out(
+    w: Window,
+    side: usize,
+    outline: &[i32],
+    l: Limit,
+    m: &mut [i32],
+    from: usize,
+    a: usize,
+    to: usize,
+) -> Places
+    requires { ⌜ Job w (now outline) side ⌝ }
+    requires { ⌜ (limitLine l ≡ sideLine w side) × LimitOnTable l ⌝ }
+    requires { ⌜ 4 * to + 4 ≤ length (now m) ⌝ }
+    requires { ⌜ Held w (now outline) (now m) (places from to) ⌝ }
+    requires { ⌜ (from < a) × (a < to) × RunTo (limitLine l) (now m) false from to a ⌝ }
+    ensures { λ r. ⌜ Passed w (now (outline .entry)) side (now (m .entry)) (places from to) (now (m .exit)) r ⌝ }
+{
+    let b = limit::end_of_run(l, m, a + 1, to, true);
+    let here = limit::value_at(l, m, a - 1);
+    let there = limit::value_at(l, m, after(b, from, to));
+    let k = make_room(m, a, b - 1, to);
+    let second = enter(w, side, outline, m, b - 1 + k, there);
+    let first = leave(w, side, outline, m, a - 1, here);
+    moves::move_down(m, second, to + k, first);
+    Places {
+        from,
+        to: first + (to + k - second),
     }
 }
 
-// What a window leaves of an outline, cut along its sides in the order given: a ring in one of two memories, or nothing.
-// A side clear of the rectangle that the outline lies in cuts nothing off.
-pub fn run(
+// A pass over a ring of which the first corner lies outside: the run inside is kept where it stands.
+fn keep_run(
     w: Window,
-    reach: Window,
-    order: u32,
+    side: usize,
     outline: &[i32],
-    a: &mut [i32],
-    b: &mut [i32],
-) -> Left
+    l: Limit,
+    m: &mut [i32],
+    from: usize,
+    to: usize,
+) -> Places
+    requires { ⌜ Job w (now outline) side ⌝ }
+    requires { ⌜ (limitLine l ≡ sideLine w side) × LimitOnTable l ⌝ }
+    requires { ⌜ 4 * to + 4 ≤ length (now m) ⌝ }
+    requires { ⌜ Held w (now outline) (now m) (places from to) ⌝ }
+    requires { ⌜ (from < to) × Out (limitLine l) (pointIn (now m) from) ⌝ }
+    ensures { λ r. ⌜ Passed w (now (outline .entry)) side (now (m .entry)) (places from to) (now (m .exit)) r ⌝ }
+{
+    let s = limit::end_of_run(l, m, from + 1, to, true);
+    if s == to {
+        return Places { from, to: from };
+    }
+    let e = limit::end_of_run(l, m, s + 1, to, false);
+    let there = limit::value_at(l, m, s);
+    let here = limit::value_at(l, m, e - 1);
+    let start = enter(w, side, outline, m, s - 1, there);
+    let end = leave(w, side, outline, m, e - 1, here);
+    Places {
+        from: start,
+        to: end,
+    }
+}
+
+// One pass: what a side leaves of the ring in a memory.
+fn pass(w: Window, side: usize, outline: &[i32], m: &mut [i32], p: Places) -> Places
+    requires { ⌜ Job w (now outline) side ⌝ }
+    requires { ⌜ 4 * p .to + 4 ≤ length (now m) ⌝ }
+    requires { ⌜ Held w (now outline) (now m) p ⌝ }
+    ensures { λ r. ⌜ Passed w (now (outline .entry)) side (now (m .entry)) p (now (m .exit)) r ⌝ }
+{
+    let l = limit_of(w, side);
+    let from = p.from;
+    let to = p.to;
+    let a = limit::end_of_run(l, m, from, to, false);
+    if a == to {
+        return Places { from, to };
+    }
+    if a == from {
+        return keep_run(w, side, outline, l, m, from, to);
+    }
+    cut_out(w, side, outline, l, m, from, a, to)
+}
+
+// What a window leaves of an outline, cut along its sides in the order given: the places of a ring in the memory, or none.
+// A side clear of the rectangle that the outline lies in cuts nothing off.
+pub fn run(w: Window, reach: Window, order: u32, outline: &[i32], m: &mut [i32]) -> Places
     requires { ⌜ WindowOnTable w ⌝ }
     requires { ⌜ order ≤ 23 ⌝ }
     requires { ⌜ OutlineOnTable (now outline) ⌝ }
     requires { ⌜ Reaches (now outline) reach ⌝ }
-    requires { ⌜ (272 ≤ length (now a)) × (272 ≤ length (now b)) ⌝ }
-    ensures { λ r. ⌜ Ran w order (now (outline .entry)) (now (a .exit)) (now (b .exit)) r ⌝ }
+    requires { ⌜ 2 * length (now outline) + 16 ≤ length (now m) ⌝ }
+    ensures { λ r. ⌜ Ran w order (now (outline .entry)) (now (m .exit)) r ⌝ }
 {
-    load(outline, a);
-    let mut l = Left {
-        count: outline.len() / 2,
-        second: false,
+    load(outline, m);
+    let mut p = Places {
+        from: 0,
+        to: outline.len() / 2,
     };
+    let mut rest = sides_of(order);
     let mut k: usize = 0;
     while k < 4 {
-        let side = side_at(order, k);
+        let side = (rest % 4) as usize;
         if !clear(w, side, reach) {
-            l = pass(w, side, outline, a, b, l);
-            if l.count < 3 {
-                return Left {
-                    count: 0,
-                    second: false,
-                };
+            p = pass(w, side, outline, m, p);
+            if p.to - p.from < 3 {
+                return Places { from: 0, to: 0 };
             }
         }
+        rest /= 4;
         k += 1;
     }
-    l
+    p
 }

@@ -1,14 +1,14 @@
 -- How a counterclockwise list that starts inside a line lies to it: all inside, or, started elsewhere, one corner inside, a run outside, a run inside; else two diagonals would not cross.
 use mathlib.Core.Path.{_≡_, refl, sym, ap, subst}
 use mathlib.Core.List.{List, [], _∷_, _++_}
-use mathlib.Core.Logic.{_⊎_, inl, inr}
+use mathlib.Core.Logic.{_⊎_, inl, inr, ⊎-elim}
 use lib.IntN.{pos}
 use Rattle.whole.proofs.Order.{≤-total}
 use Rattle.rings.specs.Lists.{All, ∅, _◂_, Turned}
 use Rattle.rings.specs.Points.{Point, Line, value, In, Out}
 use Rattle.rings.proofs.Plane.{diagonals}
-use Rattle.rings.proofs.Lists.{Any, here, there, one, _◂ᵖ_, _⊑_, done, take, part-right, either}
-use Rattle.rings.proofs.Convex.{CCW, _◂ᶜ_, ccw-part, ccw-turned}
+use Rattle.rings.proofs.Lists.{Any, here, there, _◂ᵖ_, _⊑_, done, take, part-right, all-at, either}
+use Rattle.rings.proofs.Convex.{CCW, _◂ᶜ_, ccw-part, ccw-turn, ccw-turned}
 
 pub data Arc (h : Line) (r : List Point) : Type 0 where
   inside : All (In h) r → Arc h r
@@ -51,26 +51,27 @@ module _ (h : Line) where
       go (inr k) (to-end a) = to-end (k ◂ a)
       go (inr k) (until ns g q a i) = until (f ∷ ns) g q (k ◂ a) i
 
-  -- what comes after it lies inside
+  -- a ring goes out and comes in only once
   no-four : {a b c d : Point} → CCW (a ∷ b ∷ c ∷ d ∷ []) → In h a → Out h b → In h c → Out h d → ⊥
   no-four (((abc ◂ (abd ◂ ∅)) ◂ᵖ ((acd ◂ ∅) ◂ᵖ q)) ◂ᶜ (((bcd ◂ ∅) ◂ᵖ p) ◂ᶜ e)) ha hb hc hd = diagonals h bcd abd acd abc ha hb hc hd
 
-  rest-in : (l n : Point) (ns : List Point) (f : Point) (q : List Point) → CCW (l ∷ n ∷ (ns ++ (f ∷ q))) → In h l → Out h n → In h f → All (In h) (f ∷ q)
-  rest-in l n ns f q c hl hn hf = go (either q in-out)
-    where
-      go : All (In h) q ⊎ Any (Out h) q → All (In h) (f ∷ q)
-      go (inl a) = hf ◂ a
-      go (inr a) =
-          let o = one a in
-          let p : (o .x ∷ []) ⊑ q = subst (λ k. (o .x ∷ []) ⊑ k) (sym (o .is)) (part-right (o .front) (take done)) in
-          absurd (no-four (ccw-part (take (take (part-right ns (take p)))) c) hl hn hf (o .holds))
+  -- three corners with runs between them, and one of the rest
+  with-one : {a b c x : Point} (xs ys front back : List Point) {q : List Point} → CCW (a ∷ (xs ++ (b ∷ (ys ++ (c ∷ q))))) → q ≡ front ++ (x ∷ back) → CCW (a ∷ b ∷ c ∷ x ∷ [])
+  with-one {x = x} xs ys front back k e = ccw-part (take (part-right xs (take (part-right ys (take (subst (λ q. (x ∷ []) ⊑ q) (sym e) (part-right front (take done)))))))) k
+
+  pub rest-inside : {u f : Point} (n : Point) (r ns : List Point) {q : List Point} → CCW (u ∷ (r ++ (n ∷ (ns ++ (f ∷ q))))) → In h u → Out h n → In h f → All (In h) (f ∷ q)
+  rest-inside n r ns {q} c hu hn hf = hf ◂ all-at q (λ xs x ys e. ⊎-elim (λ i. i) (λ o. absurd (no-four (with-one r ns xs ys c e) hu hn hf o)) (in-out x))
+
+  pub rest-outside : {n m : Point} (u : Point) (ns r : List Point) {q : List Point} → CCW (n ∷ (ns ++ (u ∷ (r ++ (m ∷ q))))) → Out h n → In h u → Out h m → All (Out h) (m ∷ q)
+  rest-outside {n} {m} u ns r {q} c hn hu hm =
+      hm ◂ all-at q (λ xs x ys e. ⊎-elim (λ i. absurd (no-four (ccw-turn (n ∷ []) (u ∷ m ∷ x ∷ []) (with-one ns r xs ys c e)) hu hm i hn)) (λ o. o) (in-out x))
 
   pub arc : (f : Point) (s : List Point) → In h f → CCW (f ∷ s) → Arc h (f ∷ s)
   arc f s hf c = go (either s in-out)
     where
       runs : {l n : Point} {rest : List Point} → Turned (f ∷ s) (l ∷ n ∷ rest) → In h l → Out h n → Run rest → Arc h (f ∷ s)
       runs {l} {n} {rest} t hl hn (to-end a) = one-run l n rest t hl (hn ◂ a)
-      runs {l} {n} t hl hn (until ns g q a i) = two-runs l n ns g q t hl (hn ◂ a) (rest-in l n ns g q (ccw-turned t c) hl hn i)
+      runs {l} {n} t hl hn (until ns g q a i) = two-runs l n ns g q t hl (hn ◂ a) (rest-inside n [] ns (ccw-turned t c) hl hn i)
 
       go : All (In h) s ⊎ Any (Out h) s → Arc h (f ∷ s)
       go (inl a) = inside (hf ◂ a)

@@ -15,6 +15,7 @@ use Rattle.rings.proofs.Convex.{CCW}
 use Rattle.rings.proofs.Linear.{Linear}
 use Rattle.rings.proofs.Linear as linear
 use Rattle.rings.proofs.Fan as fans
+use Rattle.rings.proofs.Arcs as arcs
 use Rattle.rings.proofs.Passes as passes
 use Rattle.rings.proofs.OneCut as cut
 use Rattle.rings.proofs.Same as same
@@ -37,6 +38,13 @@ place-ccw = linear.place-ccw
 -- ---- the fan: a line with every corner of a ring inside has every point of the ring inside
 pub fan : (h : Line) (p : Point) (r : List Point) → Ring r → InRing r p → All (In h) r → In h p
 fan h p r g = fans.fan h p r (g .three) (linear.ccw-of-convex (g .convex))
+
+-- ---- a line goes through a ring once: of the corners only one run lies outside, and only one inside
+pub rest-inside : (h : Line) {u f : Point} (n : Point) (r ns : List Point) {q : List Point} → Ring (u ∷ (r ++ (n ∷ (ns ++ (f ∷ q))))) → In h u → Out h n → In h f → All (In h) (f ∷ q)
+rest-inside h n r ns g = arcs.rest-inside h n r ns (linear.ccw-of-convex (g .convex))
+
+pub rest-outside : (h : Line) {n m : Point} (u : Point) (ns r : List Point) {q : List Point} → Ring (n ∷ (ns ++ (u ∷ (r ++ (m ∷ q))))) → Out h n → In h u → Out h m → All (Out h) (m ∷ q)
+rest-outside h u ns r g = arcs.rest-outside h u ns r (linear.ccw-of-convex (g .convex))
 
 -- ---- one cut: what is so of each, that there is one, and that a pass is made of passes over its parts
 pub one-cut : {h : Line} {r s : List Point} → Real h → Ring r → CutBy h r s → OneCut h r s

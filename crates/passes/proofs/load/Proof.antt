@@ -1,6 +1,7 @@
 -- `passes::load` meets its contract: the corners before k stand in the memory. Assumes nothing.
-use mathlib.Core.Path.{_≡_, refl, sym, _∙_, subst}
+use mathlib.Core.Path.{_≡_, refl, sym, ap, _∙_, subst}
 use mathlib.Core.List.{List}
+use mathlib.Core.Logic.{inl}
 use Prim.Native.Nat.{ℕ, _+_, _*_, _-_, _/_, _≤_}
 use native.Mathlib.Omega.{arith}
 use borrow.Author.Count.{below-more}
@@ -14,6 +15,7 @@ use Rattle.corners.specs.Corners.{gridPoint}
 use Rattle.passes.specs.Memory.{pointIn}
 use Rattle.passes.specs.Tags.{tagIn, Loaded}
 use Rattle.passes.specs.Steps.{putAt}
+use Rattle.passes.specs.Runs.{Tagged, tagged}
 use Rattle.passes.proofs.Memories.{Put, put-at}
 use Rattle.passes.proofs.load.Statement.{statement}
 use Rattle.passes.proofs.load.Tie as tie
@@ -27,10 +29,10 @@ Inv-loop outline m₀ n k₀ m k = (n ≡ length outline / 2) × (k ≤ n) × (l
 abbrev μ-loop : tie.MeasureT-loop
 μ-loop outline m₀ n k₀ m k = n - k
 
-loaded-more : {zs m m′ : List ℤ} {k : ℕ} → Put m m′ k (gridPoint (getD zs (2 * k) (pos 0)) (getD zs (2 * k + 1) (pos 0))) (pos k) → Loaded zs m k → Loaded zs m′ (k + 1)
+loaded-more : {zs m m′ : List ℤ} {k : ℕ} → Put m m′ k (tagged (gridPoint (getD zs (2 * k) (pos 0)) (getD zs (2 * k + 1) (pos 0))) (pos k)) → Loaded zs m k → Loaded zs m′ (k + 1)
 loaded-more {zs} {m} {m′} {k} p l = record {
-  corner = below-more (λ (j : ℕ). pointIn m′ j ≡ gridPoint (getD zs (2 * j) (pos 0)) (getD zs (2 * j + 1) (pos 0))) k (λ j h. p .points-before j h ∙ l .corner j h) (p .point);
-  tag = below-more (λ (j : ℕ). tagIn m′ j ≡ pos j) k (λ j h. p .tags-before j h ∙ l .tag j h) (p .tag);
+  corner = below-more (λ (j : ℕ). pointIn m′ j ≡ gridPoint (getD zs (2 * j) (pos 0)) (getD zs (2 * j + 1) (pos 0))) k (λ j h. ap (λ (c : Tagged). c .point) (p .others j (inl h)) ∙ l .corner j h) (ap (λ (c : Tagged). c .point) (p .put));
+  tag = below-more (λ (j : ℕ). tagIn m′ j ≡ pos j) k (λ j h. ap (λ (c : Tagged). c .tag) (p .others j (inl h)) ∙ l .tag j h) (ap (λ (c : Tagged). c .tag) (p .put));
 }
 
 loop-holds : tie.Need-loop-holds Inv-loop μ-loop
@@ -77,7 +79,7 @@ loop-again c =
     let y = back w32 (getD zs (2 * l .k + 1) (pos 0)) (c .before .before .before .t16 .given) in
     let wrote : c .before .put .last .0 ≡ putAt (l .m) (l .k) (gridPoint (getD zs (2 * l .k) (pos 0)) (getD zs (2 * l .k + 1) (pos 0))) (pos (l .k)) =
     c .before .put .ensures ∙ (λ i. putAt (l .m) (l .k) (gridPoint (x i) (y i)) (toZ-pos w32 {n = l .k} (omega arith) i)) in
-    let p = subst (λ (m : List ℤ). Put (l .m) m (l .k) (gridPoint (getD zs (2 * l .k) (pos 0)) (getD zs (2 * l .k + 1) (pos 0))) (pos (l .k))) (sym wrote) (put-at (l .m) (l .k) _ _ (omega arith)) in
+    let p = subst (λ (m : List ℤ). Put (l .m) m (l .k) (tagged (gridPoint (getD zs (2 * l .k) (pos 0)) (getD zs (2 * l .k + 1) (pos 0))) (pos (l .k)))) (sym wrote) (put-at (l .m) (l .k) _ _ (omega arith)) in
     (refl, omega arith, c .before .put .kept .0 ∙ l .inv .2, loaded-more p (l .inv .3))
 
 same-length : tie.Need-same-length Inv-loop μ-loop

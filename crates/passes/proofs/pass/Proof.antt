@@ -1,58 +1,80 @@
--- `passes::pass` meets its contract: what `cut` ensures of the memory that holds the ring. Assumes nothing.
+-- `passes::pass` meets its contract: the first run of corners inside is all of them, none, or some, and each has its worker. Assumes nothing.
 use mathlib.Core.Path.{_≡_, sym, subst}
-use mathlib.Core.Bool.{Bool}
 use mathlib.Core.List.{List}
-use Prim.Native.Nat.{ℕ}
+use mathlib.Core.Logic.{⊎-elim}
+use Prim.Native.Nat.{ℕ, _+_, _-_, _*_, _<_, _≤_}
+use native.Mathlib.Nat.{eq-or-lt-of-le}
 use native.Mathlib.Omega.{arith}
 use borrow.Author.Needs.{needs}
 use denote.Ref.{now}
 use lib.IntN.{ℤ}
-use Rattle.whole.specs.Choice.{if_then_else_}
-use Rattle.passes.specs.Passes.{Held, Passed}
+use lib.ListN.{length}
+use Rattle.rings.specs.Points.{Line, In, Out}
+use Rattle.passes.specs.Memory.{pointIn}
+use Rattle.passes.specs.Limits.{limitLine}
+use Rattle.passes.proofs.Memories.{ring-length}
+use Rattle.passes.proofs.Corners.{small-in}
+use Rattle.passes.proofs.Passing.{leaves-all}
 use Rattle.passes.proofs.pass.Statement.{statement}
 use Rattle.passes.proofs.pass.Tie as tie
 
--- ---- the memory that holds the ring, by the test on l.second
-module _ (s : tie.Start) where
-  abbrev holder : Bool → List ℤ
-  holder t = if t then now (s .args .b) else now (s .args .a)
+-- a ring has places
+some : (s : tie.Start) → s .args .p .from < s .args .p .to
+some s = omega (arith, s .pre .1 .1 .ring .three, ring-length (now (s .args .m)) (s .args .p .from) (s .args .p .to - s .args .p .from))
 
-  abbrev Left-in : List ℤ → List ℤ → ℕ → Type 0
-  Left-in from to n = Passed (s .args .w) (now (s .args .outline)) (s .args .side) from (s .args .l .count) to n
+limit-of-requires : tie.Need-limit-of-requires
+limit-of-requires c κs = (c .pre .0 .window, c .pre .0 .side)
 
-  held : {t : Bool} → s .args .l .second ≡ t → Held (s .args .w) (now (s .args .outline)) (holder t) (s .args .l .count)
-  held e = subst (λ (t : Bool). Held (s .args .w) (now (s .args .outline)) (holder t) (s .args .l .count)) e (s .pre .1 .1 .1)
-
-  cut-off : {t : Bool} {m : List ℤ} {n : ℕ} → s .args .l .second ≡ t → Left-in (holder t) m n → Left-in (holder (s .args .l .second)) m n
-  cut-off {m = m} {n} e p = subst (λ (t : Bool). Left-in (holder t) m n) (sym e) p
-
-cut-requires : tie.Need-cut-requires
-cut-requires c κs =
-    let s = c .before .before .before in
-    (s .pre .0, (held s (c .before .before .if1 .taken), omega (arith, s .pre)))
+end-of-run-requires : tie.Need-end-of-run-requires
+end-of-run-requires c κs = let s = c .before .before in (c .before .limit-of .ensures .1, (omega (arith, some s), (omega (arith, s .pre .1 .0), small-in (s .pre .1 .1))))
 
 same-length : tie.Need-same-length
 same-length c = search needs
 
+returns : tie.Need-returns
+returns c =
+    let r = c .before in
+    let l = r .before .before in
+    let s = l .before in
+    leaves-all (omega (arith, some s)) (s .pre .1 .1)
+    (λ i a b. subst (λ (h : Line). In h (pointIn (now (s .args .m)) i)) (l .limit-of .ensures .0) (r .end-of-run .ensures .run i a (omega (arith, c .if1 .taken))))
+
+-- some corner lies outside
+module _ (c : tie.Else1) where
+  abbrev s₀ : tie.Start
+  s₀ = c .before .before .before .before
+
+  before-to : c .before .end-of-run .result < s₀ .args .p .to
+  before-to = ⊎-elim (λ q. absurd (c .if1 .left q)) (λ l. l) (eq-or-lt-of-le (c .before .end-of-run .ensures .below))
+
+keep-run-requires : tie.Need-keep-run-requires
+keep-run-requires c κs =
+    let e = c .before .before in
+    let r = e .before in
+    let l = r .before .before in
+    let s = s₀ e in
+    (s .pre .0, (l .limit-of .ensures, (s .pre .1 .0, (s .pre .1 .1, (some s, subst (λ (i : ℕ). Out (limitLine (l .limit-of .result)) (pointIn (now (s .args .m)) i)) (c .before .if2 .taken) (r .end-of-run .ensures .ends (before-to e)))))))
+
 same-length-2 : tie.Need-same-length-2
 same-length-2 c = search needs
 
-returns : tie.Need-returns
-returns c = cut-off (c .before .before .before .before .before) (c .before .before .before .before .if1 .taken) (c .before .cut .ensures)
+returns-2 : tie.Need-returns-2
+returns-2 c = search needs
 
-cut-requires-2 : tie.Need-cut-requires-2
-cut-requires-2 c κs =
-    let s = c .before .before .before in
-    (s .pre .0, (held s (c .before .before .if1 .left), omega (arith, s .pre)))
+cut-out-requires : tie.Need-cut-out-requires
+cut-out-requires c κs =
+    let e = c .before .before in
+    let r = e .before in
+    let l = r .before .before in
+    let s = s₀ e in
+    let first : s .args .p .from < r .end-of-run .result = ⊎-elim (λ q. absurd (c .before .if2 .left (sym q))) (λ l. l) (eq-or-lt-of-le (r .end-of-run .ensures .above)) in
+    (s .pre .0, (l .limit-of .ensures, (s .pre .1 .0, (s .pre .1 .1, (first, before-to e, r .end-of-run .ensures)))))
 
 same-length-3 : tie.Need-same-length-3
 same-length-3 c = search needs
 
-same-length-4 : tie.Need-same-length-4
-same-length-4 c = search needs
-
-returns-2 : tie.Need-returns-2
-returns-2 c = cut-off (c .before .before .before .before .before) (c .before .before .before .before .if1 .left) (c .before .cut2 .ensures)
+returns-3 : tie.Need-returns-3
+returns-3 c = search needs
 
 pub pass-spec : {M : Type 1} → statement M
-pass-spec = tie.close (tie.spec cut-requires same-length same-length-2 returns cut-requires-2 same-length-3 same-length-4 returns-2)
+pass-spec = tie.close (tie.spec limit-of-requires end-of-run-requires same-length returns keep-run-requires same-length-2 returns-2 cut-out-requires same-length-3 returns-3)

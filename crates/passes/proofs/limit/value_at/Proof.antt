@@ -1,4 +1,5 @@
--- `passes::value_at` meets its contract: the numbers fit. Assumes nothing.
+-- `passes::limit::value_at` meets its contract: the numbers fit. Assumes nothing.
+use mathlib.Core.Path.{_∙_}
 use mathlib.Core.List.{List, [], _∷_}
 use Prim.Native.Nat.{ℕ, zero, suc, _+_, _*_, _<_}
 use native.Mathlib.Nat.{add-zero}
@@ -17,8 +18,9 @@ use Rattle.whole.proofs.Machine.{Code, par, sub, mul, need, value}
 use Rattle.grid.specs.Table.{farthest}
 use Rattle.rings.specs.Points.{Point}
 use Rattle.passes.specs.Memory.{pointIn, largestNumber, Small}
-use Rattle.passes.proofs.value_at.Statement.{statement}
-use Rattle.passes.proofs.value_at.Tie as tie
+use Rattle.passes.proofs.Limits.{limit-value}
+use Rattle.passes.proofs.limit.value_at.Statement.{statement}
+use Rattle.passes.proofs.limit.value_at.Tie as tie
 
 along-small : (m : List ℤ) (i k : ℕ) → k < 2 → Small (pointIn m i) → Within largestNumber (getD m (4 * i + k) (pos 0))
 along-small m i zero h p = rw (add-zero (4 * i)) (p .x)
@@ -36,12 +38,13 @@ abbrev β : List ℕ
 β = 1 ∷ largestNumber ∷ farthest ∷ 32766 ∷ []
 
 abbrev env : tie.Start → Env
-env s = s .args .sign ∷ getD (now (s .args .m)) (4 * s .args .i + s .args .axis) (pos 0) ∷ s .args .c ∷ pointIn (now (s .args .m)) (s .args .i) .W ∷ []
+env s = s .args .l .sign ∷ getD (now (s .args .m)) (4 * s .args .i + s .args .l .axis) (pos 0) ∷ s .args .l .c ∷ pointIn (now (s .args .m)) (s .args .i) .W ∷ []
 
 small : (s : tie.Start) → Bounds β (env s)
 small s =
     let p = s .pre .1 .1 in
-    (s .pre .0 .0, (along-small (now (s .args .m)) (s .args .i) (s .args .axis) (s .pre .0 .1) p, (s .pre .0 .2, (den-within p, tt))))
+    let l = s .pre .0 in
+    (l .sign, (along-small (now (s .args .m)) (s .args .i) (s .args .l .axis) (l .axis) p, (l .number, (den-within p, tt))))
 
 mul-at : tie.Need-mul-at
 mul-at c = search needs
@@ -56,7 +59,7 @@ shared-slice-copy-out-result : tie.Need-shared-slice-copy-out-result
 shared-slice-copy-out-result c = search needs
 
 mul-result-2 : tie.Need-mul-result-2
-mul-result-2 c = need β (env (c .before)) (small (c .before)) (mul w32 (par w32 0) (par w32 1)) tt
+mul-result-2 c = let s = c .before .before .before .before in need β (env s) (small s) (mul w32 (par w32 0) (par w32 1)) tt
 
 add-result-2 : tie.Need-add-result-2
 add-result-2 c = search needs
@@ -68,13 +71,13 @@ shared-slice-copy-out-result-2 : tie.Need-shared-slice-copy-out-result-2
 shared-slice-copy-out-result-2 c = search needs
 
 mul-result-4 : tie.Need-mul-result-4
-mul-result-4 c = let s = c .before .before in need β (env s) (small s) (mul w32 (par w32 2) (par w32 3)) tt
+mul-result-4 c = let s = c .before .before .before .before .before .before .before in need β (env s) (small s) (mul w32 (par w32 2) (par w32 3)) tt
 
 sub-result : tie.Need-sub-result
-sub-result c = let s = c .before .before in need β (env s) (small s) code tt
+sub-result c = let s = c .before .before .before .before .before .before .before in need β (env s) (small s) code tt
 
 returns : tie.Need-returns
-returns c = let s = c .before .before in value β (env s) (small s) code tt
+returns c = let s = c .before .before .before .before .before .before .before in value β (env s) (small s) code tt ∙ limit-value (s .args .l) (now (s .args .m)) (s .args .i) (s .pre .0 .axis)
 
 pub value-at-spec : {M : Type 1} → statement M
 value-at-spec =

@@ -1,4 +1,4 @@
--- `passes::copy` meets its contract: four loads, then four stores. Assumes nothing.
+-- `passes::moves::copy` meets its contract: four loads, then four stores. Assumes nothing.
 use Prim.Native.Nat.{_+_, _*_}
 use native.Mathlib.Numerals.{towards-suc}
 use native.Mathlib.Omega.{arith}
@@ -9,8 +9,8 @@ use lib.ListN.{getD, length-set}
 use mir.Syntax.{w32}
 use Rattle.whole.proofs.Comparisons.{back}
 use Rattle.passes.specs.Tags.{tagIn}
-use Rattle.passes.proofs.copy.Statement.{statement}
-use Rattle.passes.proofs.copy.Tie as tie
+use Rattle.passes.proofs.moves.copy.Statement.{statement}
+use Rattle.passes.proofs.moves.copy.Tie as tie
 
 mul-from : tie.Need-mul-from
 mul-from c = search needs
@@ -21,8 +21,8 @@ mul-to c = search needs
 mul-x : tie.Need-mul-x
 mul-x c = search needs
 
-shared-slice-copy-out-x : tie.Need-shared-slice-copy-out-x
-shared-slice-copy-out-x c = search needs
+slice-copy-out-x : tie.Need-slice-copy-out-x
+slice-copy-out-x c = search needs
 
 add-y : tie.Need-add-y
 add-y c = search needs
@@ -30,8 +30,8 @@ add-y c = search needs
 mul-y : tie.Need-mul-y
 mul-y c = search needs
 
-shared-slice-copy-out-y : tie.Need-shared-slice-copy-out-y
-shared-slice-copy-out-y c = search needs
+slice-copy-out-y : tie.Need-slice-copy-out-y
+slice-copy-out-y c = search needs
 
 add-den : tie.Need-add-den
 add-den c = search needs
@@ -39,8 +39,8 @@ add-den c = search needs
 mul-den : tie.Need-mul-den
 mul-den c = search needs
 
-shared-slice-copy-out-den : tie.Need-shared-slice-copy-out-den
-shared-slice-copy-out-den c = search needs
+slice-copy-out-den : tie.Need-slice-copy-out-den
+slice-copy-out-den c = search needs
 
 add-tag : tie.Need-add-tag
 add-tag c = search needs
@@ -48,8 +48,8 @@ add-tag c = search needs
 mul-tag : tie.Need-mul-tag
 mul-tag c = search needs
 
-shared-slice-copy-out-tag : tie.Need-shared-slice-copy-out-tag
-shared-slice-copy-out-tag c = search needs
+slice-copy-out-tag : tie.Need-slice-copy-out-tag
+slice-copy-out-tag c = search needs
 
 mul-x-2 : tie.Need-mul-x-2
 mul-x-2 c = search needs
@@ -90,7 +90,7 @@ same-length c = search needs
 returns : tie.Need-returns
 returns c =
     let a = c .before .before .before .before .args in
-    let m = now (a .src) in
+    let m = now (a .m) in
     simp (
       back w32 (getD m (4 * a .i) (pos 0)) (c .before .before .before .x .given),
       back w32 (getD m (4 * a .i + 1) (pos 0)) (c .before .before .y .given),
@@ -105,16 +105,16 @@ copy-spec =
     mul-from
     mul-to
     mul-x
-    shared-slice-copy-out-x
+    slice-copy-out-x
     add-y
     mul-y
-    shared-slice-copy-out-y
+    slice-copy-out-y
     add-den
     mul-den
-    shared-slice-copy-out-den
+    slice-copy-out-den
     add-tag
     mul-tag
-    shared-slice-copy-out-tag
+    slice-copy-out-tag
     mul-x-2
     slice-set-from-x
     add-y-2

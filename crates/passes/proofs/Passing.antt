@@ -1,0 +1,289 @@
+-- A pass in memory: the run that stays, the crossings where they were put and what was moved are, by their places, what the side leaves of the ring.
+use mathlib.Core.Path.{_≡_, refl, sym, ap, _∙_, subst, transport}
+use mathlib.Core.List.{List, [], _∷_, _++_, append-assoc}
+use mathlib.Core.Logic.{_⊎_, inl, inr}
+use Prim.Native.Nat.{ℕ, zero, suc, _+_, _-_, _*_, _<_, _≤_}
+use native.Mathlib.Nat.{add-zero}
+use native.Mathlib.Numerals.{add-one}
+use native.Mathlib.Omega.{arith}
+use borrow.Author.Tests.{eq-eqb, ne-eqb}
+use lib.Dec.{eqb}
+use lib.IntN.{ℤ, pos}
+use lib.ListN.{length}
+use lib.Signed.{_≤ℤ_, _<ℤ_}
+use Rattle.whole.specs.Choice.{if_then_else_}
+use Rattle.whole.proofs.Order.{≤-antisym}
+use Rattle.grid.specs.declared.Window.{Window}
+use Rattle.rings.specs.Lists.{All, ∅, _◂_, nothing}
+use Rattle.rings.specs.Points.{Point, Line, value, In, Out, On}
+use Rattle.rings.specs.Rings.{Ring}
+use Rattle.rings.specs.Cuts.{CutBy}
+use Rattle.rings.proofs.Lists.{final}
+use Rattle.rings.proofs.Theorems.{rest-inside, rest-outside}
+use Rattle.passes.specs.Memory.{pointIn, ringFrom}
+use Rattle.passes.specs.Orders.{sideLine}
+use Rattle.passes.specs.Outlines.{Job}
+use Rattle.passes.specs.Tags.{tagIn}
+use Rattle.passes.specs.Steps.{Meeting, putAt, Entered, Went}
+use Rattle.passes.specs.Steps as steps
+use Rattle.passes.specs.Runs.{Tagged, tagged, cornerIn, cornersFrom, pointsOf, Traced, Moved, Goes, Comes, on-line, crosses, more}
+use Rattle.passes.specs.Passes.{places, Held, Passed}
+use Rattle.passes.proofs.Memories.{Put, put-at, corners-points, corners-split, corners-same, corners-all, corners-final, ring-split, ring-all-from}
+use Rattle.passes.proofs.Pieces.{next-of, cut-nothing, keep-none, cut-middle, keep-middle}
+
+-- ---- what stands where the ring goes out: the corners t from the place i up to the place r
+pub record Gone (w : Window) (zs : List ℤ) (s : ℕ) (m : List ℤ) (i : ℕ) (m′ : List ℤ) (r : ℕ) : Type 0 where
+  t : List Tagged
+  goes : Goes w zs s (cornerIn m i) [] t
+  count : ℕ
+  some : 1 ≤ count
+  pub few : count ≤ 2
+  pub end : r ≡ i + count
+  stands : cornersFrom m′ i count ≡ t
+  before : (j : ℕ) → j < i → cornerIn m′ j ≡ cornerIn m j
+  after : (j : ℕ) → r ≤ j → cornerIn m′ j ≡ cornerIn m j
+
+pub gone : {w : Window} {zs : List ℤ} {s : ℕ} {here : ℤ} {m : List ℤ} {i : ℕ} {m′ : List ℤ} {r : ℕ} → 4 * i + 8 ≤ length m → here ≡ value (sideLine w s) (pointIn m i) → In (sideLine w s) (pointIn m i)
+    → Went w zs s here m i m′ r → Gone w zs s m i m′ r
+unfolding cornersFrom
+gone {s = s} {m = m} {i} h e k (steps.on-line l) =
+    let p = put-at m i (pointIn m i) (pos (64 + s)) (omega arith) in
+    record {
+      t = tagged (pointIn m i) (pos (64 + s)) ∷ [];
+      goes = on-line (≤-antisym (subst (λ (z : ℤ). z ≤ℤ pos 0) e l) k);
+      count = 1;
+      some = omega arith;
+      few = omega arith;
+      end = refl;
+      stands = λ j. p .put j ∷ [];
+      before = λ j b. p .others j (inl b);
+      after = λ j b. p .others j (inr (omega arith));
+    }
+gone {s = s} {m = m} {i} h e k (steps.crosses {p = q} l x) =
+    let p = put-at m (i + 1) q (pos (64 + s)) (omega arith) in
+    record {
+      t = cornerIn m i ∷ tagged q (pos (64 + s)) ∷ [];
+      goes = crosses (subst (λ (z : ℤ). pos 0 <ℤ z) e l) x;
+      count = 2;
+      some = omega arith;
+      few = omega arith;
+      end = refl;
+      stands = λ j. p .others i (inl (omega arith)) j ∷ (ap (cornerIn (putAt m (i + 1) q (pos (64 + s)))) (sym (add-one i)) ∙ p .put) j ∷ [];
+      before = λ j b. p .others j (inl (omega arith));
+      after = λ j b. p .others j (inr (omega arith));
+    }
+
+-- ---- what stands where it comes in: the corners c from the place r up to the one after o
+pub record Come (w : Window) (zs : List ℤ) (s : ℕ) (m : List ℤ) (o : ℕ) (p : Point) (m′ : List ℤ) (r : ℕ) : Type 0 where
+  c : List Tagged
+  comes : Comes w zs s (cornerIn m o) p c
+  count : ℕ
+  pub few : count ≤ 1
+  pub start : r + count ≡ o + 1
+  stands : cornersFrom m′ r count ≡ c
+  pub others : (j : ℕ) → j < o ⊎ o < j → cornerIn m′ j ≡ cornerIn m j
+
+pub come : {w : Window} {zs : List ℤ} {s : ℕ} {there : ℤ} {m : List ℤ} {o : ℕ} {p : Point} {m′ : List ℤ} {r : ℕ} → 4 * o + 4 ≤ length m → there ≡ value (sideLine w s) p → In (sideLine w s) p
+    → Entered w zs s there m o m′ r → Come w zs s m o p m′ r
+unfolding cornersFrom
+come h e k (steps.on-line l) = record {
+  c = [];
+  comes = on-line (≤-antisym (subst (λ (z : ℤ). z ≤ℤ pos 0) e l) k);
+  count = 0;
+  few = omega arith;
+  start = add-zero _;
+  stands = refl;
+  others = λ j b. refl;
+}
+come {m = m} {o} h e k (steps.crosses {p = q} l x) =
+    let p = put-at m o q (tagIn m o) h in
+    record {
+      c = tagged q (tagIn m o) ∷ [];
+      comes = crosses (subst (λ (z : ℤ). pos 0 <ℤ z) e l) x;
+      count = 1;
+      few = omega arith;
+      start = refl;
+      stands = λ j. p .put j ∷ [];
+      others = p .others;
+    }
+
+-- ---- a run that stays, and its last corner
+goes-from : {w : Window} {zs : List ℤ} {s : ℕ} {t : List Tagged} (m m′ : List ℤ) (i x : ℕ) → ((k : ℕ) → k < x → cornerIn m′ (i + k) ≡ cornerIn m (i + k)) → Goes w zs s (cornerIn m (i + x)) [] t
+    → Goes w zs s (cornerIn m i) (cornersFrom m (suc i) x) (cornersFrom m′ i x ++ t)
+unfolding cornersFrom
+goes-from {w} {zs} {s} {t} m m′ i zero f g = subst (λ (k : ℕ). Goes w zs s (cornerIn m k) [] t) (add-zero i) g
+goes-from {w} {zs} {s} {t} m m′ i (suc x) f g =
+    let first : cornerIn m i ≡ cornerIn m′ i = ap (cornerIn m) (sym (add-zero i)) ∙ sym (f 0 (omega arith)) ∙ ap (cornerIn m′) (add-zero i) in
+    subst (λ (c : Tagged). Goes w zs s (cornerIn m i) (cornersFrom m (suc i) (suc x)) (c ∷ (cornersFrom m′ (suc i) x ++ t))) first
+    (more (goes-from m m′ (suc i) x (λ k h. ap (cornerIn m′) (omega arith) ∙ f (suc k) (omega arith) ∙ ap (cornerIn m) (omega arith)) (subst (λ (k : ℕ). Goes w zs s (cornerIn m k) [] t) (omega arith) g)))
+
+-- ---- a ring in three runs
+three : (m : List ℤ) (i x y z : ℕ) → cornersFrom m i (suc x + (suc y + z)) ≡ cornerIn m i ∷ (cornersFrom m (suc i) x ++ (cornerIn m (i + suc x) ∷ (cornersFrom m (suc (i + suc x)) y ++ cornersFrom m (i + suc x + suc y) z)))
+unfolding cornersFrom
+three m i x y z = corners-split m i (suc x) (suc y + z) ∙ ap (λ (r : List Tagged). cornersFrom m i (suc x) ++ r) (corners-split m (i + suc x) (suc y) z)
+
+three-points : (m : List ℤ) (i x y z : ℕ) → ringFrom m i (suc x + (suc y + suc z))
+    ≡ pointIn m i ∷ (ringFrom m (suc i) x ++ (pointIn m (i + suc x) ∷ (ringFrom m (suc (i + suc x)) y ++ (pointIn m (i + suc x + suc y) ∷ ringFrom m (suc (i + suc x + suc y)) z))))
+unfolding ringFrom
+three-points m i x y z = ring-split m i (suc x) (suc y + suc z) ∙ ap (λ (r : List Point). ringFrom m i (suc x) ++ r) (ring-split m (i + suc x) (suc y) (suc z))
+
+all-corners : {P : Point → Type 0} (m : List ℤ) (i n : ℕ) → All P (ringFrom m i n) → All (λ c. P (c .point)) (cornersFrom m i n)
+unfolding ringFrom cornersFrom
+all-corners m i zero ∅ = ∅
+all-corners m i (suc n) (p ◂ a) = p ◂ all-corners m (suc i) n a
+
+-- what a pass promises, of corners
+passed : {w : Window} {zs : List ℤ} {s : ℕ} (m m′ : List ℤ) (i n i′ n′ : ℕ) {cs ls : List Tagged} → cornersFrom m i n ≡ cs → cornersFrom m′ i′ n′ ≡ ls → n′ + i′ ≤ suc (n + i)
+    → CutBy (sideLine w s) (pointsOf cs) (pointsOf ls) × Traced w zs ls → Passed w zs s m (places i (i + n)) m′ (places i′ (i′ + n′))
+passed {w} {zs} {s} m m′ i n i′ n′ e f l (c, t) =
+    let a : i + n - i ≡ n = omega arith in
+    let b : i′ + n′ - i′ ≡ n′ = omega arith in
+    record {
+      order = omega arith;
+      end = omega arith;
+      cut = transport (λ j. CutBy (sideLine w s) ((ap pointsOf (sym e) ∙ corners-points m i n ∙ ap (ringFrom m i) (sym a)) j) ((ap pointsOf (sym f) ∙ corners-points m′ i′ n′ ∙ ap (ringFrom m′ i′) (sym b)) j)) c;
+      traced = subst (Traced w zs) (sym f ∙ ap (cornersFrom m′ i′) (sym b)) t;
+    }
+
+module _ {w : Window} {zs : List ℤ} {s : ℕ} (g : Job w zs s) where
+  abbrev h : Line
+  h = sideLine w s
+
+  -- ---- the first run lies inside, up to the place a, the second outside, up to b; the third then lies inside
+  abbrev pub CutOut : List ℤ → ℕ → ℕ → ℕ → ℕ → Type 0
+  CutOut m from a b to =
+      Held w zs m (places from to) → ((i : ℕ) → from ≤ i → i < a → In h (pointIn m i)) → ((i : ℕ) → a ≤ i → i < b → Out h (pointIn m i)) → (b < to → In h (pointIn m b))
+      → (m₁ m₂ m₃ m₄ : List ℤ) (k second first : ℕ) → a < b - 1 + k → Moved m m₁ a to (a + k) → Come w zs s m₁ (b - 1 + k) (pointIn m (if eqb b to then from else b)) m₂ second
+      → Gone w zs s m₂ (a - 1) m₃ first → Moved m₃ m₄ second (to + k) first → Passed w zs s m (places from to) m₄ (places from (first + (to + k - second)))
+
+  module _ (m : List ℤ) (from x y : ℕ) where
+    abbrev a : ℕ
+    a = from + suc x
+
+    abbrev b : ℕ
+    b = from + suc x + suc y
+
+    third-in : (z : ℕ) → Ring (ringFrom m from (suc x + (suc y + z))) → In h (pointIn m from) → Out h (pointIn m a) → (b < b + z → In h (pointIn m b)) → All (In h) (ringFrom m b z)
+    unfolding ringFrom
+    third-in zero r u n k = ∅
+    third-in (suc z) r u n k = rest-inside h (pointIn m a) (ringFrom m (suc from) x) (ringFrom m (suc a) y) (subst Ring (three-points m from x y z) r) u n (k (omega arith))
+
+    next-point : (z : ℕ) → pointIn m (if eqb b (b + z) then from else b) ≡ next-of (cornersFrom m b z) (cornerIn m from) .point
+    unfolding cornersFrom
+    next-point zero = simp (eq-eqb b (b + 0) (sym (add-zero b)))
+    next-point (suc z) = simp (ne-eqb b (b + suc z) (λ (e : b ≡ b + suc z). absurd (omega arith)))
+
+    cut-runs : (z : ℕ) → CutOut m from a b (b + z)
+    unfolding cornersFrom
+    cut-runs z held inside outside back m₁ m₂ m₃ m₄ k second first two up c g′ down =
+        let bs = cornersFrom m b z in
+        let gc = g′ .count in
+        let cc = c .count in
+        let n = suc x + (suc y + z) in
+        let size : b + z - from ≡ n = omega arith in
+        let whole : from + n ≡ b + z = omega arith in
+        let low : first ≤ second = omega (arith, g′ .end, g′ .few, c .start, c .few) in
+        let n′ = x + (gc + (cc + z)) in
+        let end : from + n′ ≡ first + (b + z + k - second) = omega (arith, g′ .end, c .start) in
+        let i₀ : a - 1 ≡ from + x = omega arith in
+        let stays : (i : ℕ) → i < x → cornerIn m₄ (from + i) ≡ cornerIn m (from + i) =
+        λ i l. down .before (from + i) (omega (arith, g′ .end)) (omega (arith, g′ .end)) ∙ g′ .before (from + i) (omega arith) ∙ c .others (from + i) (inl (omega arith)) ∙ up .before (from + i) (omega arith) (omega arith) in
+        let last : cornerIn m₂ (a - 1) ≡ cornerIn m (from + x) = c .others (a - 1) (inl (omega arith)) ∙ up .before (a - 1) (omega arith) (omega arith) ∙ ap (cornerIn m) i₀ in
+        let goes = goes-from m m₄ from x stays (subst (λ (c : Tagged). Goes w zs s c [] (g′ .t)) last (g′ .goes)) in
+        let o : b - 1 + k ≡ a + k + y = omega arith in
+        let outer : cornerIn m₁ (b - 1 + k) ≡ final (cornerIn m a) (cornersFrom m (suc a) y) = ap (cornerIn m₁) o ∙ up .moved y (omega arith) ∙ sym (corners-final m a y) in
+        let comes = transport (λ j. Comes w zs s (outer j) (next-point z j) (c .c)) (c .comes) in
+        let tail : cornersFrom m₂ (second + cc) z ≡ bs =
+        corners-same m m₂ b (second + cc) z
+        (λ j l. let i : second + cc + j ≡ a + k + (suc y + j) = omega (arith, c .start) in let i′ : a + (suc y + j) ≡ b + j = omega arith in
+        c .others (second + cc + j) (inr (omega (arith, c .start))) ∙ ap (cornerIn m₁) i ∙ up .moved (suc y + j) (omega arith) ∙ ap (cornerIn m) i′) in
+        let i₁ : first ≡ from + x + gc = omega (arith, g′ .end) in
+        let moved : cornersFrom m₄ (from + x + gc) (cc + z) ≡ c .c ++ bs =
+        corners-same m₂ m₄ second (from + x + gc) (cc + z) (λ j l. ap (λ (i : ℕ). cornerIn m₄ (i + j)) (sym i₁) ∙ down .moved j (omega (arith, c .start)) ∙ g′ .after (second + j) (omega arith))
+        ∙ corners-split m₂ second cc z ∙ (λ j. c .stands j ++ tail j) in
+        let kept : cornersFrom m₄ (from + x) gc ≡ g′ .t =
+        corners-same m₃ m₄ (a - 1) (from + x) gc (λ j l. down .before (from + x + j) (omega (arith, g′ .end)) (omega (arith, g′ .end)) ∙ ap (λ (i : ℕ). cornerIn m₃ (i + j)) (sym i₀)) ∙ g′ .stands in
+        let stands : cornersFrom m₄ from n′ ≡ (cornersFrom m₄ from x ++ g′ .t) ++ (c .c ++ bs) =
+        corners-split m₄ from x (gc + (cc + z)) ∙ ap (λ (r : List Tagged). cornersFrom m₄ from x ++ r) (corners-split m₄ (from + x) gc (cc + z) ∙ (λ j. kept j ++ moved j))
+        ∙ sym (append-assoc (cornersFrom m₄ from x) (g′ .t) (c .c ++ bs)) in
+        let all-in = all-corners m b z (third-in z (subst (λ (n : ℕ). Ring (ringFrom m from n)) size (held .ring)) (inside from (omega arith) (omega arith)) (outside a (omega arith) (omega arith)) back) in
+        let traced = subst (Traced w zs) (ap (cornersFrom m from) size ∙ three m from x y z) (held .traced) in
+        transport (λ j. Passed w zs s m (places from (whole j)) m₄ (places from (end j)))
+        (passed m m₄ from n from n′ (three m from x y z) stands (omega (arith, g′ .few, c .few))
+        (cut-middle g traced (corners-all m from (suc x) inside) (corners-all m a (suc y) outside) all-in goes comes))
+
+  pub cut-out : (m : List ℤ) {from a b to : ℕ} → from < a → a < b → b ≤ to → CutOut m from a b to
+  cut-out m {from} {a} {b} {to} l h k =
+      let y = b - suc a in
+      let z = to - b in
+      let a′ : from + suc (a - suc from) ≡ a = omega arith in
+      let b′ : a + suc y ≡ b = omega arith in
+      let to′ : b + z ≡ to = omega arith in
+      subst (CutOut m from a b) to′ (subst (λ (b : ℕ). CutOut m from a b (b + z)) b′ (subst (λ (a : ℕ). CutOut m from a (a + suc y) (a + suc y + z)) a′ (cut-runs m from (a - suc from) y z)))
+
+  -- ---- the first run lies outside, up to the place f, the second inside, up to e; the third then lies outside
+  abbrev pub KeepRun : List ℤ → ℕ → ℕ → ℕ → ℕ → Type 0
+  KeepRun m from f e to =
+      Held w zs m (places from to) → ((i : ℕ) → from ≤ i → i < f → Out h (pointIn m i)) → ((i : ℕ) → f ≤ i → i < e → In h (pointIn m i)) → (e < to → Out h (pointIn m e))
+      → (m₁ m₂ : List ℤ) (start end : ℕ) → Come w zs s m (f - 1) (pointIn m f) m₁ start → Gone w zs s m₁ (e - 1) m₂ end → Passed w zs s m (places from to) m₂ (places start end)
+
+  module _ (m : List ℤ) (from y x : ℕ) where
+    abbrev f : ℕ
+    f = from + suc y
+
+    abbrev e : ℕ
+    e = from + suc y + suc x
+
+    third-out : (z : ℕ) → Ring (ringFrom m from (suc y + (suc x + z))) → Out h (pointIn m from) → In h (pointIn m f) → (e < e + z → Out h (pointIn m e)) → All (Out h) (ringFrom m e z)
+    unfolding ringFrom
+    third-out zero r n u k = ∅
+    third-out (suc z) r n u k = rest-outside h (pointIn m f) (ringFrom m (suc from) y) (ringFrom m (suc f) x) (subst Ring (three-points m from y x z) r) n u (k (omega arith))
+
+    keep-runs : (z : ℕ) → KeepRun m from f e (e + z)
+    unfolding cornersFrom
+    keep-runs z held outside inside back m₁ m₂ start end c g′ =
+        let gc = g′ .count in
+        let cc = c .count in
+        let n = suc y + (suc x + z) in
+        let size : e + z - from ≡ n = omega arith in
+        let whole : from + n ≡ e + z = omega arith in
+        let n′ = cc + (x + gc) in
+        let is : start + n′ ≡ end = omega (arith, g′ .end, c .start) in
+        let i₀ : e - 1 ≡ f + x = omega arith in
+        let o : f - 1 ≡ from + y = omega arith in
+        let stays : (i : ℕ) → i < x → cornerIn m₂ (f + i) ≡ cornerIn m (f + i) = λ i l. g′ .before (f + i) (omega arith) ∙ c .others (f + i) (inr (omega arith)) in
+        let last : cornerIn m₁ (e - 1) ≡ cornerIn m (f + x) = c .others (e - 1) (inr (omega arith)) ∙ ap (cornerIn m) i₀ in
+        let goes = goes-from m m₂ f x stays (subst (λ (c : Tagged). Goes w zs s c [] (g′ .t)) last (g′ .goes)) in
+        let comes = subst (λ (q : Tagged). Comes w zs s q (pointIn m f) (c .c)) (ap (cornerIn m) o ∙ sym (corners-final m from y)) (c .comes) in
+        let came : cornersFrom m₂ start cc ≡ c .c = corners-same m₁ m₂ start start cc (λ j l. g′ .before (start + j) (omega (arith, c .start))) ∙ c .stands in
+        let next : start + cc ≡ f = omega (arith, c .start) in
+        let kept : cornersFrom m₂ (f + x) gc ≡ g′ .t = ap (λ (i : ℕ). cornersFrom m₂ i gc) (sym i₀) ∙ g′ .stands in
+        let stands : cornersFrom m₂ start n′ ≡ c .c ++ (cornersFrom m₂ f x ++ g′ .t) =
+        corners-split m₂ start cc (x + gc) ∙ (λ j. came j ++ (ap (λ (i : ℕ). cornersFrom m₂ i (x + gc)) next ∙ corners-split m₂ f x gc ∙ ap (λ (r : List Tagged). cornersFrom m₂ f x ++ r) kept) j) in
+        let all-out = all-corners m e z (third-out z (subst (λ (n : ℕ). Ring (ringFrom m from n)) size (held .ring)) (outside from (omega arith) (omega arith)) (inside f (omega arith) (omega arith)) back) in
+        let traced = subst (Traced w zs) (ap (cornersFrom m from) size ∙ three m from y x z) (held .traced) in
+        transport (λ j. Passed w zs s m (places from (whole j)) m₂ (places start (is j)))
+        (passed m m₂ from n start n′ (three m from y x z) stands (omega (arith, g′ .few, c .start))
+        (keep-middle g traced (corners-all m from (suc y) outside) (corners-all m f (suc x) inside) all-out comes goes))
+
+  pub keep-run : (m : List ℤ) {from f e to : ℕ} → from < f → f < e → e ≤ to → KeepRun m from f e to
+  keep-run m {from} {f} {e} {to} l h k =
+      let x = e - suc f in
+      let z = to - e in
+      let f′ : from + suc (f - suc from) ≡ f = omega arith in
+      let e′ : f + suc x ≡ e = omega arith in
+      let to′ : e + z ≡ to = omega arith in
+      subst (KeepRun m from f e) to′ (subst (λ (e : ℕ). KeepRun m from f e (e + z)) e′ (subst (λ (f : ℕ). KeepRun m from f (f + suc x) (f + suc x + z)) f′ (keep-runs m from (f - suc from) x z)))
+
+-- ---- all corners lie inside, or all outside
+module _ {w : Window} {zs : List ℤ} {s : ℕ} {m : List ℤ} {i k : ℕ} (l : i ≤ k) where
+  pub leaves-all : Held w zs m (places i k) → ((j : ℕ) → i ≤ j → j < k → In (sideLine w s) (pointIn m j)) → Passed w zs s m (places i k) m (places i k)
+  leaves-all held f = record { order = l; end = omega arith; cut = cut-nothing (ring-all-from m i (k - i) (λ j a b. f j a (omega arith))); traced = held .traced }
+
+  pub leaves-none : ((j : ℕ) → i ≤ j → j < k → Out (sideLine w s) (pointIn m j)) → Passed w zs s m (places i k) m (places i i)
+  unfolding cornersFrom pointsOf
+  leaves-none f =
+      let e : i + (k - i) ≡ k = omega arith in
+      let z : i + 0 ≡ i = add-zero i in
+      transport (λ j. Passed w zs s m (places i (e j)) m (places i (z j)))
+      (passed m m i (k - i) i 0 refl refl (omega arith) (keep-none (corners-all m i (k - i) (λ j a b. f j a (omega arith))), record { small = ∅; lies = nothing }))

@@ -1,0 +1,299 @@
+-- `passes::cut_out` meets its contract: what each worker tells of its memory makes the pass. Assumes nothing.
+use mathlib.Core.Path.{_≡_, sym, ap, _∙_, subst}
+use mathlib.Core.Bool.{true}
+use mathlib.Core.List.{List}
+use mathlib.Core.Logic.{inl, ⊎-elim}
+use Prim.Native.Nat.{ℕ, suc, _+_, _-_, _*_, _<_, _≤_}
+use native.Mathlib.Nat.{eq-or-lt-of-le}
+use native.Mathlib.Omega.{arith}
+use borrow.Author.Needs.{needs}
+use borrow.Author.Tests.{eqb-false}
+use denote.Ref.{now}
+use lib.Dec.{eqb}
+use lib.IntN.{ℤ}
+use lib.ListN.{length}
+use mir.Syntax.{w32}
+use mir.Val.{toZ, ofZ}
+use Rattle.whole.specs.Choice.{if_then_else_}
+use Rattle.whole.proofs.Comparisons.{back, by-test}
+use Rattle.rings.specs.Points.{Line, value, In, Out}
+use Rattle.passes.specs.Memory.{pointIn, Small}
+use Rattle.passes.specs.Orders.{sideLine}
+use Rattle.passes.specs.Tags.{tagIn, Named}
+use Rattle.passes.specs.Limits.{LimitOnTable}
+use Rattle.passes.specs.Runs.{Tagged, cornerIn, Moved}
+use Rattle.passes.specs.Passes.{places, Held}
+use Rattle.passes.proofs.Corners.{small-in, named-in}
+use Rattle.passes.proofs.Passing.{Gone, Come, gone, come, cut-out}
+use Rattle.passes.proofs.cut_out.Statement.{statement}
+use Rattle.passes.proofs.cut_out.Tie as tie
+
+-- ---- what the call is given
+module _ (s : tie.Start) where
+  abbrev m : List ℤ
+  m = now (s .args .m)
+
+  abbrev h : Line
+  h = sideLine (s .args .w) (s .args .side)
+
+  held : Held (s .args .w) (now (s .args .outline)) m (places (s .args .from) (s .args .to))
+  held = s .pre .1 .1 .1 .0
+
+  after-from : s .args .from < s .args .a
+  after-from = s .pre .1 .1 .1 .1 .0
+
+  before-to : s .args .a < s .args .to
+  before-to = s .pre .1 .1 .1 .1 .1
+
+  fits : 4 * s .args .to + 4 ≤ length m
+  fits = s .pre .1 .1 .0
+
+  first-in : (i : ℕ) → s .args .from ≤ i → i < s .args .a → In h (pointIn m i)
+  first-in i l k = subst (λ (h : Line). In h (pointIn m i)) (s .pre .1 .0 .0) (s .pre .1 .1 .1 .1 .2 .run i l k)
+
+  first-out : Out h (pointIn m (s .args .a))
+  first-out = subst (λ (h : Line). Out h (pointIn m (s .args .a))) (s .pre .1 .0 .0) (s .pre .1 .1 .1 .1 .2 .ends before-to)
+
+-- ---- the run outside, up to b
+module _ (c : tie.After-end-of-run) where
+  abbrev start : tie.Start
+  start = c .before .before
+
+  abbrev b : ℕ
+  b = c .end-of-run .result
+
+  after-a : start .args .a < b
+  after-a = omega (arith, c .end-of-run .ensures .above)
+
+  to-end : b ≤ start .args .to
+  to-end = c .end-of-run .ensures .below
+
+  all-out : (i : ℕ) → start .args .a ≤ i → i < b → Out (h start) (pointIn (m start) i)
+  all-out i l k =
+      ⊎-elim (λ e. subst (λ (j : ℕ). Out (h start) (pointIn (m start) j)) e (first-out start))
+      (λ n. subst (λ (h : Line). Out h (pointIn (m start) i)) (start .pre .1 .0 .0) (c .end-of-run .ensures .run i (omega arith) k)) (eq-or-lt-of-le l)
+
+  back-in : b < start .args .to → In (h start) (pointIn (m start) b)
+  back-in l = subst (λ (h : Line). In h (pointIn (m start) b)) (start .pre .1 .0 .0) (c .end-of-run .ensures .ends l)
+
+  -- the corner after it
+  abbrev next : ℕ
+  next = if eqb b (start .args .to) then start .args .from else b
+
+  next-of-ring : (start .args .from ≤ next) × (next < start .args .to) × In (h start) (pointIn (m start) next)
+  next-of-ring =
+      by-test (eqb b (start .args .to)) (λ (k : ℕ). (start .args .from ≤ k) × (k < start .args .to) × In (h start) (pointIn (m start) k))
+      (λ e. (omega arith, omega (arith, after-from start, before-to start), first-in start (start .args .from) (omega arith) (after-from start)))
+      (λ e. let l : b < start .args .to = ⊎-elim (λ q. absurd (eqb-false b (start .args .to) e q)) (λ l. l) (eq-or-lt-of-le to-end) in (omega (arith, after-from start, after-a), l, back-in l))
+
+add-end-of-run : tie.Need-add-end-of-run
+add-end-of-run c = search needs
+
+end-of-run-requires : tie.Need-end-of-run-requires
+end-of-run-requires c κs =
+    let s = c .before in
+    (s .pre .1 .0 .1, (omega (arith, before-to s), (omega (arith, fits s), λ j l k. small-in (held s) j (omega (arith, after-from s)) k)))
+
+sub-value-at : tie.Need-sub-value-at
+sub-value-at c = omega (arith, after-from (c .before .before .before))
+
+value-at-requires : tie.Need-value-at-requires
+value-at-requires c κs =
+    let s = c .before .before .before in
+    (s .pre .1 .0 .1, (omega (arith, fits s, before-to s), small-in (held s) (s .args .a - 1) (omega (arith, after-from s)) (omega (arith, before-to s))))
+
+after-requires : tie.Need-after-requires
+after-requires c κs = search needs
+
+value-at-requires-2 : tie.Need-value-at-requires-2
+value-at-requires-2 c κs =
+    let e = c .before .before .before .before in
+    let s = start e in
+    let n = next-of-ring e in
+    subst (λ (k : ℕ). LimitOnTable (s .args .l) × ((4 * k + 4 ≤ length (m s)) × Small (pointIn (m s) k))) (sym (c .after .ensures))
+    (s .pre .1 .0 .1, (omega (arith, fits s, n .1), small-in (held s) (next e) (n .0) (n .1)))
+
+sub-make-room : tie.Need-sub-make-room
+sub-make-room c = omega (arith, after-a (c .before .before .before .before .before .before))
+
+make-room-requires : tie.Need-make-room-requires
+make-room-requires c κs =
+    let e = c .before .before .before .before .before .before in
+    ((omega (arith, after-a e), omega (arith, after-a e, to-end e)), fits (start e))
+
+-- ---- the memories
+module _ (c : tie.After-make-room) where
+  abbrev found : tie.After-end-of-run
+  found = c .before .before .before .before .before .before .before
+
+  abbrev s₁ : tie.Start
+  s₁ = start found
+
+  abbrev m₁ : List ℤ
+  m₁ = c .make-room .last .0
+
+  abbrev k : ℕ
+  k = c .make-room .result
+
+  abbrev o : ℕ
+  o = b found - 1 + k
+
+  abbrev there : tie.After-value-at2
+  there = c .before .before
+
+  abbrev here : tie.After-value-at
+  here = there .before .before .before
+
+  size₁ : length m₁ ≡ length (m s₁)
+  size₁ = c .make-room .kept .0
+
+  up : Moved (m s₁) m₁ (s₁ .args .a) (s₁ .args .to) (s₁ .args .a + k)
+  up = c .make-room .ensures .1
+
+  is-there : toZ w32 (ofZ w32 (there .value-at2 .result)) ≡ value (h s₁) (pointIn (m s₁) (next found))
+  is-there =
+      back w32 (there .value-at2 .result) (there .value-at2 .ok) ∙ there .value-at2 .ensures
+      ∙ (λ j. value (s₁ .pre .1 .0 .0 j) (pointIn (m s₁) (there .before .after .ensures j)))
+
+  is-here : toZ w32 (ofZ w32 (here .value-at .result)) ≡ value (h s₁) (pointIn (m s₁) (s₁ .args .a - 1))
+  is-here = back w32 (here .value-at .result) (here .value-at .ok) ∙ here .value-at .ensures ∙ (λ j. value (s₁ .pre .1 .0 .0 j) (pointIn (m s₁) (s₁ .args .a - 1)))
+
+  -- the last corner outside, where it stands now
+  last-out : cornerIn m₁ o ≡ cornerIn (m s₁) (b found - 1)
+  last-out =
+      let i : o ≡ s₁ .args .a + k + (b found - 1 - s₁ .args .a) = omega (arith, after-a found) in
+      let j : s₁ .args .a + (b found - 1 - s₁ .args .a) ≡ b found - 1 = omega (arith, after-a found) in
+      ap (cornerIn m₁) i ∙ up .moved (b found - 1 - s₁ .args .a) (omega (arith, after-a found, to-end found)) ∙ ap (cornerIn (m s₁)) j
+
+  last-named : Named (s₁ .args .w) (now (s₁ .args .outline)) (tagIn m₁ o)
+  last-named =
+      subst (λ (c : Tagged). Named (s₁ .args .w) (now (s₁ .args .outline)) (c .tag)) (sym last-out)
+      (named-in (held s₁) (b found - 1) (omega (arith, after-a found, after-from s₁)) (omega (arith, after-a found, to-end found)))
+
+  o-fits : 4 * o + 4 ≤ length m₁
+  o-fits = omega (arith, size₁, fits s₁, to-end found, after-a found, c .make-room .ensures .0 .0)
+
+sub-enter : tie.Need-sub-enter
+sub-enter c = omega (arith, after-a (found (c .before .before)))
+
+add-enter : tie.Need-add-enter
+add-enter c = let r = c .before .before in omega (arith, o-fits r, s₁ r .good)
+
+enter-requires : tie.Need-enter-requires
+enter-requires c κs = let r = c .before .before in (s₁ r .pre .0, (o-fits r, last-named r))
+
+module _ (c : tie.After-enter) where
+  abbrev room : tie.After-make-room
+  room = c .before .before .before
+
+  abbrev m₂ : List ℤ
+  m₂ = c .enter .last .1 .1 .1 .0
+
+  size₂ : length m₂ ≡ length (m (s₁ room))
+  size₂ = c .enter .kept .1 .1 .1 .0 ∙ size₁ room
+
+  came : Come (s₁ room .args .w) (now (s₁ room .args .outline)) (s₁ room .args .side) (m₁ room) (o room) (pointIn (m (s₁ room)) (next (found room))) m₂ (c .enter .result)
+  came = come (o-fits room) (is-there room) (next-of-ring (found room) .2) (c .enter .ensures)
+
+  -- the last corner inside is as it was
+  last-in : cornerIn m₂ (s₁ room .args .a - 1) ≡ cornerIn (m (s₁ room)) (s₁ room .args .a - 1)
+  last-in =
+      let l = after-from (s₁ room) in
+      let two = c .before .before .before .make-room .ensures .0 .1 in
+      came .others (s₁ room .args .a - 1) (inl (omega arith)) ∙ up room .before (s₁ room .args .a - 1) (omega arith) (omega arith)
+
+sub-leave : tie.Need-sub-leave
+sub-leave c = omega (arith, after-from (s₁ (room (c .before .before))))
+
+leave-requires : tie.Need-leave-requires
+leave-requires c κs =
+    let e = c .before .before in
+    let s = s₁ (room e) in (
+      s .pre .0,
+      (
+        omega (arith, size₂ e, fits s, before-to s),
+        subst (λ (c : Tagged). Named (s .args .w) (now (s .args .outline)) (c .tag)) (sym (last-in e)) (named-in (held s) (s .args .a - 1) (omega (arith, after-from s)) (omega (arith, before-to s))),
+      ),
+    )
+
+module _ (c : tie.After-leave) where
+  abbrev entered : tie.After-enter
+  entered = c .before .before .before
+
+  abbrev s₂ : tie.Start
+  s₂ = s₁ (room entered)
+
+  abbrev m₃ : List ℤ
+  m₃ = c .leave .last .1 .1 .1 .0
+
+  size₃ : length m₃ ≡ length (m s₂)
+  size₃ = c .leave .kept .1 .1 .1 .0 ∙ size₂ entered
+
+  went : Gone (s₂ .args .w) (now (s₂ .args .outline)) (s₂ .args .side) (m₂ entered) (s₂ .args .a - 1) m₃ (c .leave .result)
+  went =
+      let p = ap (λ (c : Tagged). c .point) (last-in entered) in
+      gone (omega (arith, size₂ entered, fits s₂, before-to s₂)) (is-here (room entered) ∙ ap (value (h s₂)) (sym p))
+      (subst (In (h s₂)) (sym p) (first-in s₂ (s₂ .args .a - 1) (omega (arith, after-from s₂)) (omega (arith, after-from s₂)))) (c .leave .ensures)
+
+  -- what is left ends before what comes after the run outside begins, and that before the end
+  in-turn : (c .leave .result ≤ entered .enter .result) × (entered .enter .result ≤ s₂ .args .to + k (room entered))
+  in-turn =
+      let r = room entered in
+      let two = entered .before .before .before .make-room .ensures .0 .1 in
+      let e = came entered in
+      (omega (arith, went .end, went .few, e .start, e .few, after-from s₂), omega (arith, e .start, to-end (found r), after-a (found r)))
+
+add-move-down : tie.Need-add-move-down
+add-move-down c = let l = c .before .before in let s = s₂ l in omega (arith, fits s, s .good, (room (entered l)) .make-room .ensures .0 .0)
+
+move-down-requires : tie.Need-move-down-requires
+move-down-requires c κs =
+    let l = c .before .before in
+    (in-turn l .0, (in-turn l .1, omega (arith, size₃ l, fits (s₂ l), (room (entered l)) .make-room .ensures .0 .0)))
+
+add-t17 : tie.Need-add-t17
+add-t17 c = let l = c .before .before .before .before in let s = s₂ l in omega (arith, fits s, s .good, (room (entered l)) .make-room .ensures .0 .0)
+
+sub-t26 : tie.Need-sub-t26
+sub-t26 c = in-turn (c .before .before .before .before) .1
+
+add-t32 : tie.Need-add-t32
+add-t32 c = let l = c .before .before .before .before in let s = s₂ l in omega (arith, in-turn l .0, in-turn l .1, fits s, s .good, (room (entered l)) .make-room .ensures .0 .0)
+
+same-length : tie.Need-same-length
+same-length c = let l = c .before .before .before .before in c .before .move-down .kept .0 ∙ size₃ l
+
+returns : tie.Need-returns
+returns c =
+    let l = c .before .before .before .before in
+    let e = entered l in
+    let r = room e in
+    let f = found r in
+    let s = s₂ l in
+    cut-out (s .pre .0) (m s) (after-from s) (after-a f) (to-end f) (held s) (first-in s) (all-out f) (back-in f) (m₁ r) (m₂ e) (m₃ l) (c .before .move-down .last .0) (k r) (e .enter .result) (l .leave .result)
+    (r .make-room .ensures .0 .1) (up r) (came e) (went l) (c .before .move-down .ensures)
+
+pub cut-out-spec : {M : Type 1} → statement M
+cut-out-spec =
+    tie.close
+    (tie.spec
+    add-end-of-run
+    end-of-run-requires
+    sub-value-at
+    value-at-requires
+    after-requires
+    value-at-requires-2
+    sub-make-room
+    make-room-requires
+    sub-enter
+    add-enter
+    enter-requires
+    sub-leave
+    leave-requires
+    add-move-down
+    move-down-requires
+    add-t17
+    sub-t26
+    add-t32
+    same-length
+    returns)

@@ -1,0 +1,234 @@
+-- `passes::keep_run` meets its contract: what each worker tells of its memory makes the pass. Assumes nothing.
+use mathlib.Core.Path.{_≡_, sym, ap, _∙_, subst}
+use mathlib.Core.List.{List}
+use mathlib.Core.Logic.{inr, ⊎-elim}
+use Prim.Native.Nat.{ℕ, suc, _+_, _-_, _*_, _<_, _≤_}
+use native.Mathlib.Nat.{eq-or-lt-of-le}
+use native.Mathlib.Omega.{arith}
+use borrow.Author.Needs.{needs}
+use denote.Ref.{now}
+use lib.IntN.{ℤ}
+use lib.ListN.{length}
+use mir.Syntax.{w32}
+use mir.Val.{toZ, ofZ}
+use Rattle.whole.proofs.Comparisons.{back}
+use Rattle.rings.specs.Points.{Line, value, In, Out}
+use Rattle.passes.specs.Memory.{pointIn}
+use Rattle.passes.specs.Orders.{sideLine}
+use Rattle.passes.specs.Tags.{Named}
+use Rattle.passes.specs.Limits.{limitLine}
+use Rattle.passes.specs.Runs.{Tagged, cornerIn}
+use Rattle.passes.specs.Passes.{places, Held}
+use Rattle.passes.proofs.Corners.{small-in, named-in}
+use Rattle.passes.proofs.Passing.{Gone, Come, gone, come, keep-run, leaves-none}
+use Rattle.passes.proofs.keep_run.Statement.{statement}
+use Rattle.passes.proofs.keep_run.Tie as tie
+
+-- ---- what the call is given
+module _ (s : tie.Start) where
+  abbrev m : List ℤ
+  m = now (s .args .m)
+
+  abbrev h : Line
+  h = sideLine (s .args .w) (s .args .side)
+
+  held : Held (s .args .w) (now (s .args .outline)) m (places (s .args .from) (s .args .to))
+  held = s .pre .1 .1 .1 .0
+
+  some : s .args .from < s .args .to
+  some = s .pre .1 .1 .1 .1 .0
+
+  fits : 4 * s .args .to + 4 ≤ length m
+  fits = s .pre .1 .1 .0
+
+-- ---- the run outside, up to f
+module _ (c : tie.After-end-of-run) where
+  abbrev start : tie.Start
+  start = c .before .before
+
+  abbrev f : ℕ
+  f = c .end-of-run .result
+
+  after-from : start .args .from < f
+  after-from = omega (arith, c .end-of-run .ensures .above)
+
+  to-end : f ≤ start .args .to
+  to-end = c .end-of-run .ensures .below
+
+  all-out : (i : ℕ) → start .args .from ≤ i → i < f → Out (h start) (pointIn (m start) i)
+  all-out i l k =
+      ⊎-elim (λ q. subst (λ (h : Line). Out h (pointIn (m start) i)) (start .pre .1 .0 .0) (subst (λ (j : ℕ). Out (limitLine (start .args .l)) (pointIn (m start) j)) q (start .pre .1 .1 .1 .1 .1)))
+      (λ n. subst (λ (h : Line). Out h (pointIn (m start) i)) (start .pre .1 .0 .0) (c .end-of-run .ensures .run i (omega arith) k)) (eq-or-lt-of-le l)
+
+add-end-of-run : tie.Need-add-end-of-run
+add-end-of-run c = search needs
+
+end-of-run-requires : tie.Need-end-of-run-requires
+end-of-run-requires c κs =
+    let s = c .before in
+    (s .pre .1 .0 .1, (omega (arith, some s), (omega (arith, fits s), λ j l k. small-in (held s) j (omega arith) k)))
+
+same-length : tie.Need-same-length
+same-length c = search needs
+
+returns : tie.Need-returns
+returns c =
+    let e = c .before in
+    let s = start e in
+    leaves-none (omega (arith, some s)) (λ i l k. all-out e i l (omega (arith, c .if1 .taken)))
+
+-- ---- the run inside, up to e
+module _ (c : tie.Else1) where
+  abbrev first : tie.After-end-of-run
+  first = c .before
+
+  abbrev s₀ : tie.Start
+  s₀ = start first
+
+  before-to : f first < s₀ .args .to
+  before-to = ⊎-elim (λ q. absurd (c .if1 .left q)) (λ l. l) (eq-or-lt-of-le (to-end first))
+
+  f-in : In (h s₀) (pointIn (m s₀) (f first))
+  f-in = subst (λ (h : Line). In h (pointIn (m s₀) (f first))) (s₀ .pre .1 .0 .0) (first .end-of-run .ensures .ends before-to)
+
+module _ (c : tie.After-end-of-run2) where
+  abbrev out : tie.Else1
+  out = c .before .before
+
+  abbrev s₁ : tie.Start
+  s₁ = s₀ out
+
+  abbrev e : ℕ
+  e = c .end-of-run2 .result
+
+  after-f : f (first out) < e
+  after-f = omega (arith, c .end-of-run2 .ensures .above)
+
+  e-to : e ≤ s₁ .args .to
+  e-to = c .end-of-run2 .ensures .below
+
+  all-in : (i : ℕ) → f (first out) ≤ i → i < e → In (h s₁) (pointIn (m s₁) i)
+  all-in i l k =
+      ⊎-elim (λ q. subst (λ (j : ℕ). In (h s₁) (pointIn (m s₁) j)) q (f-in out))
+      (λ n. subst (λ (h : Line). In h (pointIn (m s₁) i)) (s₁ .pre .1 .0 .0) (c .end-of-run2 .ensures .run i (omega arith) k)) (eq-or-lt-of-le l)
+
+  back-out : e < s₁ .args .to → Out (h s₁) (pointIn (m s₁) e)
+  back-out l = subst (λ (h : Line). Out h (pointIn (m s₁) e)) (s₁ .pre .1 .0 .0) (c .end-of-run2 .ensures .ends l)
+
+add-end-of-run-2 : tie.Need-add-end-of-run-2
+add-end-of-run-2 c = let o = c .before in omega (arith, before-to o, fits (s₀ o), s₀ o .good)
+
+end-of-run-requires-2 : tie.Need-end-of-run-requires-2
+end-of-run-requires-2 c κs =
+    let o = c .before in
+    let s = s₀ o in
+    (s .pre .1 .0 .1, (omega (arith, before-to o), (omega (arith, fits s), λ j l k. small-in (held s) j (omega (arith, after-from (first o))) k)))
+
+value-at-requires : tie.Need-value-at-requires
+value-at-requires c κs =
+    let o = out (c .before) in
+    let s = s₀ o in
+    (s .pre .1 .0 .1, (omega (arith, fits s, before-to o), small-in (held s) (f (first o)) (omega (arith, after-from (first o))) (before-to o)))
+
+sub-value-at : tie.Need-sub-value-at
+sub-value-at c = omega (arith, after-f (c .before .before .before))
+
+value-at-requires-2 : tie.Need-value-at-requires-2
+value-at-requires-2 c κs =
+    let r = c .before .before .before in
+    let s = s₁ r in
+    (s .pre .1 .0 .1, (omega (arith, fits s, after-f r, e-to r), small-in (held s) (e r - 1) (omega (arith, after-from (first (out r)), after-f r)) (omega (arith, after-f r, e-to r))))
+
+module _ (c : tie.After-value-at2) where
+  abbrev runs : tie.After-end-of-run2
+  runs = c .before .before .before .before
+
+  abbrev there : tie.After-value-at
+  there = c .before .before
+
+  is-there : toZ w32 (ofZ w32 (there .value-at .result)) ≡ value (h (s₁ runs)) (pointIn (m (s₁ runs)) (f (first (out runs))))
+  is-there = back w32 (there .value-at .result) (there .value-at .ok) ∙ there .value-at .ensures ∙ (λ j. value (s₁ runs .pre .1 .0 .0 j) (pointIn (m (s₁ runs)) (f (first (out runs)))))
+
+  is-here : toZ w32 (ofZ w32 (c .value-at2 .result)) ≡ value (h (s₁ runs)) (pointIn (m (s₁ runs)) (e runs - 1))
+  is-here = back w32 (c .value-at2 .result) (c .value-at2 .ok) ∙ c .value-at2 .ensures ∙ (λ j. value (s₁ runs .pre .1 .0 .0 j) (pointIn (m (s₁ runs)) (e runs - 1)))
+
+sub-enter : tie.Need-sub-enter
+sub-enter c = omega (arith, after-from (first (out (runs (c .before)))))
+
+enter-requires : tie.Need-enter-requires
+enter-requires c κs =
+    let r = runs (c .before) in
+    let s = s₁ r in
+    let l = after-from (first (out r)) in
+    let t = before-to (out r) in
+    (s .pre .0, (omega (arith, fits s), named-in (held s) (f (first (out r)) - 1) (omega arith) (omega arith)))
+
+module _ (c : tie.After-enter) where
+  abbrev values : tie.After-value-at2
+  values = c .before .before
+
+  abbrev r : tie.After-end-of-run2
+  r = runs values
+
+  abbrev m₁ : List ℤ
+  m₁ = c .enter .last .1 .1 .1 .0
+
+  size₁ : length m₁ ≡ length (m (s₁ r))
+  size₁ = c .enter .kept .1 .1 .1 .0
+
+  came : Come (s₁ r .args .w) (now (s₁ r .args .outline)) (s₁ r .args .side) (m (s₁ r)) (f (first (out r)) - 1) (pointIn (m (s₁ r)) (f (first (out r)))) m₁ (c .enter .result)
+  came =
+      let l = after-from (first (out r)) in
+      let t = before-to (out r) in
+      come (omega (arith, fits (s₁ r))) (is-there values) (f-in (out r)) (c .enter .ensures)
+
+  -- the last corner inside is as it was
+  last-in : cornerIn m₁ (e r - 1) ≡ cornerIn (m (s₁ r)) (e r - 1)
+  last-in = came .others (e r - 1) (inr (omega (arith, after-from (first (out r)), after-f r)))
+
+sub-leave : tie.Need-sub-leave
+sub-leave c = omega (arith, after-f (r (c .before .before)))
+
+leave-requires : tie.Need-leave-requires
+leave-requires c κs =
+    let i = c .before .before in
+    let s = s₁ (r i) in
+    let l = after-from (first (out (r i))) in
+    let t = after-f (r i) in
+    let k = e-to (r i) in
+    (s .pre .0, (omega (arith, size₁ i, fits s), subst (λ (c : Tagged). Named (s .args .w) (now (s .args .outline)) (c .tag)) (sym (last-in i)) (named-in (held s) (e (r i) - 1) (omega arith) (omega arith))))
+
+same-length-2 : tie.Need-same-length-2
+same-length-2 c = c .before .leave .kept .1 .1 .1 .0 ∙ size₁ (c .before .before .before .before)
+
+returns-2 : tie.Need-returns-2
+returns-2 c =
+    let i = c .before .before .before .before in
+    let s = s₁ (r i) in
+    let x = first (out (r i)) in
+    let p = ap (λ (c : Tagged). c .point) (last-in i) in
+    let t = after-f (r i) in
+    let k = e-to (r i) in
+    let went : Gone (s .args .w) (now (s .args .outline)) (s .args .side) (m₁ i) (e (r i) - 1) (c .before .leave .last .1 .1 .1 .0) (c .before .leave .result) =
+    gone (omega (arith, size₁ i, fits s)) (is-here (values i) ∙ ap (value (h s)) (sym p)) (subst (In (h s)) (sym p) (all-in (r i) (e (r i) - 1) (omega arith) (omega arith))) (c .before .leave .ensures) in
+    keep-run (s .pre .0) (m s) (after-from x) (after-f (r i)) (e-to (r i)) (held s) (all-out x) (all-in (r i)) (back-out (r i)) (m₁ i) (c .before .leave .last .1 .1 .1 .0) (i .enter .result) (c .before .leave .result) (came i) went
+
+pub keep-run-spec : {M : Type 1} → statement M
+keep-run-spec =
+    tie.close
+    (tie.spec
+    add-end-of-run
+    end-of-run-requires
+    same-length
+    returns
+    add-end-of-run-2
+    end-of-run-requires-2
+    value-at-requires
+    sub-value-at
+    value-at-requires-2
+    sub-enter
+    enter-requires
+    sub-leave
+    leave-requires
+    same-length-2
+    returns-2)

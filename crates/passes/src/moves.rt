@@ -1,0 +1,58 @@
+// Corners moved within a memory, four numbers each.
+ghost use mathlib.Core.Path.{_≡_};
+ghost use Prim.Native.Nat.{_+_, _*_, _≤_};
+ghost use lib.ListN.{length};
+ghost use Rattle.passes.specs.Memory.{pointIn};
+ghost use Rattle.passes.specs.Tags.{tagIn};
+ghost use Rattle.passes.specs.Steps.{putAt};
+ghost use Rattle.passes.specs.Runs.{Moved};
+
+// Copies the corner at the place i to the place k.
+fn copy(m: &mut [i32], i: usize, k: usize)
+    requires { ⌜ 4 * i + 4 ≤ length (now m) ⌝ }
+    requires { ⌜ 4 * k + 4 ≤ length (now m) ⌝ }
+    ensures { λ _. ⌜ now (m .exit) ≡ putAt (now (m .entry)) k (pointIn (now (m .entry)) i) (tagIn (now (m .entry)) i) ⌝ }
+{
+    let from = 4 * i;
+    let to = 4 * k;
+    let x = m[from];
+    let y = m[from + 1];
+    let den = m[from + 2];
+    let tag = m[from + 3];
+    m[to] = x;
+    m[to + 1] = y;
+    m[to + 2] = den;
+    m[to + 3] = tag;
+}
+
+// Moves the corners from one place up to another down, to begin at a third; the first goes first.
+pub fn move_down(m: &mut [i32], from: usize, to: usize, at: usize)
+    requires { ⌜ at ≤ from ⌝ }
+    requires { ⌜ from ≤ to ⌝ }
+    requires { ⌜ 4 * to ≤ length (now m) ⌝ }
+    ensures { λ _. ⌜ Moved (now (m .entry)) (now (m .exit)) from to at ⌝ }
+{
+    if at == from {
+        return;
+    }
+    let mut i = from;
+    let mut k = at;
+    while i < to {
+        copy(m, i, k);
+        i += 1;
+        k += 1;
+    }
+}
+
+// Moves the corners from one place up to another up by one place; the last goes first.
+pub fn move_up(m: &mut [i32], from: usize, to: usize)
+    requires { ⌜ from ≤ to ⌝ }
+    requires { ⌜ 4 * to + 4 ≤ length (now m) ⌝ }
+    ensures { λ _. ⌜ Moved (now (m .entry)) (now (m .exit)) from to (from + 1) ⌝ }
+{
+    let mut i = to;
+    while from < i {
+        copy(m, i - 1, i);
+        i -= 1;
+    }
+}
