@@ -16,3 +16,6 @@ pub mod Start
 pub mod Orders
 pub mod Windows
 pub mod Theorems
+pub mod Hill
+pub mod Rises
+pub mod Tours

@@ -110,7 +110,7 @@ ccw-of-linear (o ∷ a ∷ r) l =
     go (h ◂ f) (two x t) (three y k) = let q = (h ◂ f) ◂ᵖ star (h ◂ f) t in q ◂ᶜ all-stars q k
 
 -- ---- by places
-place-all : {P : Point → Type 0} {r : List Point} → All P r → (t : ℕ) → t < length r → P (at r t)
+pub place-all : {P : Point → Type 0} {r : List Point} → All P r → (t : ℕ) → t < length r → P (at r t)
 place-all ∅ t h = absurd (omega arith)
 place-all (p ◂ a) zero h = p
 place-all (p ◂ a) (suc t) h = place-all a t (omega arith)
