@@ -1,4 +1,4 @@
--- The test of strict convexity by all places is the ring's definition, and the linear test is equal to it.
+-- The test of strict convexity by all places is the ring's definition.
 use mathlib.Core.Path.{_≡_, refl, _∙_, subst}
 use mathlib.Core.Bool.{Bool, true, false, _||_}
 use mathlib.Core.List.{List, [], _∷_}
@@ -16,8 +16,6 @@ use Rattle.whole.proofs.Order.{zarith}
 use Rattle.rings.specs.Lists.{All, ∅, _◂_}
 use Rattle.rings.specs.Points.{Point, Left, Proper, det}
 use Rattle.rings.specs.Rings.{at, Edge, along, closing, StrictlyConvex, Ring}
-use Rattle.rings.proofs.Linear.{Linear}
-use Rattle.rings.proofs.Theorems.{convex-linear}
 use Rattle.corners.specs.Corners.{cornersOf, fewest, next, joins, isLeft, strictlyConvex}
 use Rattle.corners.proofs.Places.{every-at, every-of, count}
 
@@ -35,12 +33,12 @@ unfolding isLeft
 left-is {a} {b} {p} h = is-true (ltZ (pos 0) (det a b p)) (h .left .lt)
 
 -- ---- the edge from a place
-edge-next : {n i k : ℕ} → Edge n i k → next n i ≡ k
+pub edge-next : {n i k : ℕ} → Edge n i k → next n i ≡ k
 unfolding next
 edge-next {n} {i} (along h) = simp (ne-eqb (suc i) n (omega arith))
 edge-next {n} {i} (closing e) = simp (eq-eqb (suc i) n e)
 
-next-edge : {n i : ℕ} → i < n → Edge n i (next n i)
+pub next-edge : {n i : ℕ} → i < n → Edge n i (next n i)
 unfolding next
 next-edge {n} {i} h = go (eqb (suc i) n) refl
   where
@@ -57,7 +55,7 @@ edge-below (along h) = omega arith
 edge-below (closing e) = omega arith
 
 -- ---- the test by all places is the definition
-convex-yes : (r : List Point) → strictlyConvex r ≡ true → StrictlyConvex r
+pub convex-yes : (r : List Point) → strictlyConvex r ≡ true → StrictlyConvex r
 unfolding strictlyConvex
 convex-yes r e = record {
   left-of = λ i k j g h ni nk.
@@ -65,7 +63,7 @@ convex-yes r e = record {
       left-yes (subst (λ (m : ℕ). isLeft (at r i) (at r m) (at r j) ≡ true) (edge-next g) (rw (not-joined g ni nk) at t));
 }
 
-convex-is : (r : List Point) → StrictlyConvex r → strictlyConvex r ≡ true
+pub convex-is : (r : List Point) → StrictlyConvex r → strictlyConvex r ≡ true
 unfolding strictlyConvex joins
 convex-is r c = every-of (length r) _ (λ i hi. every-of (length r) _ (λ j hj. go i hi j hj (eqb j i) (eqb j (next (length r) i)) refl refl))
   where
@@ -78,7 +76,7 @@ pub convex-same : (r : List Point) → (strictlyConvex r ≡ true) ↔ StrictlyC
 convex-same r = (convex-yes r, convex-is r)
 
 -- of the corners of a list of numbers, a ring
-all-proper : (zs : List ℤ) → All Proper (cornersOf zs)
+pub all-proper : (zs : List ℤ) → All Proper (cornersOf zs)
 unfolding cornersOf
 all-proper [] = ∅
 all-proper (x ∷ []) = ∅
@@ -89,39 +87,3 @@ ring-same zs h = (
   λ e. record { three = omega (arith, count zs); proper = all-proper zs; convex = convex-yes (cornersOf zs) e },
   λ g. convex-is (cornersOf zs) (g .convex),
 )
-
--- ---- so is the linear test
-pub linear-same : (r : List Point) → (strictlyConvex r ≡ true) ↔ Linear r
-linear-same r = (λ e. convex-linear r .0 (convex-yes r e), λ l. convex-is r (convex-linear r .1 l))
-
--- ---- which asks this of the corner two places after j
-pub record Turning (r : List Point) (j : ℕ) : Type 0 where
-  pub first : Left (at r 0) (at r 1) (at r (suc (suc j)))
-  pub seen : Left (at r 0) (at r (suc j)) (at r (suc (suc j)))
-  pub turns : Left (at r j) (at r (suc j)) (at r (suc (suc j)))
-
-module _ (r : List Point) where
-  linear-of : ((j : ℕ) → suc (suc j) < length r → Turning r j) → Linear r
-  linear-of f = record { first = first; seen = seen; turns = λ j h. f j h .turns }
-    where
-      first : (j : ℕ) → 2 ≤ j → j < length r → Left (at r 0) (at r 1) (at r j)
-      first zero l h = absurd (omega arith)
-      first (suc zero) l h = absurd (omega arith)
-      first (suc (suc j)) l h = f j h .first
-
-      seen : (j : ℕ) → 1 ≤ j → suc j < length r → Left (at r 0) (at r j) (at r (suc j))
-      seen zero l h = absurd (omega arith)
-      seen (suc j) l h = f j h .seen
-
-  pub all-turning : ((j : ℕ) → suc (suc j) < length r → Turning r j) → strictlyConvex r ≡ true
-  all-turning f = linear-same r .1 (linear-of f)
-
-  pub one-not-turning : (j : ℕ) → suc (suc j) < length r → (Turning r j → ⊥) → strictlyConvex r ≡ false
-  one-not-turning j h n = go (strictlyConvex r) refl
-    where
-      turning : Linear r → Turning r j
-      turning l = record { first = l .first (suc (suc j)) (omega arith) h; seen = l .seen (suc j) (omega arith) h; turns = l .turns j h }
-
-      go : (b : Bool) → strictlyConvex r ≡ b → b ≡ false
-      go true e = absurd (n (turning (linear-same r .0 e)))
-      go false e = refl

@@ -1,5 +1,8 @@
 pub mod Places
 pub mod Convexity
+pub mod Sums
+pub mod Slopes
+pub mod Rounds
 pub mod Walking
 pub mod Edges
 pub mod Refusals

@@ -1,139 +1,75 @@
--- The linear test as the code walks it: it keeps the way from the first corner to the latest, and the edge to the latest, and has found every corner so far turning left.
+-- The test as the code walks it: the latest edge is kept, every turn so far goes left, and the changes so far are counted.
 use mathlib.Core.Path.{_≡_, refl, sym, ap, _∙_, subst}
-use mathlib.Core.Bool.{true, false, _&&_, and-eq-true-iff}
-use mathlib.Core.List.{List, [], _∷_}
-use Prim.Native.Nat.{ℕ, suc, _+_, _*_, _≤_, _<_}
+use mathlib.Core.Bool.{true, false}
+use mathlib.Core.List.{List}
+use Prim.Native.Nat.{ℕ, suc, _+_, _-_, _*_, _≤_, _<_}
 use native.Mathlib.Omega.{arith}
 use borrow.Author.Count.{below-more}
-use lib.IntN.{ℤ, pos, _-ℤ_}
+use lib.Dec.{eqb}
+use lib.IntN.{ℤ}
 use lib.ListN.{length}
-use lib.Signed.{ltZ}
-use Rattle.whole.proofs.Comparisons.{tt-ff}
-use Rattle.whole.proofs.Expressions.{Expr, Env, var, con, _⊖_}
-use Rattle.whole.proofs.Polynomials.{ring}
-use Rattle.rings.specs.Points.{value, through}
-use Rattle.rings.specs.Rings.{at}
-use Rattle.corners.specs.Corners.{cornersOf, isLeft, strictlyConvex}
-use Rattle.corners.specs.Workers.{CornersOnTable, Short, cornerAt, wayFrom, wayBetween, turnsLeft, keepsTurning}
-use Rattle.corners.specs.declared.Corner.{Corner}
+use Rattle.corners.specs.Corners.{cornersOf, strictlyConvex}
+use Rattle.corners.specs.Workers.{CornersOnTable, Short, cornerAt, wayFrom, turnsLeft, changeOf}
 use Rattle.corners.specs.declared.Way.{Way}
-use Rattle.corners.proofs.Places.{side-by, cross-by, pointOf, corner, count, point-at, three-corners, corner-on, way-short}
-use Rattle.corners.proofs.Convexity.{left-yes, left-is, Turning, all-turning, one-not-turning}
+use Rattle.corners.proofs.Places.{corner, count, three-corners}
+use Rattle.corners.proofs.Sums.{sum, sum-most}
+use Rattle.corners.proofs.Rounds.{round, round-is, edge-of, change-of, change-most, edge-short, edge-again, not-left, two-changes}
 
--- ---- a turn of two ways is a side of a line: of the ways from a to b and to p, and of the ways from a by b to p
-module _ (a b p : Corner) where
-  abbrev ρ : Env
-  ρ = a .x ∷ a .y ∷ b .x ∷ b .y ∷ p .x ∷ p .y ∷ []
-
-  abbrev side : Expr
-  side = side-by (var 0) (var 1) (var 2) (var 3) (var 4) (var 5) (con (pos 1))
-
-  seen-left : turnsLeft (wayFrom a b) (wayFrom a p) ≡ isLeft (pointOf a) (pointOf b) (pointOf p)
-  unfolding turnsLeft isLeft value through
-  seen-left = ap (ltZ (pos 0)) (ring ρ (cross-by 0 2 0 4) side tt)
-
-  step-left : turnsLeft (wayFrom a b) (wayFrom b p) ≡ isLeft (pointOf a) (pointOf b) (pointOf p)
-  unfolding turnsLeft isLeft value through
-  step-left = ap (ltZ (pos 0)) (ring ρ (cross-by 0 2 2 4) side tt)
-
--- of the corners at three places of a list
-module _ (zs : List ℤ) (k l m : ℕ) (hk : k < length (cornersOf zs)) (hl : l < length (cornersOf zs)) (hm : m < length (cornersOf zs)) where
-  same : isLeft (pointOf (corner zs k)) (pointOf (corner zs l)) (pointOf (corner zs m)) ≡ isLeft (at (cornersOf zs) k) (at (cornersOf zs) l) (at (cornersOf zs) m)
-  same = sym (λ i. isLeft (point-at zs k hk i) (point-at zs l hl i) (point-at zs m hm i))
-
-  seen-at : turnsLeft (wayFrom (corner zs k) (corner zs l)) (wayFrom (corner zs k) (corner zs m)) ≡ isLeft (at (cornersOf zs) k) (at (cornersOf zs) l) (at (cornersOf zs) m)
-  seen-at = seen-left (corner zs k) (corner zs l) (corner zs m) ∙ same
-
-  step-at : turnsLeft (wayFrom (corner zs k) (corner zs l)) (wayFrom (corner zs l) (corner zs m)) ≡ isLeft (at (cornersOf zs) k) (at (cornersOf zs) l) (at (cornersOf zs) m)
-  step-at = step-left (corner zs k) (corner zs l) (corner zs m) ∙ same
-
--- ---- the walk
-pub record Walked (zs : List ℤ) (seen edge : Way) (i : ℕ) : Type 0 where
-  pub j : ℕ
-  pub place : i ≡ 2 * suc (suc j)
-  pub upto : suc j < length (cornersOf zs)
-  pub seen-is : seen ≡ wayFrom (corner zs 0) (corner zs (suc j))
-  pub seen-short : Short seen
-  pub edge-is : edge ≡ wayFrom (corner zs j) (corner zs (suc j))
-  pub edge-short : Short edge
-  pub turning : (k : ℕ) → k < j → Turning (cornersOf zs) k
+pub record Walked (zs : List ℤ) (edge : Way) (changes i : ℕ) : Type 0 where
+  pub k : ℕ
+  pub place : i ≡ 2 * suc k
+  pub upto : k < length (cornersOf zs)
+  pub edge-is : edge ≡ edge-of zs k
+  pub left : (j : ℕ) → j < k → turnsLeft (edge-of zs j) (edge-of zs (suc j)) ≡ true
+  pub changes-is : changes ≡ sum k (change-of zs)
 
 module _ {zs : List ℤ} (g : CornersOnTable zs) where
-  pub walked-start : {base : Way} → base ≡ wayFrom (corner zs 0) (corner zs 1) → Short base → Walked zs base base 4
-  walked-start f h = record { j = 0; place = refl; upto = omega (arith, three-corners g); seen-is = f; seen-short = h; edge-is = f; edge-short = h; turning = λ k l. absurd (omega arith) }
+  here : (i : ℕ) → i < length (cornersOf zs) → corner zs i ≡ corner zs (round (length (cornersOf zs)) (suc i))
+  here i h = ap (corner zs) (sym (round-is (length (cornersOf zs)) (omega arith) i h))
 
-  pub walked-end : {seen edge : Way} {i : ℕ} → Walked zs seen edge i → length zs ≤ i → strictlyConvex (cornersOf zs) ≡ true
-  walked-end w h = all-turning (cornersOf zs) (λ k l. w .turning k (omega (arith, w .place, count zs)))
+  -- the closing edge
+  pub closing-is : {closing : Way} → closing ≡ wayFrom (cornerAt zs (length zs - 2)) (cornerAt zs 0) → closing ≡ edge-of zs 0
+  closing-is e = e ∙ λ t. wayFrom (cornerAt zs (last t)) (here 0 (omega (arith, three-corners g)) t)
+    where
+      last : length zs - 2 ≡ 2 * (length (cornersOf zs) - 1)
+      last = omega (arith, count zs, g .even, g .three)
 
--- one turn: the corner p at i, the way to it from the first corner, and the step to it from the latest
-pub record Turn (zs : List ℤ) (seen edge : Way) (i : ℕ) (base : Way) (p : Corner) (next : Way) : Type 0 where
-  pub walked : Walked zs seen edge i
-  pub more : i < length zs
-  pub base-is : base ≡ wayFrom (corner zs 0) (corner zs 1)
-  pub p-is : p ≡ cornerAt zs i
-  pub next-is : next ≡ wayFrom (corner zs 0) p
-  pub next-short : Short next
+  pub walked-start : {closing : Way} → closing ≡ edge-of zs 0 → Walked zs closing 0 2
+  walked-start e = record { k = 0; place = refl; upto = omega (arith, three-corners g); edge-is = e; left = λ j h. absurd (omega arith); changes-is = refl }
 
--- two ways from one corner leave the way between their ends
-between-ends : (f a b : Corner) → wayBetween (wayFrom f a) (wayFrom f b) ≡ wayFrom a b
-between-ends f a b = λ i. record { x = cancels (f .x) (a .x) (b .x) i; y = cancels (f .y) (a .y) (b .y) i }
-  where
-    cancels : (f a b : ℤ) → (b -ℤ f) -ℤ (a -ℤ f) ≡ b -ℤ a
-    cancels f a b = ring (f ∷ a ∷ b ∷ []) ((var 2 ⊖ var 0) ⊖ (var 1 ⊖ var 0)) (var 2 ⊖ var 1) tt
+  module _ {edge : Way} {changes i : ℕ} (w : Walked zs edge changes i) where
+    pub walked-short : Short edge
+    walked-short = subst Short (sym (w .edge-is)) (edge-short g (w .k))
 
-module _ {zs : List ℤ} (g : CornersOnTable zs) {seen edge : Way} {i : ℕ} {base : Way} {p : Corner} {next : Way} (t : Turn zs seen edge i base p next) where
-  abbrev step : Way
-  step = wayBetween seen next
+    pub few-changes : (next : Way) → changes + changeOf edge next ≤ length zs
+    few-changes next = omega (arith, w .changes-is, w .upto, count zs, sum-most (change-of zs) (λ j. change-most (edge-of zs j) (edge-of zs (suc j))) (w .k), change-most edge next)
 
-  abbrev j : ℕ
-  j = t .walked .j
+    -- the edge to the corner at i
+    pub next-is : i < length zs → {next : Way} → next ≡ wayFrom (cornerAt zs (i - 2)) (cornerAt zs i) → next ≡ edge-of zs (suc (w .k))
+    next-is h e = e ∙ (λ t. wayFrom (cornerAt zs (from t)) (cornerAt zs (w .place t))) ∙ (λ t. wayFrom (here (w .k) (w .upto) t) (here (suc (w .k)) (omega (arith, w .place, count zs, g .even)) t))
+      where
+        from : i - 2 ≡ 2 * w .k
+        from = omega (arith, w .place)
 
-  place : i ≡ 2 * suc (suc j)
-  place = t .walked .place
+    all-walked : length zs ≤ i → suc (w .k) ≡ length (cornersOf zs)
+    all-walked h = omega (arith, w .place, w .upto, count zs)
 
-  below : suc (suc j) < length (cornersOf zs)
-  below = omega (arith, place, t .more, count zs, g .even)
+    -- after the last corner, the closing edge
+    pub last-is : length zs ≤ i → {closing : Way} → closing ≡ edge-of zs 0 → closing ≡ edge-of zs (suc (w .k))
+    last-is h e = e ∙ sym (edge-again g) ∙ ap (edge-of zs) (sym (all-walked h))
 
-  here : p ≡ corner zs (suc (suc j))
-  here = t .p-is ∙ ap (cornerAt zs) place
+    module _ {next : Way} (n : next ≡ edge-of zs (suc (w .k))) where
+      pub not-turning : turnsLeft edge next ≡ false → strictlyConvex (cornersOf zs) ≡ false
+      not-turning e = not-left g (w .k) (sym (λ t. turnsLeft (w .edge-is t) (n t)) ∙ e)
 
-  from-first : next ≡ wayFrom (corner zs 0) (corner zs (suc (suc j)))
-  from-first = t .next-is ∙ ap (wayFrom (corner zs 0)) here
+      turned : turnsLeft edge next ≡ true → (j : ℕ) → j < suc (w .k) → turnsLeft (edge-of zs j) (edge-of zs (suc j)) ≡ true
+      turned e j h = below-more (λ (j : ℕ). turnsLeft (edge-of zs j) (edge-of zs (suc j)) ≡ true) (w .k) (w .left) (sym (λ t. turnsLeft (w .edge-is t) (n t)) ∙ e) j (omega arith)
 
-  from-latest : step ≡ wayFrom (corner zs (suc j)) (corner zs (suc (suc j)))
-  from-latest = (λ i. wayBetween (t .walked .seen-is i) (from-first i)) ∙ between-ends (corner zs 0) (corner zs (suc j)) (corner zs (suc (suc j)))
+      counted : changes + changeOf edge next ≡ sum (suc (w .k)) (change-of zs)
+      counted = λ t. w .changes-is t + changeOf (w .edge-is t) (n t)
 
-  pub step-short : Short step
-  step-short = subst Short (sym from-latest) (way-short (corner-on g (suc j) (t .walked .upto)) (corner-on g (suc (suc j)) below))
+      pub walked-more : i < length zs → turnsLeft edge next ≡ true → Walked zs next (changes + changeOf edge next) (i + 2)
+      walked-more h e = record { k = suc (w .k); place = omega (arith, w .place); upto = omega (arith, w .place, count zs, g .even); edge-is = n; left = turned e; changes-is = counted }
 
-  first-test : turnsLeft base next ≡ isLeft (at (cornersOf zs) 0) (at (cornersOf zs) 1) (at (cornersOf zs) (suc (suc j)))
-  first-test = (λ i. turnsLeft (t .base-is i) (from-first i)) ∙ seen-at zs 0 1 (suc (suc j)) (omega (arith, below)) (omega (arith, below)) below
-
-  seen-test : turnsLeft seen next ≡ isLeft (at (cornersOf zs) 0) (at (cornersOf zs) (suc j)) (at (cornersOf zs) (suc (suc j)))
-  seen-test = (λ i. turnsLeft (t .walked .seen-is i) (from-first i)) ∙ seen-at zs 0 (suc j) (suc (suc j)) (omega (arith, below)) (omega (arith, below)) below
-
-  turn-test : turnsLeft edge step ≡ isLeft (at (cornersOf zs) j) (at (cornersOf zs) (suc j)) (at (cornersOf zs) (suc (suc j)))
-  turn-test = (λ i. turnsLeft (t .walked .edge-is i) (from-latest i)) ∙ step-at zs j (suc j) (suc (suc j)) (omega (arith, below)) (omega (arith, below)) below
-
-  pub not-turning : keepsTurning base seen edge next step ≡ false → strictlyConvex (cornersOf zs) ≡ false
-  unfolding keepsTurning
-  not-turning e = one-not-turning (cornersOf zs) j below (λ h. tt-ff (sym (simp (first-test ∙ left-is (h .first), seen-test ∙ left-is (h .seen), turn-test ∙ left-is (h .turns))) ∙ e))
-
-  now : keepsTurning base seen edge next step ≡ true → Turning (cornersOf zs) j
-  unfolding keepsTurning
-  now e =
-      let b = and-eq-true-iff (turnsLeft base next && turnsLeft seen next) (turnsLeft edge step) .0 e in
-      let f = and-eq-true-iff (turnsLeft base next) (turnsLeft seen next) .0 (b .0) in
-      record { first = left-yes (sym first-test ∙ f .0); seen = left-yes (sym seen-test ∙ f .1); turns = left-yes (sym turn-test ∙ b .1) }
-
-  pub walked-more : keepsTurning base seen edge next step ≡ true → Walked zs next step (i + 2)
-  walked-more e = record {
-    j = suc j;
-    place = omega (arith, place);
-    upto = below;
-    seen-is = from-first;
-    seen-short = t .next-short;
-    edge-is = from-latest;
-    edge-short = step-short;
-    turning = λ k l. below-more (Turning (cornersOf zs)) j (t .walked .turning) (now e) k (omega arith);
-  }
+      pub walked-end : length zs ≤ i → turnsLeft edge next ≡ true → eqb (changes + changeOf edge next) 2 ≡ strictlyConvex (cornersOf zs)
+      walked-end h e = ap (λ (c : ℕ). eqb c 2) (counted ∙ ap (λ (n : ℕ). sum n (change-of zs)) (all-walked h)) ∙ two-changes g (λ j l. turned e j (omega (arith, all-walked h)))

@@ -4,19 +4,20 @@
 --   Short w                   a way no longer than the table, across and up
 --   cornerAt zs i             the corner whose two numbers stand at i
 --   wayFrom a b               the way from a to b
---   wayBetween a b            the way from the end of a to the end of b, where both are from one point
 --   crossOf a b               the cross product of two ways: positive where b turns left from a, 0 where they are parallel
 --   turnsLeft a b             b turns left from a
---   keepsTurning base seen edge next step   seen from the first corner the next one lies left of the first edge and of the latest corner, and the step to it turns left from the latest edge
+--   down w                    w goes down
+--   changeOf a b              1 where one of a and b goes down and the other does not, otherwise 0
 --   start s, finish s         where a stroke starts, and where it ends
 --   edgeP a b s, edgeQ a b s  the p and the q of an edge: the stroke's point at t is left of or on the edge from a to b where p·t ≤ q
 use mathlib.Core.Path.{_≡_}
-use mathlib.Core.Bool.{Bool, _&&_}
+use mathlib.Core.Bool.{Bool, xor}
 use mathlib.Core.List.{List}
 use Prim.Native.Nat.{ℕ, _+_, _*_, _%_, _≤_, _<_}
 use lib.IntN.{ℤ, pos, _-ℤ_, _*ℤ_}
 use lib.ListN.{length, getD}
 use lib.Signed.{ltZ}
+use Rattle.whole.specs.Choice.{if_then_else_}
 use Rattle.whole.specs.Within.{Within}
 use Rattle.grid.specs.Table.{farthest}
 use Rattle.grid.specs.declared.Stroke.{Stroke}
@@ -43,17 +44,17 @@ cornerAt zs i = record { x = getD zs i (pos 0); y = getD zs (i + 1) (pos 0) }
 abbrev pub wayFrom : Corner → Corner → Way
 wayFrom a b = record { x = b .x -ℤ a .x; y = b .y -ℤ a .y }
 
-abbrev pub wayBetween : Way → Way → Way
-wayBetween a b = record { x = b .x -ℤ a .x; y = b .y -ℤ a .y }
-
 abbrev pub crossOf : Way → Way → ℤ
 crossOf a b = a .x *ℤ b .y -ℤ a .y *ℤ b .x
 
 unfoldable pub turnsLeft : Way → Way → Bool
 turnsLeft a b = ltZ (pos 0) (crossOf a b)
 
-unfoldable pub keepsTurning : Way → Way → Way → Way → Way → Bool
-keepsTurning base seen edge next step = (turnsLeft base next && turnsLeft seen next) && turnsLeft edge step
+abbrev pub down : Way → Bool
+down w = ltZ (w .y) (pos 0)
+
+unfoldable pub changeOf : Way → Way → ℕ
+changeOf a b = if xor (down a) (down b) then 1 else 0
 
 abbrev pub start : Stroke → Corner
 start s = record { x = s .x1; y = s .y1 }

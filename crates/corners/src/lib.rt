@@ -4,13 +4,12 @@ use grid::Refusal;
 use grid::Stroke;
 use spans::Span;
 ghost use mathlib.Core.Path.{_≡_};
-ghost use mathlib.Core.Bool.{_&&_};
 ghost use Prim.Native.Nat.{_+_, _<_};
 ghost use lib.ListN.{length};
 ghost use Rattle.grid.specs.Table.{StrokeOnTable};
 ghost use Rattle.spans.specs.Spans.{largest, Proper, Sized, CutBy, SpanOf};
 ghost use Rattle.corners.specs.Corners.{cornersOf, strictlyConvex, rightCount, cyrusBeckRefusal, KeepsIn, CornerClipped, CyrusBeck, blankAnswer};
-ghost use Rattle.corners.specs.Workers.{CornersOnTable, CornerOnTable, Short, cornerAt, wayFrom, wayBetween, crossOf, turnsLeft, keepsTurning, edgeP, edgeQ};
+ghost use Rattle.corners.specs.Workers.{CornersOnTable, CornerOnTable, Short, cornerAt, wayFrom, crossOf, turnsLeft, changeOf, edgeP, edgeQ};
 
 // What the call answers: a refusal's number and place, or whether the stroke is kept, and from which fraction of its way to which.
 #[repr(C)]
@@ -57,18 +56,6 @@ fn way_from(a: Corner, b: Corner) -> Way
     }
 }
 
-// The way from the end of a to the end of b, both from one point.
-fn way_between(a: Way, b: Way) -> Way
-    requires { ⌜ Short a ⌝ }
-    requires { ⌜ Short b ⌝ }
-    ensures { λ r. ⌜ r ≡ wayBetween a b ⌝ }
-{
-    Way {
-        x: b.x - a.x,
-        y: b.y - a.y,
-    }
-}
-
 // Positive where b turns left from a, 0 where they are parallel.
 fn cross(a: Way, b: Way) -> i64
     requires { ⌜ Short a ⌝ }
@@ -87,69 +74,50 @@ fn turns_left(a: Way, b: Way) -> bool
     a.y * b.x < a.x * b.y
 }
 
-// Whether p turns left from both a and b.
-fn left_of_both(a: Way, b: Way, p: Way) -> bool
-    requires { ⌜ Short a ⌝ }
-    requires { ⌜ Short b ⌝ }
-    requires { ⌜ Short p ⌝ }
-    ensures { λ r. ⌜ r ≡ (turnsLeft a p && turnsLeft b p) ⌝ }
+// 1 where one of two edges goes down and the other does not.
+fn change(a: Way, b: Way) -> usize
+    ensures { λ r. ⌜ r ≡ changeOf a b ⌝ }
 {
-    if turns_left(a, p) {
-        return turns_left(b, p);
+    if (a.y < 0) ^ (b.y < 0) {
+        return 1;
     }
-    false
+    0
 }
 
-// Whether the next corner keeps the list convex: the way to it from the first corner turns left from the first edge and from
-// the way to the latest corner, and the step to it turns left from the latest edge.
-fn keeps_turning(base: Way, seen: Way, edge: Way, next: Way, step: Way) -> bool
-    requires { ⌜ Short base ⌝ }
-    requires { ⌜ Short seen ⌝ }
-    requires { ⌜ Short edge ⌝ }
-    requires { ⌜ Short next ⌝ }
-    requires { ⌜ Short step ⌝ }
-    ensures { λ r. ⌜ r ≡ keepsTurning base seen edge next step ⌝ }
-{
-    if left_of_both(base, seen, next) {
-        return turns_left(edge, step);
-    }
-    false
-}
-
-// Whether corners are strictly convex counterclockwise, in one walk that keeps the first edge, the way from the first corner to
-// the latest, and the latest edge.
+// Whether corners are strictly convex counterclockwise: every turn goes left, and the edges begin to go down once and to go up
+// once, so they go round once. The closing edge is the first, and again the last.
 pub fn strictly_convex(c: &[i32]) -> bool
     requires { ⌜ CornersOnTable (now c) ⌝ }
     ensures { λ r. ⌜ r ≡ strictlyConvex (cornersOf (now (c .entry))) ⌝ }
 {
-    let first = corner_at(c, 0);
-    let base = way_from(first, corner_at(c, 2));
-    let mut seen_x = base.x;
-    let mut seen_y = base.y;
-    let mut edge_x = base.x;
-    let mut edge_y = base.y;
-    let mut i = 4;
-    while i < c.len() {
-        let seen = Way {
-            x: seen_x,
-            y: seen_y,
-        };
+    let n = c.len();
+    let closing = way_from(corner_at(c, n - 2), corner_at(c, 0));
+    let mut edge_x = closing.x;
+    let mut edge_y = closing.y;
+    let mut changes = 0;
+    let mut i = 2;
+    while i < n {
         let edge = Way {
             x: edge_x,
             y: edge_y,
         };
-        let next = way_from(first, corner_at(c, i));
-        let step = way_between(seen, next);
-        if !keeps_turning(base, seen, edge, next, step) {
+        let next = way_from(corner_at(c, i - 2), corner_at(c, i));
+        if !turns_left(edge, next) {
             return false;
         }
-        seen_x = next.x;
-        seen_y = next.y;
-        edge_x = step.x;
-        edge_y = step.y;
+        changes += change(edge, next);
+        edge_x = next.x;
+        edge_y = next.y;
         i += 2;
     }
-    true
+    let edge = Way {
+        x: edge_x,
+        y: edge_y,
+    };
+    if !turns_left(edge, closing) {
+        return false;
+    }
+    changes + change(edge, closing) == 2
 }
 
 // What of the span lies left of or on the edge from a to b, by its condition p t <= q.

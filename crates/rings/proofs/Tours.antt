@@ -21,7 +21,7 @@ edge-start : {n i k : ℕ} → Edge n i k → i < n
 edge-start (along h) = omega arith
 edge-start (closing e) = omega arith
 
-edge-end : {n i k : ℕ} → Edge n i k → k < n
+pub edge-end : {n i k : ℕ} → Edge n i k → k < n
 edge-end (along h) = h
 edge-end (closing e) = omega arith
 
@@ -68,7 +68,7 @@ module _ (r : List Point) (three : 3 ≤ length r) {place : ℕ → ℕ} (t : To
   abbrev p : ℕ → Point
   p i = at r (place i)
 
-  again : (i j : ℕ) → j ≡ i + length r → place j ≡ place i
+  pub again : (i j : ℕ) → j ≡ i + length r → place j ≡ place i
   again zero zero e = refl
   again zero (suc j) e = let k = edge-last (t .edge 0) (t .is 0 (omega arith)) in t .is j (omega arith) ∙ omega arith
   again (suc i) zero e = absurd (omega arith)
