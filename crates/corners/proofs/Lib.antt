@@ -3,6 +3,7 @@ pub mod Convexity
 pub mod Sums
 pub mod Slopes
 pub mod Rounds
+pub mod Changes
 pub mod Walking
 pub mod Edges
 pub mod Refusals

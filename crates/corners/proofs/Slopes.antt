@@ -1,8 +1,9 @@
 -- Up and down of edges are told by a point infinitely far to the right, turned down by less than any edge of the table: an edge that is level goes up where it goes right.
 -- At a left turn the edges begin to go up, so told, where the first has y < 0 and the second has not.
-use mathlib.Core.Path.{_≡_, refl}
+use mathlib.Core.Path.{_≡_}
 use mathlib.Core.List.{[], _∷_}
-use mathlib.Core.Logic.{_⊎_, inl, inr}
+use mathlib.Core.Logic.{_⊎_, inl, inr, _↔_}
+use Prim.Native.Nat.{ℕ, suc}
 use lib.IntN.{ℤ, pos, negsuc, _+ℤ_, _*ℤ_}
 use lib.Signed.{_≤ℤ_, _<ℤ_}
 use Rattle.whole.proofs.Naturals.{add-is, mul-is}
@@ -31,27 +32,16 @@ module _ (a b : Corner) where
   abbrev slope-by : Expr
   slope-by = (var 2 ⊖ var 0) ⊕ con (pos 32768) ⊗ (var 3 ⊖ var 1)
 
-  abbrev down-by : Expr
-  down-by = side-by (var 0) (var 1) (var 2) (var 3) (con (pos 32768)) (con (negsuc 0)) nought
+  abbrev down-by : ℕ → ℕ → Expr
+  down-by i j = side-by (var i) (var (suc i)) (var j) (var (suc j)) (con (pos 32768)) (con (negsuc 0)) nought
 
-  abbrev up-by : Expr
-  up-by = side-by (var 2) (var 3) (var 0) (var 1) (con (pos 32768)) (con (negsuc 0)) nought
-
-  pub down-is : slope (wayFrom a b) <ℤ pos 0 → Down east (pointOf a) (pointOf b)
+  pub down-slope : (slope (wayFrom a b) <ℤ pos 0) ↔ Down east (pointOf a) (pointOf b)
   unfolding value through
-  down-is h = record { left = gt ρ nought down-by (lt slope-by nought h) tt }
+  down-slope = (λ h. record { left = gt ρ nought (down-by 0 2) (lt slope-by nought h) tt }, λ h. gt ρ slope-by nought (po (down-by 0 2) (h .left)) tt)
 
-  pub up-is : pos 0 <ℤ slope (wayFrom a b) → Up east (pointOf a) (pointOf b)
+  pub up-slope : (pos 0 <ℤ slope (wayFrom a b)) ↔ Up east (pointOf a) (pointOf b)
   unfolding value through
-  up-is h = cycle (record { left = gt ρ nought up-by (po slope-by h) tt })
-
-  pub is-down : Down east (pointOf a) (pointOf b) → slope (wayFrom a b) <ℤ pos 0
-  unfolding value through
-  is-down h = gt ρ slope-by nought (po down-by (h .left)) tt
-
-  pub is-up : Up east (pointOf a) (pointOf b) → pos 0 <ℤ slope (wayFrom a b)
-  unfolding value through
-  is-up h = gt ρ nought slope-by (po up-by (cycle (cycle h) .left)) tt
+  up-slope = (λ h. cycle (record { left = gt ρ nought (down-by 2 0) (po slope-by h) tt }), λ h. gt ρ nought slope-by (po (down-by 2 0) (cycle (cycle h) .left)) tt)
 
 -- ---- the slope of a way of the table has the sign of y, and where y is 0 of x
 module _ {w : Way} (h : Short w) where
@@ -65,6 +55,9 @@ module _ {w : Way} (h : Short w) where
   level k = omega (zarith, add-is (w .x) (pos 32768 *ℤ w .y), mul-is (pos 32768) (w .y))
 
 -- ---- a left turn
+abbrev Sign : ℤ → Type 0
+Sign z = (z <ℤ pos 0) ⊎ ((z ≡ pos 0) ⊎ (pos 0 <ℤ z))
+
 module _ {a b : Way} (ha : Short a) (hb : Short b) (turn : pos 0 <ℤ crossOf a b) where
   abbrev σ : Env
   σ = a .x ∷ a .y ∷ b .x ∷ b .y ∷ []
@@ -84,7 +77,7 @@ module _ {a b : Way} (ha : Short a) (hb : Short b) (turn : pos 0 <ℤ crossOf a 
   pub sloping : (slope a <ℤ pos 0) ⊎ (pos 0 <ℤ slope a)
   sloping = go (sign (a .y)) (sign (a .x))
     where
-      go : (a .y <ℤ pos 0) ⊎ ((a .y ≡ pos 0) ⊎ (pos 0 <ℤ a .y)) → (a .x <ℤ pos 0) ⊎ ((a .x ≡ pos 0) ⊎ (pos 0 <ℤ a .x)) → (slope a <ℤ pos 0) ⊎ (pos 0 <ℤ slope a)
+      go : Sign (a .y) → Sign (a .x) → (slope a <ℤ pos 0) ⊎ (pos 0 <ℤ slope a)
       go (inl k) t = inl (falls ha k)
       go (inr (inr k)) t = inr (rises ha k)
       go (inr (inl e)) (inl k) = let l = level ha e in inl (omega zarith)
@@ -94,7 +87,7 @@ module _ {a b : Way} (ha : Short a) (hb : Short b) (turn : pos 0 <ℤ crossOf a 
   pub rise-slopes : a .y <ℤ pos 0 → pos 0 ≤ℤ b .y → (slope a <ℤ pos 0) × (pos 0 <ℤ slope b)
   rise-slopes k l = (falls ha k, go (sign (b .y)))
     where
-      go : (b .y <ℤ pos 0) ⊎ ((b .y ≡ pos 0) ⊎ (pos 0 <ℤ b .y)) → pos 0 <ℤ slope b
+      go : Sign (b .y) → pos 0 <ℤ slope b
       go (inl m) = absurd (omega zarith)
       go (inr (inl e)) = let m = level hb e in let r = right-after k e in omega zarith
       go (inr (inr m)) = rises hb m
@@ -105,12 +98,12 @@ module _ {a b : Way} (ha : Short a) (hb : Short b) (turn : pos 0 <ℤ crossOf a 
       second : pos 0 ≤ℤ b .y
       second = go (sign (b .y))
         where
-          go : (b .y <ℤ pos 0) ⊎ ((b .y ≡ pos 0) ⊎ (pos 0 <ℤ b .y)) → pos 0 ≤ℤ b .y
+          go : Sign (b .y) → pos 0 ≤ℤ b .y
           go (inl m) = let f = falls hb m in absurd (omega zarith)
           go (inr (inl e)) = omega zarith
           go (inr (inr m)) = omega zarith
 
-      first : (a .y <ℤ pos 0) ⊎ ((a .y ≡ pos 0) ⊎ (pos 0 <ℤ a .y)) → a .y <ℤ pos 0
+      first : Sign (a .y) → a .y <ℤ pos 0
       first (inl m) = m
       first (inr (inl e)) = let m = level ha e in absurd (not-left-before (omega zarith) e second)
       first (inr (inr m)) = let f = rises ha m in absurd (omega zarith)

@@ -1,46 +1,56 @@
--- Sums of numbers by their place: one of them is 1 and the others are 0 exactly where the sum is 1.
-use mathlib.Core.Path.{_≡_, refl}
+-- Sums of ones and noughts: what they count happens once exactly where the sum is 1.
+use mathlib.Core.Path.{_≡_, refl, subst}
 use mathlib.Core.Logic.{_≢_}
 use Prim.Native.Nat.{ℕ, zero, suc, _+_, _≤_, _<_}
 use native.Mathlib.Omega.{arith}
 use native.Mathlib.Decide.{ℕ-discrete}
 use borrow.Author.Count.{below-more}
+use Rattle.rings.proofs.Rises.{Once}
 
 abbrev pub sum : ℕ → (ℕ → ℕ) → ℕ
 sum zero f = 0
 sum (suc n) f = sum n f + f n
 
-pub record OnlyOne (n : ℕ) (f : ℕ → ℕ) : Type 0 where
-  pub k : ℕ
-  pub below : k < n
-  pub one : f k ≡ 1
-  pub others : (i : ℕ) → i < n → i ≢ k → f i ≡ 0
+pub sum-most : (f : ℕ → ℕ) → ((i : ℕ) → f i ≤ 1) → (n : ℕ) → sum n f ≤ n
+sum-most f h zero = omega arith
+sum-most f h (suc n) = omega (arith, sum-most f h n, h n)
 
-module _ (f : ℕ → ℕ) where
-  sum-none : (n : ℕ) → sum n f ≡ 0 → (i : ℕ) → i < n → f i ≡ 0
-  sum-none zero e i h = absurd (omega arith)
-  sum-none (suc n) e i h = below-more (λ (i : ℕ). f i ≡ 0) n (sum-none n (omega arith)) (omega arith) i (omega arith)
+-- 1 where A holds, and 0 where it does not
+pub data Counts (A : Type 0) : ℕ → Type 0 where
+  one : A → Counts A 1
+  none : (A → ⊥) → Counts A 0
 
-  none-sum : (n : ℕ) → ((i : ℕ) → i < n → f i ≡ 0) → sum n f ≡ 0
-  none-sum zero h = refl
-  none-sum (suc n) h = omega (arith, none-sum n (λ i l. h i (omega arith)), h n (omega arith))
-
-  pub sum-one : (n : ℕ) → sum n f ≡ 1 → OnlyOne n f
-  sum-one zero e = absurd (omega arith)
-  sum-one (suc n) e = go (ℕ-discrete (f n) 0) (sum-one n)
+module _ {A : ℕ → Type 0} (f : ℕ → ℕ) (c : (i : ℕ) → Counts (A i) (f i)) where
+  sum-never : (n : ℕ) → sum n f ≡ 0 → (i : ℕ) → i < n → A i → ⊥
+  sum-never zero e i h = absurd (omega arith)
+  sum-never (suc n) e i h = below-more (λ (i : ℕ). A i → ⊥) n (sum-never n (omega arith)) (go (c n) (omega arith)) i (omega arith)
     where
-      go : Dec (f n ≡ 0) → (sum n f ≡ 1 → OnlyOne n f) → OnlyOne (suc n) f
-      go (no d) earlier = record { k = n; below = omega arith; one = omega arith; others = λ i l m. sum-none n (omega arith) i (omega arith) }
-      go (yes z) earlier = let o = earlier (omega arith) in record { k = o .k; below = omega (arith, o .below); one = o .one; others = λ i l m. below-more (λ (i : ℕ). i ≢ o .k → f i ≡ 0) n (o .others) (λ d. z) i (omega arith) m }
+      go : {m : ℕ} → Counts (A n) m → m ≡ 0 → A n → ⊥
+      go (one a) z = absurd (omega arith)
+      go (none d) z = d
 
-  pub one-sum : (n : ℕ) → OnlyOne n f → sum n f ≡ 1
-  one-sum zero o = absurd (omega (arith, o .below))
-  one-sum (suc n) o = go (ℕ-discrete (o .k) n) (one-sum n)
+  never-sum : (n : ℕ) → ((i : ℕ) → i < n → A i → ⊥) → sum n f ≡ 0
+  never-sum zero h = refl
+  never-sum (suc n) h = omega (arith, never-sum n (λ i l. h i (omega arith)), go (c n))
     where
-      go : Dec (o .k ≡ n) → (OnlyOne n f → sum n f ≡ 1) → sum (suc n) f ≡ 1
-      go (yes e) earlier = omega (arith, none-sum n (λ i l. o .others i (omega arith) (omega arith)), mathlib.Core.Path.ap f e, o .one)
-      go (no d) earlier = omega (arith, earlier (record { k = o .k; below = omega (arith, o .below); one = o .one; others = λ i l m. o .others i (omega arith) m }), o .others n (omega arith) (omega arith))
+      go : {m : ℕ} → Counts (A n) m → m ≡ 0
+      go (one a) = absurd (h n (omega arith) a)
+      go (none d) = refl
 
-  pub sum-most : ((i : ℕ) → f i ≤ 1) → (n : ℕ) → sum n f ≤ n
-  sum-most h zero = omega arith
-  sum-most h (suc n) = omega (arith, sum-most h n, h n)
+  pub sum-once : (n : ℕ) → sum n f ≡ 1 → Once n A
+  sum-once zero e = absurd (omega arith)
+  sum-once (suc n) e = go (c n) e (sum-once n)
+    where
+      go : {m : ℕ} → Counts (A n) m → sum n f + m ≡ 1 → (sum n f ≡ 1 → Once n A) → Once (suc n) A
+      go (one a) z earlier = record { k = n; below = omega arith; holds = a; only = λ i l d. sum-never n (omega arith) i (omega arith) }
+      go (none d) z earlier = let o = earlier (omega arith) in record { k = o .k; below = omega (arith, o .below); holds = o .holds; only = λ i l m. below-more (λ (i : ℕ). i ≢ o .k → A i → ⊥) n (o .only) (λ m. d) i (omega arith) m }
+
+  pub once-sum : (n : ℕ) → Once n A → sum n f ≡ 1
+  once-sum zero o = absurd (omega (arith, o .below))
+  once-sum (suc n) o = go (c n) (ℕ-discrete (o .k) n) (once-sum n)
+    where
+      go : {m : ℕ} → Counts (A n) m → Dec (o .k ≡ n) → (Once n A → sum n f ≡ 1) → sum n f + m ≡ 1
+      go (one a) (yes e) earlier = omega (arith, never-sum n (λ i l. o .only i (omega arith) (omega arith)))
+      go (one a) (no d) earlier = absurd (o .only n (omega arith) (omega arith) a)
+      go (none d) (yes e) earlier = absurd (d (subst A e (o .holds)))
+      go (none d) (no k) earlier = omega (arith, earlier (record { k = o .k; below = omega (arith, o .below); holds = o .holds; only = λ i l m. o .only i (omega arith) m }))

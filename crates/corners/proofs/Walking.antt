@@ -13,7 +13,8 @@ use Rattle.corners.specs.Workers.{CornersOnTable, Short, cornerAt, wayFr
 use Rattle.corners.specs.declared.Way.{Way}
 use Rattle.corners.proofs.Places.{corner, count, three-corners}
 use Rattle.corners.proofs.Sums.{sum, sum-most}
-use Rattle.corners.proofs.Rounds.{round, round-is, edge-of, change-of, change-most, edge-short, edge-again, not-left, two-changes}
+use Rattle.corners.proofs.Rounds.{place-of, edge-of, around, edge-short, edge-again, not-left}
+use Rattle.corners.proofs.Changes.{change-of, change-most, two-changes}
 
 pub record Walked (zs : List ℤ) (edge : Way) (changes i : ℕ) : Type 0 where
   pub k : ℕ
@@ -24,8 +25,8 @@ pub record Walked (zs : List ℤ) (edge : Way) (changes i : ℕ) : Type 0 where
   pub changes-is : changes ≡ sum k (change-of zs)
 
 module _ {zs : List ℤ} (g : CornersOnTable zs) where
-  here : (i : ℕ) → i < length (cornersOf zs) → corner zs i ≡ corner zs (round (length (cornersOf zs)) (suc i))
-  here i h = ap (corner zs) (sym (round-is (length (cornersOf zs)) (omega arith) i h))
+  here : (i : ℕ) → i < length (cornersOf zs) → corner zs i ≡ corner zs (place-of zs (suc i))
+  here i h = ap (corner zs) (sym (around g .is i h))
 
   -- the closing edge
   pub closing-is : {closing : Way} → closing ≡ wayFrom (cornerAt zs (length zs - 2)) (cornerAt zs 0) → closing ≡ edge-of zs 0

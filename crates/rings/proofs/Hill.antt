@@ -6,7 +6,7 @@ use Prim.Native.Nat.{ℕ, zero, suc, _+_, _-_, _≤_, _<_}
 use native.Mathlib.Omega.{arith}
 use lib.ListN.{length}
 use lib.IntN.{pos}
-use Rattle.whole.proofs.Certificates.{gt-by, clash, po, eq, _⊞_, _⊠_}
+use Rattle.whole.proofs.Certificates.{gt-by, po, eq, _⊞_, _⊠_}
 use Rattle.rings.specs.Points.{Point, Left, Proper, value, through}
 use Rattle.rings.specs.Rings.{at}
 use Rattle.rings.proofs.Plane.{w-of, corners, det-of, nought, cycle, turn}
@@ -20,10 +20,6 @@ abbrev pub Down : Point → Point → Point → Type 0
 Down e a b = Left a b e
 
 module _ {e : Point} where
-  pub not-both : {a b : Point} → Up e a b → Down e a b → ⊥
-  unfolding value through
-  not-both {a} {b} u d = clash (corners (e ∷ a ∷ b ∷ [])) (po (det-of 1 0 2) (u .left) ⊞ po (det-of 1 2 0) (d .left)) tt
-
   up-trans : e .W ≡ pos 0 → {a b c : Point} → Proper a → Proper b → Proper c → Up e a b → Up e b c → Up e a c
   unfolding value through
   up-trans far {a} {b} {c} ha hb hc ab bc = record {

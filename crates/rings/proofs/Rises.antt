@@ -1,19 +1,17 @@
 -- A closed walk that turns left at every corner is a ring exactly where it begins to rise once: after the rise it is a hill; and a rise is below all other corners.
-use mathlib.Core.Path.{_≡_, refl, sym, ap, _∙_, subst, transport}
-use mathlib.Core.List.{List, [], _∷_, _++_}
+use mathlib.Core.Path.{_≡_, refl, ap, _∙_, subst, transport}
+use mathlib.Core.List.{[], _∷_, _++_}
 use mathlib.Core.Logic.{_⊎_, inl, inr, _≢_}
 use Prim.Native.Nat.{ℕ, zero, suc, _+_, _≤_, _<_}
 use native.Mathlib.Omega.{arith}
 use borrow.Author.Count.{below-more}
 use native.Mathlib.Decide.{ℕ-discrete}
-use lib.ListN.{length}
 use lib.IntN.{pos}
 use Rattle.whole.proofs.Certificates.{ge-by, clash, nn, po, eq, _⊞_, _⊠_}
 use Rattle.rings.specs.Points.{Point, Left, LeftOn, Proper, value, through}
-use Rattle.rings.specs.Rings.{at, Edge, along, closing, StrictlyConvex}
-use Rattle.rings.proofs.Plane.{w-of, corners, det-of, nought, cycle, cycleOn, twice13, either-side}
-use Rattle.rings.proofs.Convex.{CCW, ∅ᶜ, ccw-turn}
-use Rattle.rings.proofs.Linear.{ccw-of-linear, convex-of-ccw}
+use Rattle.rings.proofs.Plane.{w-of, corners, det-of, nought, cycleOn, twice13, either-side}
+use Rattle.rings.proofs.Convex.{CCW, ccw-turn}
+use Rattle.rings.proofs.Linear.{ccw-of-linear}
 use Rattle.rings.proofs.Hill.{Up, Down, from, hill-linear}
 
 -- ---- a closed walk of n corners, by its steps; it begins to rise in the corner after step i
@@ -27,11 +25,12 @@ pub record Round (e : Point) (p : ℕ → Point) (n : ℕ) : Type 0 where
 abbrev pub Rise : Point → (ℕ → Point) → ℕ → Type 0
 Rise e p i = Down e (p i) (p (suc i)) × Up e (p (suc i)) (p (suc (suc i)))
 
-pub record OneRise (e : Point) (p : ℕ → Point) (n : ℕ) : Type 0 where
+-- A holds of one number below n
+pub record Once (n : ℕ) (A : ℕ → Type 0) : Type 0 where
   pub k : ℕ
   pub below : k < n
-  pub rises : Rise e p k
-  pub only : (i : ℕ) → i < n → i ≢ k → Rise e p i → ⊥
+  pub holds : A k
+  pub only : (i : ℕ) → i < n → i ≢ k → A i → ⊥
 
 -- ---- once: a ring
 from-snoc : (p : ℕ → Point) (n : ℕ) → from p (suc n) ≡ from p n ++ (p n ∷ [])

@@ -1,5 +1,5 @@
 -- Walked round, a list of corners is strictly convex exactly where every turn goes left and it begins to rise once.
-use mathlib.Core.Path.{_≡_, refl, sym, ap, _∙_, subst}
+use mathlib.Core.Path.{_≡_, refl, sym, ap, _∙_, subst, transport}
 use mathlib.Core.List.{List, [], _∷_}
 use mathlib.Core.Logic.{_⊎_, inl, inr, _≢_}
 use Prim.Native.Nat.{ℕ, zero, suc, _+_, _-_, _≤_, _<_}
@@ -14,7 +14,7 @@ use Rattle.rings.proofs.Plane.{cycle}
 use Rattle.rings.proofs.Convex.{CCW}
 use Rattle.rings.proofs.Linear.{place-all, convex-of-ccw}
 use Rattle.rings.proofs.Hill.{Up, Down, from}
-use Rattle.rings.proofs.Rises.{Round, Rise, OneRise, ccw-of-rise, not-lower, rise-lowest, lowest}
+use Rattle.rings.proofs.Rises.{Round, Rise, Once, ccw-of-rise, not-lower, rise-lowest, lowest}
 
 -- ---- edges
 edge-start : {n i k : ℕ} → Edge n i k → i < n
@@ -80,11 +80,11 @@ module _ (r : List Point) (three : 3 ≤ length r) {place : ℕ → ℕ} (t : To
     ring-turns i = c .left-of (place i) (place (suc i)) (place (suc (suc i))) (t .edge i) (edge-end (t .edge (suc i))) (two-apart three (t .edge i) (t .edge (suc i))) (one-apart three (t .edge (suc i)))
 
     module _ {e : Point} (far : e .W ≡ pos 0) (w : All Proper r) (way : (i : ℕ) → Up e (p i) (p (suc i)) ⊎ Down e (p i) (p (suc i))) where
-      pub ring-rises : OneRise e p (length r)
+      pub ring-rises : Once (length r) (Rise e p)
       ring-rises = go (lowest far (at r) (length r - 1) (λ j l. place-all w j (omega arith)))
         where
-          go : (k : ℕ) × (k ≤ length r - 1) × ((j : ℕ) → j ≤ length r - 1 → LeftOn (at r k) e (at r j)) → OneRise e p (length r)
-          go (k, l, low) = record { k = k; below = omega arith; rises = (down (way k), up (way (suc k))); only = only }
+          go : (k : ℕ) × (k ≤ length r - 1) × ((j : ℕ) → j ≤ length r - 1 → LeftOn (at r k) e (at r j)) → Once (length r) (Rise e p)
+          go (k, l, low) = record { k = k; below = omega arith; holds = (down (way k), up (way (suc k))); only = only }
             where
               here : place (suc k) ≡ k
               here = t .is k (omega arith)
@@ -120,11 +120,11 @@ module _ (r : List Point) (three : 3 ≤ length r) {place : ℕ → ℕ} (t : To
     turns-on i = in-all-rounds {n = length r} (omega arith) {P = λ i. Left (p i) (p (suc i)) (p (suc (suc i)))} more left i i (omega arith)
       where
         more : (i j : ℕ) → j ≡ i + length r → Left (p i) (p (suc i)) (p (suc (suc i))) → Left (p j) (p (suc j)) (p (suc (suc j)))
-        more i j e h = mathlib.Core.Path.transport (λ x. Left (at r (sym (again i j e) x)) (at r (sym (again (suc i) (suc j) (omega arith)) x)) (at r (sym (again (suc (suc i)) (suc (suc j)) (omega arith)) x))) h
+        more i j e h = transport (λ x. Left (at r (sym (again i j e) x)) (at r (sym (again (suc i) (suc j) (omega arith)) x)) (at r (sym (again (suc (suc i)) (suc (suc j)) (omega arith)) x))) h
 
     module _ {e : Point} (far : e .W ≡ pos 0) (w : All Proper r) (way : (i : ℕ) → Up e (p i) (p (suc i)) ⊎ Down e (p i) (p (suc i))) where
-      pub ring-of-rise : OneRise e p (length r) → StrictlyConvex r
-      ring-of-rise o = convex-of-ccw (subst CCW (list-of r (λ i. p (suc i)) (λ i h. ap (at r) (t .is i h))) (ccw-of-rise (o .k) p round (o .below) (o .rises) (o .only)))
+      pub ring-of-rise : Once (length r) (Rise e p) → StrictlyConvex r
+      ring-of-rise o = convex-of-ccw (subst CCW (list-of r (λ i. p (suc i)) (λ i h. ap (at r) (t .is i h))) (ccw-of-rise (o .k) p round (o .below) (o .holds) (o .only)))
         where
           round : Round e p (length r)
           round = record { far = far; proper = λ i. place-all w (place i) (edge-start (t .edge i)); again = λ i j l. ap (at r) (again i j l); left = turns-on; way = way }
