@@ -45,7 +45,7 @@ abbrev pub from : (ℕ → Point) → ℕ → List Point
 from p zero = []
 from p (suc n) = p 0 ∷ from (λ i. p (suc i)) n
 
-pub from-length : (p : ℕ → Point) (n : ℕ) → length (from p n) ≡ n
+from-length : (p : ℕ → Point) (n : ℕ) → length (from p n) ≡ n
 from-length p zero = refl
 from-length p (suc n) = ap suc (from-length (λ i. p (suc i)) n)
 

@@ -2,6 +2,9 @@ pub mod Plane
 pub mod Lists
 pub mod Convex
 pub mod Linear
+pub mod Hill
+pub mod Rises
+pub mod Tours
 pub mod Fan
 pub mod Moves
 pub mod Passes
@@ -16,6 +19,3 @@ pub mod Start
 pub mod Orders
 pub mod Windows
 pub mod Theorems
-pub mod Hill
-pub mod Rises
-pub mod Tours

@@ -140,7 +140,7 @@ convex-of-ccw {r} c = record { left-of = λ i k j e. go i k j e }
     go i k j (along h) hj ni nk = next i j h hj ni nk (decLt j i)
     go i k j (closing e) hj ni nk = cycle (cycle (place-ccw c 0 j i (omega arith) (omega arith) (omega arith)))
 
-pub linear-of-convex : {r : List Point} → StrictlyConvex r → Linear r
+linear-of-convex : {r : List Point} → StrictlyConvex r → Linear r
 linear-of-convex c = record {
   first = λ j h k. c .left-of 0 1 j (along (omega arith)) k (omega arith) (omega arith);
   seen = λ i h k. cycle (cycle (c .left-of i (suc i) 0 (along k) (omega arith) (omega arith) (omega arith)));

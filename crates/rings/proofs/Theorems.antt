@@ -12,7 +12,6 @@ use Rattle.rings.specs.Rings.{at, StrictlyConvex, Ring, InRing, Starts}
 use Rattle.rings.specs.Cuts.{Crossing, Across, Pass, CutBy, OneCut, Inside, Cuts, Remainder, NoArea, Outcome, Result, Agree}
 use Rattle.rings.specs.Windows.{sides, InWindow}
 use Rattle.rings.proofs.Convex.{CCW}
-use Rattle.rings.proofs.Linear.{Linear}
 use Rattle.rings.proofs.Linear as linear
 use Rattle.rings.proofs.Fan as fans
 use Rattle.rings.proofs.Arcs as arcs
@@ -25,12 +24,9 @@ use Rattle.rings.proofs.Start as starts
 use Rattle.rings.proofs.Orders as orders
 use Rattle.rings.proofs.Windows as windows
 
--- ---- strict convexity, for lists of any length: every three corners turn left in the list's order; or the test in linear time
+-- ---- strict convexity, for lists of any length: every three corners turn left in the list's order (walked round, and counted, in Tours)
 pub convex-ccw : (r : List Point) → StrictlyConvex r ↔ CCW r
 convex-ccw r = (linear.ccw-of-convex, linear.convex-of-ccw)
-
-pub convex-linear : (r : List Point) → StrictlyConvex r ↔ Linear r
-convex-linear r = (linear.linear-of-convex, λ l. linear.convex-of-ccw (linear.ccw-of-linear r l))
 
 pub place-ccw : {r : List Point} → CCW r → (i j k : ℕ) → i < j → j < k → k < length r → Left (at r i) (at r j) (at r k)
 place-ccw = linear.place-ccw
