@@ -103,10 +103,10 @@ module _ {zs : List ℤ} (g : CornersOnTable zs) where
         go false y e f = none (λ r. let l = signs r .0 in let m : pos 0 ≤ℤ edge i .y = lt-no refl refl e in omega zarith)
 
     once : StrictlyConvex (cornersOf zs) → sum n rise ≡ 1
-    once c = once-sum rise counted n (ring-rises (cornersOf zs) (three-corners g) (around g) c refl (all-proper zs) way)
+    once c = once-sum rise counted n (ring-rises (cornersOf zs) (three-corners g) (around g) c way refl (all-proper zs))
 
     ring-once : sum n rise ≡ 1 → StrictlyConvex (cornersOf zs)
-    ring-once e = ring-of-rise (cornersOf zs) (three-corners g) (around g) left refl (all-proper zs) way (sum-once rise counted n e)
+    ring-once e = ring-of-rise (cornersOf zs) (three-corners g) (around g) left way refl (all-proper zs) (sum-once rise counted n e)
 
     pub two-changes : eqb (sum (length (cornersOf zs)) (change-of zs)) 2 ≡ strictlyConvex (cornersOf zs)
     two-changes = go (strictlyConvex (cornersOf zs)) (eqb (sum n (change-of zs)) 2) refl refl

@@ -79,40 +79,48 @@ module _ (r : List Point) (three : 3 ≤ length r) {place : ℕ → ℕ} (t : To
     pub ring-turns : (i : ℕ) → Left (p i) (p (suc i)) (p (suc (suc i)))
     ring-turns i = c .left-of (place i) (place (suc i)) (place (suc (suc i))) (t .edge i) (edge-end (t .edge (suc i))) (two-apart three (t .edge i) (t .edge (suc i))) (one-apart three (t .edge (suc i)))
 
-    module _ {e : Point} (far : e .W ≡ pos 0) (w : All Proper r) (way : (i : ℕ) → Up e (p i) (p (suc i)) ⊎ Down e (p i) (p (suc i))) where
-      pub ring-rises : Once (length r) (Rise e p)
-      ring-rises = go (lowest far (at r) (length r - 1) (λ j l. place-all w j (omega arith)))
+    module _ {e : Point} (way : (i : ℕ) → Up e (p i) (p (suc i)) ⊎ Down e (p i) (p (suc i))) where
+      -- k is the place of a lowest corner
+      module _ (k : ℕ) (l : k < length r) (low : (j : ℕ) → j < length r → LeftOn (at r k) e (at r j)) where
+        low-to : (i : ℕ) → LeftOn (at r k) e (p i)
+        low-to i = low (place i) (edge-start (t .edge i))
+
+        from-low : (i : ℕ) → LeftOn (p (suc k)) e (p i)
+        from-low i = subst (λ (m : ℕ). LeftOn (at r m) e (p i)) (sym (t .is k l)) (low-to i)
+
+        rise : Rise e p k
+        rise = (down (way k), up (way (suc k)))
+          where
+            down : Up e (p k) (p (suc k)) ⊎ Down e (p k) (p (suc k)) → Down e (p k) (p (suc k))
+            down (inl u) = absurd (not-lower (from-low k) (cycle (cycle u)))
+            down (inr d) = d
+
+            up : Up e (p (suc k)) (p (suc (suc k))) ⊎ Down e (p (suc k)) (p (suc (suc k))) → Up e (p (suc k)) (p (suc (suc k)))
+            up (inl u) = u
+            up (inr d) = absurd (not-lower (from-low (suc (suc k))) d)
+
+        no-other : (i : ℕ) → i < length r → i ≢ k → Rise e p i → ⊥
+        no-other i m d (a, b) = cases (ℕ-discrete k (place i)) (ℕ-discrete k (place (suc (suc i))))
+          where
+            away : k ≢ place (suc i)
+            away x = d (sym (t .is i m) ∙ sym x)
+
+            not-at : (j : ℕ) → k ≡ place j → Down e (p j) (p (suc i)) → ⊥
+            not-at j x h = not-lower (low-to (suc i)) (subst (λ (m : ℕ). Down e (at r m) (p (suc i))) (sym x) h)
+
+            cases : Dec (k ≡ place i) → Dec (k ≡ place (suc (suc i))) → ⊥
+            cases (yes x) y = not-at i x a
+            cases (no x) (yes y) = not-at (suc (suc i)) y (cycle (cycle b))
+            cases (no x) (no y) = rise-lowest (low-to (suc i)) (ring-turns i) (c .left-of (place i) (place (suc i)) k (t .edge i) l x away) (c .left-of (place (suc i)) (place (suc (suc i))) k (t .edge (suc i)) l away y) a b
+
+      pub ring-rises : e .W ≡ pos 0 → All Proper r → Once (length r) (Rise e p)
+      ring-rises far w = go (lowest far (at r) (length r - 1) (λ j h. place-all w j (omega arith)))
         where
           go : (k : ℕ) × (k ≤ length r - 1) × ((j : ℕ) → j ≤ length r - 1 → LeftOn (at r k) e (at r j)) → Once (length r) (Rise e p)
-          go (k, l, low) = record { k = k; below = omega arith; holds = (down (way k), up (way (suc k))); only = only }
-            where
-              here : place (suc k) ≡ k
-              here = t .is k (omega arith)
-
-              low-to : (i : ℕ) → LeftOn (p (suc k)) e (p i)
-              low-to i = subst (λ (m : ℕ). LeftOn (at r m) e (p i)) (sym here) (low (place i) (let h = edge-start (t .edge i) in omega arith))
-
-              down : Up e (p k) (p (suc k)) ⊎ Down e (p k) (p (suc k)) → Down e (p k) (p (suc k))
-              down (inl u) = absurd (not-lower (low-to k) (cycle (cycle u)))
-              down (inr d) = d
-
-              up : Up e (p (suc k)) (p (suc (suc k))) ⊎ Down e (p (suc k)) (p (suc (suc k))) → Up e (p (suc k)) (p (suc (suc k)))
-              up (inl u) = u
-              up (inr d) = absurd (not-lower (low-to (suc (suc k))) d)
-
-              only : (i : ℕ) → i < length r → i ≢ k → Rise e p i → ⊥
-              only i m d (a, b) = cases (ℕ-discrete k (place i)) (ℕ-discrete k (place (suc (suc i))))
-                where
-                  away : k ≢ place (suc i)
-                  away x = d (sym (t .is i m) ∙ sym x)
-
-                  under : LeftOn (at r k) e (p (suc i))
-                  under = low (place (suc i)) (let h = edge-start (t .edge (suc i)) in omega arith)
-
-                  cases : Dec (k ≡ place i) → Dec (k ≡ place (suc (suc i))) → ⊥
-                  cases (yes x) y = not-lower under (subst (λ (m : ℕ). Down e (at r m) (p (suc i))) (sym x) a)
-                  cases (no x) (yes y) = not-lower under (subst (λ (m : ℕ). Down e (at r m) (p (suc i))) (sym y) (cycle (cycle b)))
-                  cases (no x) (no y) = rise-lowest under (ring-turns i) (c .left-of (place i) (place (suc i)) k (t .edge i) (omega arith) x away) (c .left-of (place (suc i)) (place (suc (suc i))) k (t .edge (suc i)) (omega arith) away y) a b
+          go (k, h, f) =
+              let l : k < length r = omega arith in
+              let low : (j : ℕ) → j < length r → LeftOn (at r k) e (at r j) = λ j m. f j (omega arith) in
+              record { k = k; below = l; holds = rise k l low; only = no-other k l low }
 
   -- ---- where one round turns left and begins to rise once, the list is a ring
   module _ (left : (i : ℕ) → i < length r → Left (p i) (p (suc i)) (p (suc (suc i)))) where
@@ -122,9 +130,9 @@ module _ (r : List Point) (three : 3 ≤ length r) {place : ℕ → ℕ} (t : To
         more : (i j : ℕ) → j ≡ i + length r → Left (p i) (p (suc i)) (p (suc (suc i))) → Left (p j) (p (suc j)) (p (suc (suc j)))
         more i j e h = transport (λ x. Left (at r (sym (again i j e) x)) (at r (sym (again (suc i) (suc j) (omega arith)) x)) (at r (sym (again (suc (suc i)) (suc (suc j)) (omega arith)) x))) h
 
-    module _ {e : Point} (far : e .W ≡ pos 0) (w : All Proper r) (way : (i : ℕ) → Up e (p i) (p (suc i)) ⊎ Down e (p i) (p (suc i))) where
-      pub ring-of-rise : Once (length r) (Rise e p) → StrictlyConvex r
-      ring-of-rise o = convex-of-ccw (subst CCW (list-of r (λ i. p (suc i)) (λ i h. ap (at r) (t .is i h))) (ccw-of-rise (o .k) p round (o .below) (o .holds) (o .only)))
+    module _ {e : Point} (way : (i : ℕ) → Up e (p i) (p (suc i)) ⊎ Down e (p i) (p (suc i))) where
+      pub ring-of-rise : e .W ≡ pos 0 → All Proper r → Once (length r) (Rise e p) → StrictlyConvex r
+      ring-of-rise far w o = convex-of-ccw (subst CCW (list-of r (λ i. p (suc i)) (λ i h. ap (at r) (t .is i h))) (ccw-of-rise (o .k) p round (o .below) (o .holds) (o .only)))
         where
           round : Round e p (length r)
           round = record { far = far; proper = λ i. place-all w (place i) (edge-start (t .edge i)); again = λ i j l. ap (at r) (again i j l); left = turns-on; way = way }
