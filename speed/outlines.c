@@ -127,15 +127,14 @@ static void check_outlines(const struct Outlines *in, int convex) {
     for (usize i = 0; i < in->many; i++) check_outline(in->w[i], in->order[i], in->c[i], in->count, ROOM, convex);
 }
 
-// The same outlines with the first number off the table, or with the last corner twice: the call looks at every number, and then it names the one that
-// is off or goes through the test of convexity.
-static const struct Outlines *spoilt(const struct Outlines *from, int off) {
+// The same outlines with the last corner twice, or the first: the test of convexity goes on to the last edge, or ends at the first turn.
+static const struct Outlines *spoilt(const struct Outlines *from, int early) {
     struct Outlines *in = lent(1, sizeof *in);
     *in = *from;
     for (usize i = 0; i < in->many; i++) {
-        i32 *last = in->c[i] + in->count - 2;
-        if (off) in->c[i][0] = 16384;
-        else { last[0] = last[-2]; last[1] = last[-1]; }
+        i32 *c = in->c[i] + (early ? 2 : in->count - 2);
+        c[0] = c[-2];
+        c[1] = c[-1];
     }
     return in;
 }
@@ -164,15 +163,15 @@ static void rows_of(usize n, const char *const names[7]) {
     }
     mixed[mixed_count++] = in;
     add_row((struct Row){ names[4], run_outlines, in, OUTLINES, ours, (Call *)tuned_clip_convex, OUTLINES });
-    for (int off = 0; off <= 1; off++) {
-        const struct Outlines *bad = spoilt(in, off);
+    for (int early = 0; early <= 1; early++) {
+        const struct Outlines *bad = spoilt(in, early);
         check_outlines(bad, 0);
-        add_row((struct Row){ names[5 + off], run_outlines, bad, OUTLINES, ours, tuned, OUTLINES });
+        add_row((struct Row){ names[5 + early], run_outlines, bad, OUTLINES, ours, tuned, OUTLINES });
     }
 }
 
 #define NAMES(n) { "outline " n " whole", "outline " n " cut", "outline " n " outside", "outline " n " mixed", "outline " n " untested", \
-    "refused 7 " n, "refused 6 " n }
+    "refused late " n, "refused early " n }
 
 void outline_rows(void) {
     static const char *const three[] = NAMES("3"), *const eight[] = NAMES("8"), *const sixteen[] = NAMES("16"), *const most[] = NAMES("64");

@@ -10,10 +10,10 @@ FILENAME == ARGV[1] { count[$1, $2] = $3; next }
         instructions[who, $1] = NF > 4 ? $(4 + k) : count[who, $1] / $2
     }
 }
-# Ours has no call without the test of convexity. A call that is refused for the first number (6) goes up to that test, and one that is refused for
-# the last corner's turn (7) through it: what lies between is taken off.
+# Ours has no call without the test of convexity. An outline with its last corner twice is refused (7) at the last edge, one with its first corner
+# twice at the first turn: what lies between, all but two turns of the test, is taken off. Three corners are refused at the first turn either way.
 function without_test(table, corners) {
-    return table["ours", "outline " corners " mixed"] - (table["ours", "refused 7 " corners] - table["ours", "refused 6 " corners])
+    return table["ours", "outline " corners " mixed"] - (table["ours", "refused late " corners] - table["ours", "refused early " corners])
 }
 function line(name) {
     printf "%-24s %9.1f %9.1f %6.2f", name, ns["ours", name], ns["tuned", name], ns["ours", name] / ns["tuned", name]

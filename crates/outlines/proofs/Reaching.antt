@@ -1,17 +1,22 @@
 -- How far an outline reaches: found corner by corner; where no side cuts anything off, the passes leave the outline; where one side leaves only what is on its line, they leave nothing.
-use mathlib.Core.Path.{_≡_, sym, subst}
+use mathlib.Core.Path.{_≡_, refl, sym, subst}
+use mathlib.Core.Bool.{Bool, true, false}
 use mathlib.Core.List.{List, [], _∷_, map, Permᴰ·symm}
 use mathlib.Core.Option.{Option, none, some}
-use Prim.Native.Nat.{ℕ, zero, suc, _+_, _*_, _/_, _≤_}
+use Prim.Native.Nat.{ℕ, zero, suc, _+_, _*_, _/_, _%_, _≤_}
 use native.Mathlib.Omega.{arith}
 use borrow.Author.Count.{below-more}
+use borrow.Author.Tests.{eqb-true, eqb-false}
+use lib.Dec.{eqb}
 use lib.IntN.{ℤ, pos, _-ℤ_, negℤ}
 use lib.ListN.{length, getD}
 use lib.Signed.{_≤ℤ_}
+use Rattle.whole.specs.Within.{Within}
 use Rattle.whole.proofs.Expressions.{Expr, var, neg, _⊕_, _⊗_}
 use Rattle.whole.proofs.Naturals.{neg-plus, neg-minus}
 use Rattle.whole.proofs.Order.{zarith, sub-is, ≤-antisym}
 use Rattle.whole.proofs.Polynomials.{ring}
+use Rattle.grid.specs.Table.{farthest}
 use Rattle.grid.specs.declared.Window.{Window}
 use Rattle.rings.specs.Cuts.{Inside, Cuts, no-more, cut, Outcome, area, Result, none-left}
 use Rattle.rings.specs.Lists.{All, ∅, _◂_}
@@ -31,7 +36,7 @@ use Rattle.passes.proofs.Outlines.{corners-all}
 use Rattle.passes.proofs.Reaches.{left-at, right-at, bottom-at, top-at, clear-in}
 use Rattle.passes.proofs.Sides.{side-line-real}
 use Rattle.passes.proofs.Pieces.{cut-nothing}
-use Rattle.outlines.specs.Workers.{Beyond}
+use Rattle.outlines.specs.Workers.{NumbersOnTable, ReachOnTable, Beyond}
 use Rattle.outlines.proofs.Passes.{lines-real}
 
 pub all-clear : {w b : Window} → w .left ≤ℤ b .left → b .right ≤ℤ w .right → w .bottom ≤ℤ b .bottom → b .top ≤ℤ w .top → (s : ℕ) → Clear w b s
@@ -54,6 +59,24 @@ round-more {zs} {n} {b} {c} r hl hr hb ht = record {
 
 pub round-all : {zs : List ℤ} {n : ℕ} {b : Window} → length zs / 2 ≤ n → Round zs n b → Reaches zs b
 round-all h r = record { left = λ k l. r .left k (omega arith); right = λ k l. r .right k (omega arith); bottom = λ k l. r .bottom k (omega arith); top = λ k l. r .top k (omega arith) }
+
+-- ---- an outline is on the table where what it reaches is
+pub numbers-on : {zs : List ℤ} {b : Window} → length zs % 2 ≡ 0 → Reaches zs b → ReachOnTable b → NumbersOnTable zs
+numbers-on {zs} {b} even r t k h = go (eqb (k % 2) 0) refl
+  where
+    go : (e : Bool) → eqb (k % 2) 0 ≡ e → Within farthest (getD zs k (pos 0))
+    go true e =
+        let d = eqb-true (k % 2) 0 e in
+        let at : 2 * (k / 2) ≡ k = omega arith in
+        let l = r .left (k / 2) (omega arith) in
+        let u = r .right (k / 2) (omega arith) in
+        subst (λ (i : ℕ). Within farthest (getD zs i (pos 0))) at (record { low = omega (zarith, t .left); high = omega (zarith, t .right) })
+    go false e =
+        let d = eqb-false (k % 2) 0 e in
+        let at : 2 * (k / 2) + 1 ≡ k = omega arith in
+        let l = r .bottom (k / 2) (omega arith) in
+        let u = r .top (k / 2) (omega arith) in
+        subst (λ (i : ℕ). Within farthest (getD zs i (pos 0))) at (record { low = omega (zarith, t .bottom); high = omega (zarith, t .top) })
 
 -- ---- no side cuts anything off
 pub cuts-nothing : {hs : List Line} {r : List Point} → 3 ≤ length r → All (λ h. All (In h) r) hs → Cuts hs r (some r)

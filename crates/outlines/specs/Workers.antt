@@ -1,4 +1,8 @@
 -- What the workers behind the outline call promise each other.
+--   unreadRefusal w o zs  what the call refuses before it looks at the outline's numbers: 2, 3, 4, then 5
+--   numbersRefusal zs     what it refuses in them: 6, then 7
+--   NumbersOnTable zs     all numbers of an outline are on the table
+--   ReachOnTable b        no number of what lies in the rectangle b is off the table
 --   Beyond w b s          no point of the rectangle b lies strictly inside the side s of the window w
 --   Decides b P           b is true exactly when P holds
 --   LowestAt m n k        of the first n corners in the memory m none comes before that at place k
@@ -12,21 +16,41 @@ use mathlib.Core.Path.{_≡_}
 use mathlib.Core.Bool.{Bool, true, false}
 use mathlib.Core.List.{List, [], _∷_, _++_}
 use Prim.Native.Nat.{ℕ, zero, suc, _+_, _-_, _%_, _<_}
-use lib.IntN.{ℤ, pos}
+use lib.IntN.{ℤ, pos, negℤ}
 use lib.ListN.{length, getD}
 use lib.Seq.{sets}
 use lib.Signed.{_≤ℤ_}
+use Rattle.whole.specs.Within.{Within}
 use Rattle.fraction.specs.Fraction.{LowestOf}
 use Rattle.fraction.specs.declared.Fraction.{Fraction}
 use Rattle.grid.specs.Calls.{answered, written}
+use Rattle.grid.specs.Refusals.{numberOff, first, offTable, windowRefusal}
+use Rattle.grid.specs.Table.{farthest}
 use Rattle.grid.specs.declared.Answer.{Answer}
+use Rattle.grid.specs.declared.Refusal.{Refusal}
 use Rattle.grid.specs.declared.Window.{Window}
 use Rattle.rings.specs.Lists.{All, Turned}
 use Rattle.rings.specs.Points.{Point, Before}
 use Rattle.rings.specs.Rings.{Starts}
 use Rattle.corners.specs.Corners.{gridPoint, cornersOf}
 use Rattle.passes.specs.Memory.{pointIn, ringFrom}
-use Rattle.outlines.specs.Outlines.{RingNumbers}
+use Rattle.outlines.specs.Outlines.{badOrder, badOutline, notConvex, RingNumbers}
+
+-- ---- refusals
+abbrev pub unreadRefusal : Window → ℕ → List ℤ → Refusal
+unreadRefusal w o zs = first (windowRefusal w ∷ badOrder o ∷ badOutline zs ∷ [])
+
+abbrev pub numbersRefusal : List ℤ → Refusal
+numbersRefusal zs = first (offTable numberOff zs ∷ notConvex zs ∷ [])
+
+abbrev pub NumbersOnTable : List ℤ → Type 0
+NumbersOnTable zs = (k : ℕ) → k < length zs → Within farthest (getD zs k (pos 0))
+
+pub record ReachOnTable (b : Window) : Type 0 where
+  pub left : negℤ (pos farthest) ≤ℤ b .left
+  pub right : b .right ≤ℤ pos farthest
+  pub bottom : negℤ (pos farthest) ≤ℤ b .bottom
+  pub top : b .top ≤ℤ pos farthest
 
 abbrev pub Beyond : Window → Window → ℕ → Type 0
 Beyond w b zero = b .right ≤ℤ w .left

@@ -3,6 +3,7 @@ use grid::Answer;
 use grid::Refusal;
 use grid::Window;
 ghost use mathlib.Core.Path.{_≡_};
+ghost use mathlib.Core.Bool.{true};
 ghost use Prim.Native.Nat.{_+_, _-_, _*_, _<_, _≤_};
 ghost use lib.IntN.{pos};
 ghost use lib.ListN.{length};
@@ -14,8 +15,8 @@ ghost use Rattle.rings.specs.Points.{Proper, Before};
 ghost use Rattle.rings.specs.Rings.{Ring};
 ghost use Rattle.passes.specs.Memory.{pointIn, ringFrom, ringIn};
 ghost use Rattle.passes.specs.Outlines.{OutlineOnTable, Reaches};
-ghost use Rattle.outlines.specs.Outlines.{rightCount, outlineRefusal, Clipped, Outline};
-ghost use Rattle.outlines.specs.Workers.{Decides, LowestAt, startedAt, WroteFraction, Wrote, GaveRing};
+ghost use Rattle.outlines.specs.Outlines.{rightCount, Clipped, Outline};
+ghost use Rattle.outlines.specs.Workers.{unreadRefusal, numbersRefusal, NumbersOnTable, ReachOnTable, Decides, LowestAt, startedAt, WroteFraction, Wrote, GaveRing};
 
 mod reach;
 mod uncut;
@@ -32,9 +33,9 @@ fn right_count(n: usize) -> bool
     false
 }
 
-// What the call refuses.
-fn refusal(w: Window, order: u32, outline: &[i32]) -> Refusal
-    ensures { λ r. ⌜ r ≡ outlineRefusal w order (now (outline .entry)) ⌝ }
+// What the call refuses before it looks at the outline's numbers.
+fn unread_refusal(w: Window, order: u32, outline: &[i32]) -> Refusal
+    ensures { λ r. ⌜ r ≡ unreadRefusal w order (now (outline .entry)) ⌝ }
 {
     let first = grid::window_refusal(w);
     if first.number != 0 {
@@ -52,11 +53,23 @@ fn refusal(w: Window, order: u32, outline: &[i32]) -> Refusal
             place: 0,
         };
     }
-    let off = grid::first_off(outline);
-    if off < outline.len() {
+    Refusal {
+        number: 0,
+        place: 0,
+    }
+}
+
+// What the call refuses in the outline's numbers. How far they reach tells whether one is off the table; which one is asked only then.
+fn numbers_refusal(outline: &[i32], reach: Window) -> Refusal
+    requires { ⌜ rightCount (length (now outline)) ≡ true ⌝ }
+    requires { ⌜ Reaches (now outline) reach ⌝ }
+    requires { ⌜ (NumbersOnTable (now outline) → ReachOnTable reach) ⌝ }
+    ensures { λ r. ⌜ r ≡ numbersRefusal (now (outline .entry)) ⌝ }
+{
+    if !reach::on_table(reach) {
         return Refusal {
             number: grid::NUMBER_OFF,
-            place: off,
+            place: grid::first_off(outline),
         };
     }
     if !corners::strictly_convex(outline) {
@@ -226,13 +239,13 @@ fn cut_by_passes(w: Window, reach: Window, order: u32, outline: &[i32], out: &mu
 }
 
 // What the window leaves of an outline in which nothing is refused, the plain cases first: they need no pass.
-fn clipped(w: Window, order: u32, outline: &[i32], out: &mut [i32]) -> Answer
+fn clipped(w: Window, order: u32, outline: &[i32], reach: Window, out: &mut [i32]) -> Answer
     requires { ⌜ WindowOnTable w ⌝ }
     requires { ⌜ order ≤ 23 ⌝ }
     requires { ⌜ OutlineOnTable (now outline) ⌝ }
+    requires { ⌜ Reaches (now outline) reach ⌝ }
     ensures { λ r. ⌜ Given (Clipped w order (now (outline .entry))) r (now (out .entry)) (now (out .exit)) ⌝ }
 {
-    let reach = reach::reach_of(outline);
     if reach::inside(w, reach) {
         return uncut::give_whole(outline, out);
     }
@@ -251,13 +264,22 @@ fn clipped(w: Window, order: u32, outline: &[i32], out: &mut [i32]) -> Answer
 pub fn clip_outline(w: Window, order: u32, outline: &[i32], out: &mut [i32]) -> Answer
     ensures { λ r. ⌜ Outline w order (now (outline .entry)) r (now (out .entry)) (now (out .exit)) ⌝ }
 {
-    let r = refusal(w, order, outline);
-    if r.number != 0 {
+    let unread = unread_refusal(w, order, outline);
+    if unread.number != 0 {
         return Answer {
-            number: r.number,
-            place: r.place,
+            number: unread.number,
+            place: unread.place,
             count: 0,
         };
     }
-    clipped(w, order, outline, out)
+    let reach = reach::reach_of(outline);
+    let bad = numbers_refusal(outline, reach);
+    if bad.number != 0 {
+        return Answer {
+            number: bad.number,
+            place: bad.place,
+            count: 0,
+        };
+    }
+    clipped(w, order, outline, reach, out)
 }

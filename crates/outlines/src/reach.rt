@@ -2,13 +2,15 @@
 ghost use mathlib.Core.Path.{_≡_};
 ghost use mathlib.Core.Bool.{true};
 ghost use Prim.Native.Nat.{ℕ};
+ghost use lib.IntN.{ℤ};
 ghost use lib.Signed.{_≤ℤ_};
 ghost use Rattle.passes.specs.Outlines.{Reaches, Clear};
-ghost use Rattle.outlines.specs.Workers.{Beyond};
+ghost use Rattle.outlines.specs.Workers.{NumbersOnTable, ReachOnTable, Beyond, Decides};
 use grid::Window;
 
 fn lesser(a: i32, b: i32) -> i32
     ensures { λ r. ⌜ (r ≤ℤ a) × (r ≤ℤ b) ⌝ }
+    ensures { λ r. ⌜ ((c : ℤ) → c ≤ℤ a → c ≤ℤ b → c ≤ℤ r) ⌝ }
 {
     if b < a {
         return b;
@@ -18,6 +20,7 @@ fn lesser(a: i32, b: i32) -> i32
 
 fn greater(a: i32, b: i32) -> i32
     ensures { λ r. ⌜ (a ≤ℤ r) × (b ≤ℤ r) ⌝ }
+    ensures { λ r. ⌜ ((c : ℤ) → a ≤ℤ c → b ≤ℤ c → r ≤ℤ c) ⌝ }
 {
     if a < b {
         return b;
@@ -25,9 +28,10 @@ fn greater(a: i32, b: i32) -> i32
     a
 }
 
-// A rectangle that every corner lies in.
+// A rectangle that every corner lies in. It is started at the table's ends, so that it leaves the table only where a corner does.
 pub fn reach_of(outline: &[i32]) -> Window
     ensures { λ r. ⌜ Reaches (now (outline .entry)) r ⌝ }
+    ensures { λ r. ⌜ (NumbersOnTable (now (outline .entry)) → ReachOnTable r) ⌝ }
 {
     let mut left: i32 = 16383;
     let mut bottom: i32 = 16383;
@@ -50,6 +54,22 @@ pub fn reach_of(outline: &[i32]) -> Window
         right,
         top,
     }
+}
+
+// Whether what reaches to b lies on the table: the least numbers are not too low and the greatest not too high.
+pub fn on_table(b: Window) -> bool
+    ensures { λ r. ⌜ Decides r (ReachOnTable b) ⌝ }
+{
+    if b.left < -16383 {
+        return false;
+    }
+    if 16383 < b.right {
+        return false;
+    }
+    if b.bottom < -16383 {
+        return false;
+    }
+    b.top <= 16383
 }
 
 // Whether no side of w cuts anything off that lies in b.

@@ -6,14 +6,11 @@ use Rattle.outlines.proofs.Reaching.{whole-left, nothing-left}
 use Rattle.outlines.proofs.clipped.Statement.{statement}
 use Rattle.outlines.proofs.clipped.Tie as tie
 
-reach-of-requires : tie.Need-reach-of-requires
-reach-of-requires c κs = search needs
-
 inside-requires : tie.Need-inside-requires
 inside-requires c κs = search needs
 
 give-whole-requires : tie.Need-give-whole-requires
-give-whole-requires c κs = let t = c .before .before .before .before .pre .1 .1 in (t .even, (t .few, outline-ring t))
+give-whole-requires c κs = let t = c .before .before .before .pre .1 .1 .0 in (t .even, (t .few, outline-ring t))
 
 same-length : tie.Need-same-length
 same-length c = search needs
@@ -21,19 +18,19 @@ same-length c = search needs
 returns : tie.Need-returns
 returns c =
     let i = c .before .before .before in
-    let r = i .before .before in
-    let p = r .before .pre in
-    let g = outline-ring (p .1 .1) in
-    give-ring (p .1 .0) (p .1 .1) (whole-left (r .before .args .w) (r .reach-of .ensures) (r .before .args .order) (g .three) (i .before .inside .ensures (i .if1 .taken))) (c .before .give-whole .ensures)
+    let s = i .before .before in
+    let p = s .pre in
+    let g = outline-ring (p .1 .1 .0) in
+    give-ring (p .1 .0) (p .1 .1 .0) (whole-left (s .args .w) (p .1 .1 .1) (s .args .order) (g .three) (i .before .inside .ensures (i .if1 .taken))) (c .before .give-whole .ensures)
 
 apart-requires : tie.Need-apart-requires
 apart-requires c κs = search needs
 
 returns-2 : tie.Need-returns-2
 returns-2 c =
-    let r = c .before .before .before .before in
-    let p = r .before .pre in
-    give-nothing (p .1 .0) (p .1 .1) (nothing-left (r .before .args .w) (r .reach-of .ensures) (p .1 .0) (outline-ring (p .1 .1)) (c .before .apart .ensures (c .if2 .taken)))
+    let s = c .before .before .before .before in
+    let p = s .pre in
+    give-nothing (p .1 .0) (p .1 .1 .0) (nothing-left (s .args .w) (p .1 .1 .1) (p .1 .0) (outline-ring (p .1 .1 .0)) (c .before .apart .ensures (c .if2 .taken)))
 
 cut-by-passes-requires : tie.Need-cut-by-passes-requires
 cut-by-passes-requires c κs = search needs
@@ -48,7 +45,6 @@ pub clipped-spec : {M : Type 1} → statement M
 clipped-spec =
     tie.close
     (tie.spec
-    reach-of-requires
     inside-requires
     give-whole-requires
     same-length

@@ -1,5 +1,5 @@
--- `outlines::reach::reach_of` meets its contract: the rectangle so far is round the corners so far. Assumes nothing.
-use Prim.Native.Nat.{_-_, _^_, _<_}
+-- `outlines::reach::reach_of` meets its contract: the rectangle so far is round the corners so far, and on the table with them. Assumes nothing.
+use Prim.Native.Nat.{_+_, _*_, _-_, _^_, _<_}
 use native.Mathlib.Omega.{arith}
 use borrow.Author.Needs.{needs}
 use lib.IntN.{ℤ}
@@ -8,18 +8,22 @@ use mir.Syntax.{w32}
 use mir.Val.{toZ, ofZ}
 use Rattle.whole.proofs.Comparisons.{back}
 use Rattle.whole.proofs.Order.{zarith}
+use Rattle.grid.specs.declared.Window.{Window}
 use Rattle.passes.specs.Outlines.{Round}
+use Rattle.outlines.specs.Workers.{NumbersOnTable, ReachOnTable}
 use Rattle.outlines.proofs.Reaching.{round-more, round-all}
 use Rattle.outlines.proofs.reach.reach_of.Statement.{statement}
 use Rattle.outlines.proofs.reach.reach_of.Tie as tie
 
 abbrev Inv-loop : tie.InvT-loop
-Inv-loop outline left₀ bottom₀ right₀ top₀ n k₀ left bottom right top k = Round outline k (record { left = toZ w32 left; bottom = toZ w32 bottom; right = toZ w32 right; top = toZ w32 top })
+Inv-loop outline left₀ bottom₀ right₀ top₀ n k₀ left bottom right top k =
+    let b : Window = record { left = toZ w32 left; bottom = toZ w32 bottom; right = toZ w32 right; top = toZ w32 top } in
+    Round outline k b × (NumbersOnTable outline → ReachOnTable b)
 
 abbrev μ-loop : tie.MeasureT-loop
 μ-loop outline left₀ bottom₀ right₀ top₀ n k₀ left bottom right top k = n - k
 
--- the lesser and the greater of two numbers, as they are read back
+-- the lesser and the greater of two numbers, as they are read back, and a bound c of both
 module _ (r x : ℤ) {a : ℤ} (hr : mag r < 2 ^ 31) (hx : mag x < 2 ^ 31) where
   lower : (r ≤ℤ a) × (r ≤ℤ toZ w32 (ofZ w32 x)) → (toZ w32 (ofZ w32 r) ≤ℤ a) × (toZ w32 (ofZ w32 r) ≤ℤ x)
   lower p = let e = back w32 r hr in let f = back w32 x hx in let q = p .0 in let s = p .1 in (omega zarith, omega zarith)
@@ -27,8 +31,17 @@ module _ (r x : ℤ) {a : ℤ} (hr : mag r < 2 ^ 31) (hx : mag x < 2 ^ 31) where
   upper : (a ≤ℤ r) × (toZ w32 (ofZ w32 x) ≤ℤ r) → (a ≤ℤ toZ w32 (ofZ w32 r)) × (x ≤ℤ toZ w32 (ofZ w32 r))
   upper p = let e = back w32 r hr in let f = back w32 x hx in let q = p .0 in let s = p .1 in (omega zarith, omega zarith)
 
+  lower-least : {c : ℤ} → ((c : ℤ) → c ≤ℤ a → c ≤ℤ toZ w32 (ofZ w32 x) → c ≤ℤ r) → c ≤ℤ a → c ≤ℤ x → c ≤ℤ toZ w32 (ofZ w32 r)
+  lower-least {c} p h k = let e = back w32 r hr in let f = back w32 x hx in let q = p c h (omega zarith) in omega zarith
+
+  upper-most : {c : ℤ} → ((c : ℤ) → a ≤ℤ c → toZ w32 (ofZ w32 x) ≤ℤ c → r ≤ℤ c) → a ≤ℤ c → x ≤ℤ c → toZ w32 (ofZ w32 r) ≤ℤ c
+  upper-most {c} p h k = let e = back w32 r hr in let f = back w32 x hx in let q = p c h (omega zarith) in omega zarith
+
 loop-holds : tie.Need-loop-holds Inv-loop μ-loop
-loop-holds c = record { left = λ k l. absurd (omega arith); right = λ k l. absurd (omega arith); bottom = λ k l. absurd (omega arith); top = λ k l. absurd (omega arith) }
+loop-holds c = (
+  record { left = λ k l. absurd (omega arith); right = λ k l. absurd (omega arith); bottom = λ k l. absurd (omega arith); top = λ k l. absurd (omega arith) },
+  λ _. record { left = record { le = tt }; right = record { le = tt }; bottom = record { le = tt }; top = record { le = tt } },
+)
 
 mul-x : tie.Need-mul-x Inv-loop μ-loop
 mul-x c = search needs
@@ -71,17 +84,33 @@ loop-less c = omega arith
 
 loop-again : tie.Need-loop-again Inv-loop μ-loop
 loop-again c =
-    let l = c .before .before .before in
-    let y = l .before in
+    let t = c .greater2 in
+    let r = c .before .greater in
+    let b = c .before .before .lesser2 in
+    let l = c .before .before .before .lesser in
+    let y = c .before .before .before .before in
     let x = y .before in
-    round-more (x .before .before .loop .inv)
-    (lower (l .lesser .result) _ (l .lesser .ok) (x .x .given) (l .lesser .ensures))
-    (upper (c .before .greater .result) _ (c .before .greater .ok) (x .x .given) (c .before .greater .ensures))
-    (lower (c .before .before .lesser2 .result) _ (c .before .before .lesser2 .ok) (y .y .given) (c .before .before .lesser2 .ensures))
-    (upper (c .greater2 .result) _ (c .greater2 .ok) (y .y .given) (c .greater2 .ensures))
+    let i = x .before .before .loop .inv in (
+      round-more (i .0)
+          (lower (l .result) _ (l .ok) (x .x .given) (l .ensures .0))
+          (upper (r .result) _ (r .ok) (x .x .given) (r .ensures .0))
+          (lower (b .result) _ (b .ok) (y .y .given) (b .ensures .0))
+          (upper (t .result) _ (t .ok) (y .y .given) (t .ensures .0)),
+      λ on.
+          let before = i .1 on in
+          let h = x .before .loop-test .taken in
+          let u = on (2 * x .before .before .loop .k) (omega arith) in
+          let v = on (2 * x .before .before .loop .k + 1) (omega arith) in
+          record {
+            left = lower-least (l .result) _ (l .ok) (x .x .given) (l .ensures .1) (before .left) (u .low);
+            right = upper-most (r .result) _ (r .ok) (x .x .given) (r .ensures .1) (before .right) (u .high);
+            bottom = lower-least (b .result) _ (b .ok) (y .y .given) (b .ensures .1) (before .bottom) (v .low);
+            top = upper-most (t .result) _ (t .ok) (y .y .given) (t .ensures .1) (before .top) (v .high);
+          },
+    )
 
 returns : tie.Need-returns Inv-loop μ-loop
-returns c = round-all (c .loop-test .left) (c .before .loop .inv)
+returns c = let i = c .before .loop .inv in (round-all (c .loop-test .left) (i .0), i .1)
 
 pub reach-of-spec : {M : Type 1} → statement M
 reach-of-spec =
