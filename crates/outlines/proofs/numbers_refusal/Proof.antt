@@ -1,5 +1,5 @@
 -- `outlines::numbers_refusal` meets its contract: the reach is on the table exactly when all numbers are. Assumes nothing.
-use mathlib.Core.Path.{_≡_, sym, _∙_}
+use mathlib.Core.Path.{sym, _∙_}
 use borrow.Author.Needs.{needs}
 use borrow.Author.Tests.{lt-ltb, le-ltb, not-true, not-false}
 use denote.Ref.{now}
