@@ -16,6 +16,7 @@ pub mod Alike
 pub mod Before
 pub mod Unique
 pub mod Start
+pub mod Valley
 pub mod Orders
 pub mod Windows
 pub mod Theorems

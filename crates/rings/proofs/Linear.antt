@@ -30,7 +30,7 @@ data Triples (R : Point → Point → Point → Type 0) : List Point → Type 0 
   three₂ : {a b : Point} → Triples R (a ∷ b ∷ [])
   three : {a b c : Point} {r : List Point} → R a b c → Triples R (b ∷ c ∷ r) → Triples R (a ∷ b ∷ c ∷ r)
 
-all-of-places : {P : Point → Type 0} (r : List Point) → ((t : ℕ) → t < length r → P (at r t)) → All P r
+pub all-of-places : {P : Point → Type 0} (r : List Point) → ((t : ℕ) → t < length r → P (at r t)) → All P r
 all-of-places [] f = ∅
 all-of-places (x ∷ r) f = f 0 (omega arith) ◂ all-of-places r (λ t h. f (suc t) (omega arith))
 

@@ -8,7 +8,7 @@ use lib.ListN.{length}
 use lib.IntN.{ℤ}
 use Rattle.rings.specs.Lists.{All, Turned}
 use Rattle.rings.specs.Points.{Point, Line, Left, In, Over, Out, Under, On, Real, Proper, Same, Alike, Before}
-use Rattle.rings.specs.Rings.{at, StrictlyConvex, Ring, InRing, Starts}
+use Rattle.rings.specs.Rings.{at, Edge, StrictlyConvex, Ring, InRing, Starts}
 use Rattle.rings.specs.Cuts.{Crossing, Across, Pass, CutBy, OneCut, Inside, Cuts, Remainder, NoArea, Outcome, Result, Agree}
 use Rattle.rings.specs.Windows.{sides, InWindow}
 use Rattle.rings.proofs.Convex.{CCW}
@@ -21,6 +21,7 @@ use Rattle.rings.proofs.Same as same
 use Rattle.rings.proofs.Alike as alike
 use Rattle.rings.proofs.Unique as unique
 use Rattle.rings.proofs.Start as starts
+use Rattle.rings.proofs.Valley as valleys
 use Rattle.rings.proofs.Orders as orders
 use Rattle.rings.proofs.Windows as windows
 
@@ -118,6 +119,10 @@ start = starts.start
 -- from a corner that no other comes before (the laws of that order are in Before)
 pub starts-at : (v : Point) (vs : List Point) → Ring (v ∷ vs) → All (λ q. Before q v → ⊥) vs → Starts (v ∷ vs)
 starts-at = starts.starts-at
+
+-- and a corner that neither neighbour comes before is one
+pub valley : {r : List Point} {h i k : ℕ} → Ring r → Edge (length r) h i → Edge (length r) i k → (Before (at r h) (at r i) → ⊥) → (Before (at r k) (at r i) → ⊥) → (j : ℕ) → j < length r → Before (at r j) (at r i) → ⊥
+valley = valleys.valley
 
 pub starts-alike : {r s t : List Point} → Ring r → Turned r s → Turned r t → Starts s → Starts t → Alike s t
 starts-alike = starts.starts-alike
