@@ -3,6 +3,7 @@ pub mod Unique
 pub mod Passes
 pub mod Widths
 pub mod Memory
+pub mod Downhill
 pub mod Lowest
 pub mod Writing
 pub mod Traces

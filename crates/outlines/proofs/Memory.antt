@@ -8,8 +8,9 @@ use native.Mathlib.Omega.{arith}
 use lib.IntN.{ℤ}
 use Rattle.rings.specs.Lists.{All, _◂_, Turned}
 use Rattle.rings.specs.Points.{Point}
+use Rattle.rings.specs.Rings.{at}
 use Rattle.passes.specs.Memory.{pointIn, ringFrom, ringIn}
-use Rattle.passes.proofs.Memories.{ring-split}
+use Rattle.passes.proofs.Memories.{ring-at, ring-split}
 use Rattle.outlines.specs.Workers.{startedAt}
 
 module _ (m : List ℤ) where
@@ -21,6 +22,9 @@ module _ (m : List ℤ) where
       go : Dec (suc i ≤ k) → (suc i ≤ k → P (pointIn m k)) → P (pointIn m k)
       go (yes e) f = f e
       go (no e) f = let q : i ≡ k = omega arith in subst (λ (j : ℕ). P (pointIn m j)) q p
+
+  pub memory-at : {n k : ℕ} → k < n → at (ringIn m n) k ≡ pointIn m k
+  memory-at {n} {k} h = ring-at m 0 n k h ∙ ap (pointIn m) (zero-add k)
 
   pub turned-at : {n k : ℕ} → k ≤ n → Turned (ringIn m n) (startedAt m n k)
   turned-at {n} {k} h =

@@ -1,30 +1,28 @@
 -- An outline's own corners: their numbers over 1 are in lowest terms, the list parts at every even place, and the corner that no other comes before starts the ring.
 use mathlib.Core.Path.{_≡_, refl, sym, ap, _∙_, subst}
-use mathlib.Core.List.{List, [], _∷_, _++_, append-assoc}
+use mathlib.Core.List.{List, [], _∷_, _++_}
 use Prim.Native.Nat.{ℕ, suc, _+_, _-_, _*_, _%_, _≤_, _<_}
 use native.Mathlib.Numerals.{towards-suc}
 use native.Mathlib.Omega.{arith}
 use lib.IntN.{ℤ, pos, _*ℤ_}
 use lib.ListN.{length, getD, take, drop, length-drop, take-append-drop, drop-of-length-le}
-use lib.Seq.{length-take-le, take-all, take-suc, drop-cons, sets}
-use lib.Signed.{_≤ℤ_, _<ℤ_}
+use lib.Seq.{length-take-le, drop-cons, sets}
 use Rattle.whole.proofs.Expressions.{con, _⊗_, x0}
 use Rattle.whole.proofs.Polynomials.{ring}
-use Rattle.whole.proofs.Order.{zarith, ≤-antisym}
 use Rattle.fraction.specs.Fraction.{LowestOf}
 use Rattle.fraction.proofs.LowestTerms.{lowest-over-one}
 use Rattle.grid.proofs.Fill.{Filled, filled-put}
-use Rattle.rings.specs.Lists.{All, ∅, _◂_, Turned}
-use Rattle.rings.specs.Points.{Point, Proper, Before, lower, level}
-use Rattle.rings.specs.Rings.{Ring, Starts}
-use Rattle.rings.proofs.Lists.{all-append, all-left, all-tail, all-zip, turned-all}
-use Rattle.rings.proofs.Before.{before-asym, before-trans}
+use Rattle.rings.specs.Lists.{All, Turned}
+use Rattle.rings.specs.Points.{Point, Before}
+use Rattle.rings.specs.Rings.{at, Ring, Starts}
+use Rattle.rings.proofs.Lists.{all-tail, turned-all}
+use Rattle.rings.proofs.Linear.{all-of-places}
 use Rattle.rings.proofs.Start.{turned-ring}
 use Rattle.rings.proofs.Theorems.{starts-at}
 use Rattle.corners.specs.Corners.{gridPoint, cornersOf}
-use Rattle.corners.proofs.Places.{count}
+use Rattle.corners.proofs.Places.{count, point-at}
 use Rattle.outlines.specs.Outlines.{RingNumbers, no-corner, corner}
-use Rattle.outlines.specs.Workers.{cornerIn, LowestPlace}
+use Rattle.outlines.specs.Workers.{LowestIn, cornerIn, LowestPlace}
 
 -- ---- the numbers over 1
 unfoldable pub overOne : List ℤ → List ℤ
@@ -54,12 +52,6 @@ module _ (zs : List ℤ) (i : ℕ) where
       let h₀ : i < length zs = omega arith in
       let h₁ : suc i < length zs = omega arith in
       simp towards-suc (rw (drop-cons zs i (pos 0) h₀, drop-cons zs (suc i) (pos 0) h₁))
-
-  take-two : i + 2 ≤ length zs → take (i + 2) zs ≡ take i zs ++ (getD zs i (pos 0) ∷ getD zs (i + 1) (pos 0) ∷ [])
-  take-two h =
-      let h₀ : i < length zs = omega arith in
-      let h₁ : suc i < length zs = omega arith in
-      simp towards-suc (rw (take-suc zs (suc i) (pos 0) h₁, take-suc zs i (pos 0) h₀) (append-assoc (take i zs) (getD zs i (pos 0) ∷ []) (getD zs (suc i) (pos 0) ∷ [])))
 
   pub next-own : {K out out₀ : List ℤ} {k : ℕ} → i + 2 ≤ length zs → length K ≤ length out₀ → Filled K (overOne (drop i zs)) out out₀ k
       → Filled K (overOne (drop (i + 2) zs)) (sets out k (getD zs i (pos 0) ∷ pos 1 ∷ getD zs (i + 1) (pos 0) ∷ pos 1 ∷ [])) out₀ (k + 4)
@@ -96,78 +88,25 @@ module _ (zs : List ℤ) (k : ℕ) (e : k % 2 ≡ 0) (h : k ≤ length zs) where
   pub own-turned : Turned (cornersOf zs) (cornersOf (drop k zs) ++ cornersOf (take k zs))
   own-turned = record { front = cornersOf (take k zs); back = cornersOf (drop k zs); was = corners-split; now = refl }
 
--- ---- which corner comes first: over 1, by the numbers themselves
-times-one : (z : ℤ) → z *ℤ pos 1 ≡ z
+-- ---- the corners by their places
+pub times-one : (z : ℤ) → z *ℤ pos 1 ≡ z
 times-one z = ring (z ∷ []) (x0 ⊗ con (pos 1)) x0 tt
 
-module _ {u v x y : ℤ} where
-  pub lower-before : v <ℤ y → Before (gridPoint u v) (gridPoint x y)
-  lower-before h = lower (omega (zarith, times-one v, times-one y))
-
-  pub left-before : v ≤ℤ y → y ≤ℤ v → u <ℤ x → Before (gridPoint u v) (gridPoint x y)
-  left-before h k l = level (ap (λ (z : ℤ). z *ℤ pos 1) (≤-antisym h k)) (omega (zarith, times-one u, times-one x))
-
-  pub higher-not-before : y <ℤ v → Before (gridPoint u v) (gridPoint x y) → ⊥
-  higher-not-before h (lower l) = omega (zarith, times-one v, times-one y)
-  higher-not-before h (level l k) = omega (zarith, times-one v, times-one y)
-
-  pub right-not-before : y ≤ℤ v → x ≤ℤ u → Before (gridPoint u v) (gridPoint x y) → ⊥
-  right-not-before h k (lower l) = omega (zarith, times-one v, times-one y)
-  right-not-before h k (level l m) = omega (zarith, times-one u, times-one x)
-
--- ---- a loop that has seen the corners before place i: the lowest stands at k and is (x, y)
-pub record LowestYet (zs : List ℤ) (i k : ℕ) (x y : ℤ) : Type 0 where
-  pub even : k % 2 ≡ 0
-  pub inside : k < i
-  pub is-x : x ≡ getD zs k (pos 0)
-  pub is-y : y ≡ getD zs (k + 1) (pos 0)
-  pub least : All (λ q. Before q (gridPoint x y) → ⊥) (cornersOf (take i zs))
+pub two-a-corner : (zs : List ℤ) {k : ℕ} → k < length (cornersOf zs) → 2 * k + 2 ≤ length zs
+two-a-corner zs h = omega (arith, count zs)
 
 module _ (zs : List ℤ) where
-  -- one corner more
-  one-more : {P : Point → Type 0} (i : ℕ) → i % 2 ≡ 0 → i + 2 ≤ length zs → P (cornerIn zs i) → All P (cornersOf (take i zs)) → All P (cornersOf (take (i + 2) zs))
-  unfolding cornersOf
-  one-more {P} i e h p a =
-      subst (All P)
-      (sym (ap cornersOf (take-two zs i h) ∙ corners-append (take i zs) (getD zs i (pos 0) ∷ getD zs (i + 1) (pos 0) ∷ []) (even-front zs i e (omega arith))))
-      (all-append a (p ◂ ∅))
+  pub own-at : {k : ℕ} → k < length (cornersOf zs) → at (cornersOf zs) k ≡ cornerIn zs (2 * k)
+  own-at {k} h = point-at zs k h
 
-  pub first-yet : {x y : ℤ} → 2 ≤ length zs → x ≡ getD zs 0 (pos 0) → y ≡ getD zs 1 (pos 0) → LowestYet zs 2 0 x y
-  unfolding cornersOf
-  first-yet h p q = record {
-    even = refl;
-    inside = omega arith;
-    is-x = p;
-    is-y = q;
-    least = one-more 0 refl h (subst (λ (w : Point). Before (cornerIn zs 0) w → ⊥) (λ t. gridPoint (sym p t) (sym q t)) (λ b. before-asym b b)) ∅;
+  pub lowest-place : {k : ℕ} → LowestIn (cornersOf zs) k → LowestPlace zs (2 * k)
+  lowest-place {k} s = record {
+    even = omega arith;
+    inside = let h = two-a-corner zs (s .inside) in omega arith;
+    least = all-of-places (cornersOf zs) (λ i h b. s .least i h (subst (Before (at (cornersOf zs) i)) (sym (own-at (s .inside))) b));
   }
 
-  module _ {i k : ℕ} {x y : ℤ} (e : i % 2 ≡ 0) (h : i + 2 ≤ length zs) (s : LowestYet zs i k x y) where
-    pub stays-yet : (Before (cornerIn zs i) (gridPoint x y) → ⊥) → LowestYet zs (i + 2) k x y
-    stays-yet n = record { even = s .even; inside = let l = s .inside in omega arith; is-x = s .is-x; is-y = s .is-y; least = one-more i e h n (s .least) }
-
-    pub moves-yet : {u v : ℤ} → Ring (cornersOf zs) → u ≡ getD zs i (pos 0) → v ≡ getD zs (i + 1) (pos 0) → Before (cornerIn zs i) (gridPoint x y) → LowestYet zs (i + 2) i u v
-    moves-yet {u} {v} g p q b =
-        let proper = all-left (cornersOf (take i zs)) (cornersOf (drop i zs)) (subst (All Proper) (corners-split zs i e (omega arith)) (g .proper)) in
-        let here : gridPoint u v ≡ cornerIn zs i = λ t. gridPoint (p t) (q t) in
-        record {
-          even = e;
-          inside = omega arith;
-          is-x = p;
-          is-y = q;
-          least = subst (λ (w : Point). All (λ r. Before r w → ⊥) (cornersOf (take (i + 2) zs))) (sym here)
-              (one-more i e h (λ c. before-asym c c) (all-zip (λ r hr n c. n (before-trans hr (omega zarith) (omega zarith) c b)) proper (s .least)));
-        }
-
-  pub lowest-yet : {i k : ℕ} {x y : ℤ} → i ≡ length zs → LowestYet zs i k x y → LowestPlace zs k
-  lowest-yet {i} {k} {x} {y} e s = record {
-    even = s .even;
-    inside = let l = s .inside in omega arith;
-    least = subst (λ (w : Point). All (λ r. Before r w → ⊥) (cornersOf zs)) (λ t. gridPoint (s .is-x t) (s .is-y t))
-        (subst (λ (l : List ℤ). All (λ r. Before r (gridPoint x y) → ⊥) (cornersOf l)) (take-all i zs (omega arith)) (s .least));
-  }
-
-  -- ---- the ring started there
+  -- the ring started there
   pub own-starts : {k : ℕ} → length zs % 2 ≡ 0 → Ring (cornersOf zs) → LowestPlace zs k → Starts (cornersOf (drop k zs) ++ cornersOf (take k zs))
   unfolding cornersOf
   own-starts {k} even g s =

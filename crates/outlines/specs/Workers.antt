@@ -5,6 +5,8 @@
 --   ReachOnTable b        no number of what lies in the rectangle b is off the table
 --   Beyond w b s          no point of the rectangle b lies strictly inside the side s of the window w
 --   Decides b P           b is true exactly when P holds
+--   LowestIn r k          of the corners of the ring r none comes before that at place k
+--   Forward r k           the walk down from the first corner of r forward ends at place k: at the lowest corner, or at the first, where the second does not come before it
 --   LowestAt m n k        of the first n corners in the memory m none comes before that at place k
 --   startedAt m n k       these corners, started at place k
 --   WroteFraction n d k before after   n/d in lowest terms is written at place k, the numerator before the denominator
@@ -31,7 +33,7 @@ use Rattle.grid.specs.declared.Refusal.{Refusal}
 use Rattle.grid.specs.declared.Window.{Window}
 use Rattle.rings.specs.Lists.{All, Turned}
 use Rattle.rings.specs.Points.{Point, Before}
-use Rattle.rings.specs.Rings.{Starts}
+use Rattle.rings.specs.Rings.{at, Starts}
 use Rattle.corners.specs.Corners.{gridPoint, cornersOf}
 use Rattle.passes.specs.Memory.{pointIn, ringFrom}
 use Rattle.outlines.specs.Outlines.{badOrder, badOutline, notConvex, RingNumbers}
@@ -61,6 +63,14 @@ Beyond w b (suc (suc (suc s))) = w .top ≤ℤ b .bottom
 pub record Decides (b : Bool) (P : Type 0) : Type 0 where
   pub yes : b ≡ true → P
   pub no : b ≡ false → P → ⊥
+
+pub record LowestIn (r : List Point) (k : ℕ) : Type 0 where
+  pub inside : k < length r
+  pub least : (i : ℕ) → i < length r → Before (at r i) (at r k) → ⊥
+
+pub data Forward (r : List Point) : ℕ → Type 0 where
+  stays : (Before (at r 1) (at r 0) → ⊥) → Forward r 0
+  moves : {k : ℕ} → 0 < k → LowestIn r k → Forward r k
 
 pub record LowestAt (m : List ℤ) (n k : ℕ) : Type 0 where
   pub inside : k < n

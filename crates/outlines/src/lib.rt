@@ -4,7 +4,7 @@ use grid::Refusal;
 use grid::Window;
 ghost use mathlib.Core.Path.{_≡_};
 ghost use mathlib.Core.Bool.{true};
-ghost use Prim.Native.Nat.{_+_, _-_, _*_, _<_, _≤_};
+ghost use Prim.Native.Nat.{_+_, _-_, _*_, _≤_};
 ghost use lib.IntN.{pos};
 ghost use lib.ListN.{length};
 ghost use lib.Signed.{_<ℤ_};
@@ -16,7 +16,7 @@ ghost use Rattle.rings.specs.Rings.{Ring};
 ghost use Rattle.passes.specs.Memory.{pointIn, ringFrom, ringIn};
 ghost use Rattle.passes.specs.Outlines.{OutlineOnTable, Reaches};
 ghost use Rattle.outlines.specs.Outlines.{rightCount, Clipped, Outline};
-ghost use Rattle.outlines.specs.Workers.{unreadRefusal, numbersRefusal, NumbersOnTable, ReachOnTable, Decides, LowestAt, startedAt, WroteFraction, Wrote, GaveRing};
+ghost use Rattle.outlines.specs.Workers.{unreadRefusal, numbersRefusal, NumbersOnTable, ReachOnTable, Decides, LowestIn, Forward, LowestAt, startedAt, WroteFraction, Wrote, GaveRing};
 
 mod reach;
 mod uncut;
@@ -102,22 +102,46 @@ fn comes_before(m: &[i32], i: usize, j: usize) -> bool
     a < b
 }
 
-// The place of the lowest of the first n corners, of those the leftmost.
-fn lowest_corner(m: &[i32], n: usize) -> usize
-    requires { ⌜ 0 < n ⌝ }
+// The place to which the walk forward from the first corner comes down: it goes on while the next corner comes before.
+fn down_forward(m: &[i32], n: usize) -> usize
     requires { ⌜ 4 * n ≤ length (now m) ⌝ }
-    requires { ⌜ All Proper (ringIn (now m) n) ⌝ }
-    ensures { λ r. ⌜ LowestAt (now (m .entry)) n r ⌝ }
+    requires { ⌜ Ring (ringIn (now m) n) ⌝ }
+    ensures { λ r. ⌜ Forward (ringIn (now (m .entry)) n) r ⌝ }
 {
-    let mut lowest = 0;
-    let mut i = 1;
-    while i < n {
-        if comes_before(m, i, lowest) {
-            lowest = i;
-        }
+    let mut i = 0;
+    while i + 1 < n && comes_before(m, i + 1, i) {
         i += 1;
     }
-    lowest
+    i
+}
+
+// The place to which the walk back from the first corner comes down, where the walk forward stays.
+fn down_back(m: &[i32], n: usize) -> usize
+    requires { ⌜ 4 * n ≤ length (now m) ⌝ }
+    requires { ⌜ Ring (ringIn (now m) n) ⌝ }
+    requires { ⌜ Forward (ringIn (now m) n) 0 ⌝ }
+    ensures { λ r. ⌜ LowestIn (ringIn (now (m .entry)) n) r ⌝ }
+{
+    let mut i = 0;
+    let mut j = n - 1;
+    while comes_before(m, j, i) {
+        i = j;
+        j -= 1;
+    }
+    i
+}
+
+// The place of the lowest of the first n corners, of those the leftmost: down from the first, whichever way that is.
+fn lowest_corner(m: &[i32], n: usize) -> usize
+    requires { ⌜ 4 * n ≤ length (now m) ⌝ }
+    requires { ⌜ Ring (ringIn (now m) n) ⌝ }
+    ensures { λ r. ⌜ LowestAt (now (m .entry)) n r ⌝ }
+{
+    let i = down_forward(m, n);
+    if i == 0 {
+        return down_back(m, n);
+    }
+    i
 }
 
 // Writes n/d in lowest terms at place k of out, the numerator before the denominator.

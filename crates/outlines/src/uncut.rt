@@ -1,36 +1,67 @@
 // An outline that lies in the window whole: its own corners, four numbers each.
 use grid::Answer;
 ghost use mathlib.Core.Path.{_≡_};
-ghost use Prim.Native.Nat.{_*_, _%_, _≤_};
+ghost use Prim.Native.Nat.{_+_, _*_, _%_, _≤_};
 ghost use lib.ListN.{length};
+ghost use Rattle.rings.specs.Points.{Before};
 ghost use Rattle.rings.specs.Rings.{Ring};
 ghost use Rattle.corners.specs.Corners.{cornersOf};
-ghost use Rattle.outlines.specs.Workers.{LowestPlace, Wrote, GaveRing};
+ghost use Rattle.outlines.specs.Workers.{Decides, LowestIn, Forward, cornerIn, LowestPlace, Wrote, GaveRing};
 
-// The place of the lowest corner, of those the leftmost.
+// Whether the corner i of an outline lies lower than the corner j, or as low and further left.
+fn comes_before(c: &[i32], i: usize, j: usize) -> bool
+    requires { ⌜ 2 * i + 2 ≤ length (now c) ⌝ }
+    requires { ⌜ 2 * j + 2 ≤ length (now c) ⌝ }
+    ensures { λ r. ⌜ Decides r (Before (cornerIn (now (c .entry)) (2 * i)) (cornerIn (now (c .entry)) (2 * j))) ⌝ }
+{
+    let p = 2 * i;
+    let q = 2 * j;
+    let y = c[p + 1];
+    let v = c[q + 1];
+    if y == v {
+        return c[p] < c[q];
+    }
+    y < v
+}
+
+// The corner to which the walk forward from the first comes down: it goes on while the next corner comes before.
+fn down_forward(c: &[i32]) -> usize
+    requires { ⌜ Ring (cornersOf (now c)) ⌝ }
+    ensures { λ r. ⌜ Forward (cornersOf (now (c .entry))) r ⌝ }
+{
+    let n = c.len() / 2;
+    let mut i = 0;
+    while i + 1 < n && comes_before(c, i + 1, i) {
+        i += 1;
+    }
+    i
+}
+
+// The corner to which the walk back from the first comes down, where the walk forward stays.
+fn down_back(c: &[i32]) -> usize
+    requires { ⌜ Ring (cornersOf (now c)) ⌝ }
+    requires { ⌜ Forward (cornersOf (now c)) 0 ⌝ }
+    ensures { λ r. ⌜ LowestIn (cornersOf (now (c .entry))) r ⌝ }
+{
+    let mut i = 0;
+    let mut j = c.len() / 2 - 1;
+    while comes_before(c, j, i) {
+        i = j;
+        j -= 1;
+    }
+    i
+}
+
+// The place of the lowest corner, of those the leftmost: down from the first, whichever way that is.
 fn lowest_place(c: &[i32]) -> usize
-    requires { ⌜ length (now c) % 2 ≡ 0 ⌝ }
     requires { ⌜ Ring (cornersOf (now c)) ⌝ }
     ensures { λ r. ⌜ LowestPlace (now (c .entry)) r ⌝ }
 {
-    let mut lowest = 0;
-    let mut x = c[0];
-    let mut y = c[1];
-    let mut i = 2;
-    while i < c.len() {
-        let v = c[i + 1];
-        // Most corners lie higher, which one comparison tells.
-        if v <= y {
-            let u = c[i];
-            if v < y || u < x {
-                lowest = i;
-                x = u;
-                y = v;
-            }
-        }
-        i += 2;
+    let i = down_forward(c);
+    if i == 0 {
+        return 2 * down_back(c);
     }
-    lowest
+    2 * i
 }
 
 // Writes x 1 y 1 for each corner, from the front of out.

@@ -24,7 +24,7 @@ returns : tie.Need-returns
 returns c = gave-short (c .before .pre .1) (four (c .before)) (c .if1 .taken)
 
 lowest-corner-requires : tie.Need-lowest-corner-requires
-lowest-corner-requires c κs = let g = c .before .pre .1 in (omega (arith, g .three, ring-length (now (c .before .args .m)) 0 (c .before .args .n)), (c .before .pre .0, g .proper))
+lowest-corner-requires c κs = search needs
 
 write-ring-requires : tie.Need-write-ring-requires
 write-ring-requires c κs = search needs
