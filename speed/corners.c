@@ -9,13 +9,14 @@ struct Windows { usize count; i32 c[STROKES][32]; struct Stroke s[STROKES]; };
 
 static void run_corners(const void *inputs, Call *call) {
     const struct Windows *in = inputs;
-    for (usize i = 0; i < STROKES; i++) {
+    for (usize i = 0; i < few(STROKES); i++) {
         struct CornerAnswer a = ((CornerCall *)call)(in->c[i], in->count, in->s[i]);
         USED(a);
     }
 }
 
 static void check_corner(const i32 *c, usize n, struct Stroke s) {
+    if (traced) return;
     struct CornerAnswer a = gerlyantu_cyrus_beck(c, n, s), b = tuned_cyrus_beck(c, n, s);
     check(a.number == b.number && a.place == b.place && a.kept == b.kept && a.t0.num == b.t0.num && a.t0.den == b.t0.den
         && a.t1.num == b.t1.num && a.t1.den == b.t1.den, "a corner window");
@@ -23,6 +24,7 @@ static void check_corner(const i32 *c, usize n, struct Stroke s) {
 
 // Small numbers, so that strokes touch edges and corners, and some that are refused.
 static void check_small(void) {
+    if (traced) return;
     i32 c[40];
     for (int i = 0; i < 300000; i++) {
         for (int k = 0; k < 12; k++) c[k] = from(-6, 6);
@@ -43,7 +45,7 @@ static void check_small(void) {
 static const struct Windows *windows_of(usize n) {
     struct Windows *in = lent(1, sizeof *in);
     in->count = 2 * n;
-    for (usize i = 0; i < STROKES; i++) {
+    for (usize i = 0; i < few(STROKES); i++) {
         i32 *c = in->c[i], x = 0, y = 0;
         some_outline(c, n);
         for (usize k = 0; k < n; k++) { x += c[2 * k] / (i32)n; y += c[2 * k + 1] / (i32)n; }
@@ -63,6 +65,6 @@ void corner_rows(void) {
     check_small();
     for (int k = 0; k < 4; k++) {
         const struct Windows *in = windows_of(sizes[k]);
-        add_row((struct Row){ names[k], run_corners, in, STROKES, (Call *)gerlyantu_cyrus_beck, (Call *)tuned_cyrus_beck, STROKES });
+        add_row((struct Row){ names[k], run_corners, in, few(STROKES), (Call *)gerlyantu_cyrus_beck, (Call *)tuned_cyrus_beck, few(STROKES) });
     }
 }

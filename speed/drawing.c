@@ -59,6 +59,7 @@ static struct DrawingAnswer check_drawing(const struct Drawing *d, usize room) {
 
 // Drawings with bytes changed, cut or added, most of which are refused.
 static void check_spoilt(void) {
+    if (traced) return;
     static struct Drawing d;
     for (int i = 0; i < 4000; i++) {
         d = *drawing_of((usize)from(0, 6));

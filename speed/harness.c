@@ -10,6 +10,7 @@ enum { MOST_ROWS = 100, ROUNDS = 15 };
 static struct Row rows[MOST_ROWS];
 static usize row_count, checked;
 static u64 state;
+int traced;
 
 void seed(u64 s) { state = s; }
 
@@ -100,6 +101,9 @@ static void written(const struct Row *r, Call *call, const char *whose) {
     request(WRITE_COUNTS, name);
 }
 
+// A system call that does nothing parts the rows in what an emulator writes down.
+static void part(void) { syscall(110); }
+
 // A line NAME|PARTS|NS OF OURS|NS OF C, and where they can be had |INSTRUCTIONS OF OURS|INSTRUCTIONS OF C, all for one part.
 static void print_row(const struct Row *r, int fd) {
     double ours = 1e18, tuned = 1e18, parts = (double)r->parts;
@@ -114,6 +118,7 @@ static void print_row(const struct Row *r, int fd) {
 }
 
 int main(int argc, char **argv) {
+    traced = argc > 1 && !strcmp(argv[1], "trace");
     stroke_rows();
     corner_rows();
     outline_rows();
@@ -124,13 +129,24 @@ int main(int argc, char **argv) {
         print_outlines();
         return 0;
     }
-    printf("%lu answers compared, all alike\n", checked);
+    if (!traced) printf("%lu answers compared, all alike\n", checked);
     if (argc > 1 && !strcmp(argv[1], "count")) {
         request(START_COUNTING, 0);
         for (usize i = 0; i < row_count; i++) {
             written(rows + i, rows[i].ours, "ours|");
             written(rows + i, rows[i].tuned, "tuned|");
         }
+        return 0;
+    }
+    if (traced) {
+        for (usize i = 0; i < row_count; i++) {
+            printf("%s|%lu\n", rows[i].name, rows[i].parts);
+            part();
+            rows[i].run(rows[i].inputs, rows[i].ours);
+            part();
+            rows[i].run(rows[i].inputs, rows[i].tuned);
+        }
+        part();
         return 0;
     }
     int fd = counter();

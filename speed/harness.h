@@ -32,6 +32,11 @@ struct Row {
 };
 void add_row(struct Row r);
 
+// An emulator writes down every instruction: then nothing is compared, since that was done before.
+extern int traced;
+// So many of a row's inputs; a trace takes a part of them.
+static inline usize few(usize all) { return traced ? all / 16 : all; }
+
 // Counts a comparison, and ends the bench where the two answers differ.
 void check(int equal, const char *what);
 

@@ -73,8 +73,9 @@ static struct Window window_for(const i32 *c, usize n, enum Kind k) {
     }
 }
 
-static struct Outlines *outlines_of(usize many, usize n, int k) {
+static struct Outlines *outlines_of(usize all, usize n, int k) {
     struct Outlines *in = lent(1, sizeof *in);
+    usize many = few(all);
     in->many = many;
     in->count = 2 * n;
     for (usize i = 0; i < many; i++) {
@@ -94,6 +95,7 @@ static void run_outlines(const void *inputs, Call *call) {
 }
 
 static void check_outline(struct Window w, u32 order, const i32 *c, usize count, usize room, int convex) {
+    if (traced) return;
     for (usize i = 0; i < ROOM + 8; i++) out[0][i] = out[1][i] = 7000000 + (i32)i;
     struct Answer a = gerlyantu_clip_outline(w, order, c, count, out[0], room), b = tuned_clip_outline(w, order, c, count, out[1], room);
     check(a.number == b.number && a.place == b.place && a.count == b.count && !memcmp(out[0], out[1], sizeof out[0]), "an outline");
@@ -105,6 +107,7 @@ static void check_outline(struct Window w, u32 order, const i32 *c, usize count,
 
 // Small outlines, so that corners lie on sides and rings touch, and some that are refused.
 static void check_small(void) {
+    if (traced) return;
     i32 c[130];
     for (int i = 0; i < 300000; i++) {
         usize n = from(3, 5);
@@ -159,14 +162,14 @@ static void rows_of(usize n, const char *const names[7]) {
     for (int k = 0; k <= KINDS; k++) {
         in = outlines_of(OUTLINES, n, k);
         check_outlines(in, 1);
-        add_row((struct Row){ names[k], run_outlines, in, OUTLINES, ours, tuned, OUTLINES });
+        add_row((struct Row){ names[k], run_outlines, in, in->many, ours, tuned, in->many });
     }
     mixed[mixed_count++] = in;
-    add_row((struct Row){ names[4], run_outlines, in, OUTLINES, ours, (Call *)tuned_clip_convex, OUTLINES });
+    add_row((struct Row){ names[4], run_outlines, in, in->many, ours, (Call *)tuned_clip_convex, in->many });
     for (int early = 0; early <= 1; early++) {
         const struct Outlines *bad = spoilt(in, early);
         check_outlines(bad, 0);
-        add_row((struct Row){ names[5 + early], run_outlines, bad, OUTLINES, ours, tuned, OUTLINES });
+        add_row((struct Row){ names[5 + early], run_outlines, bad, bad->many, ours, tuned, bad->many });
     }
 }
 
@@ -187,6 +190,6 @@ void outline_rows(void) {
     for (int k = 0; k < 10; k++) {
         const struct Outlines *in = outlines_of(512, sizes[k], CUT);
         check_outlines(in, 1);
-        add_row((struct Row){ growth[k], run_outlines, in, 512, (Call *)gerlyantu_clip_outline, (Call *)tuned_clip_outline, 512 });
+        add_row((struct Row){ growth[k], run_outlines, in, in->many, (Call *)gerlyantu_clip_outline, (Call *)tuned_clip_outline, in->many });
     }
 }

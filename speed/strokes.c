@@ -47,7 +47,7 @@ static enum Kind some_kind(void) { return from(INSIDE, OUTSIDE); }
 
 static const struct Strokes *strokes_of(int k) {
     struct Strokes *in = lent(1, sizeof *in);
-    for (usize i = 0; i < STROKES; i++) {
+    for (usize i = 0; i < few(STROKES); i++) {
         in->w[i] = some_window();
         in->s[i] = some_stroke(in->w[i], k == KINDS ? some_kind() : (enum Kind)k);
     }
@@ -56,7 +56,7 @@ static const struct Strokes *strokes_of(int k) {
 
 static void run_strokes(const void *inputs, Call *call) {
     const struct Strokes *in = inputs;
-    for (usize i = 0; i < STROKES; i++) {
+    for (usize i = 0; i < few(STROKES); i++) {
         struct StrokeAnswer a = ((StrokeCall *)call)(in->w[i], in->s[i]);
         USED(a);
     }
@@ -64,7 +64,7 @@ static void run_strokes(const void *inputs, Call *call) {
 
 static void run_counted(const void *inputs, Call *call) {
     const struct Strokes *in = inputs;
-    for (usize i = 0; i < STROKES; i++) {
+    for (usize i = 0; i < few(STROKES); i++) {
         struct CountedAnswer a = ((CountedCall *)call)(in->w[i], in->s[i]);
         USED(a);
     }
@@ -84,6 +84,7 @@ static int same_stroke_answer(const struct StrokeAnswer *a, const struct StrokeA
 }
 
 static void check_stroke(struct Window w, struct Stroke s) {
+    if (traced) return;
     struct StrokeAnswer a = gerlyantu_liang_barsky(w, s), b = tuned_liang_barsky(w, s);
     check(same_stroke_answer(&a, &b), "a stroke");
     struct CountedAnswer c = gerlyantu_cohen_sutherland(w, s), d = tuned_cohen_sutherland(w, s);
@@ -91,6 +92,7 @@ static void check_stroke(struct Window w, struct Stroke s) {
 }
 
 static void check_batch(struct Window w, const i32 *s, usize n, usize room) {
+    if (traced) return;
     static i32 out[2][5 * MOST + 8];
     for (usize i = 0; i < 5 * MOST + 8; i++) out[0][i] = out[1][i] = 7000000 + (i32)i;
     struct Answer a = gerlyantu_batch(w, s, n, out[0], room), b = tuned_batch(w, s, n, out[1], room);
@@ -99,6 +101,7 @@ static void check_batch(struct Window w, const i32 *s, usize n, usize room) {
 
 // Small numbers, so that strokes touch sides and corners, and some that are refused.
 static void check_small(void) {
+    if (traced) return;
     for (int i = 0; i < 200000; i++) {
         struct Window w = { from(-4, 4), from(-4, 4), from(-2, 8), from(-2, 8) };
         struct Stroke s = { from(-8, 12), from(-8, 12), from(-8, 12), from(-8, 12) };
@@ -160,12 +163,12 @@ void stroke_rows(void) {
     const struct Strokes *in[KINDS + 1];
     for (int k = 0; k <= KINDS; k++) {
         in[k] = strokes_of(k);
-        for (usize i = 0; i < STROKES; i++) check_stroke(in[k]->w[i], in[k]->s[i]);
-        add_row((struct Row){ ones[k], run_strokes, in[k], STROKES, (Call *)gerlyantu_liang_barsky, (Call *)tuned_liang_barsky, STROKES });
+        for (usize i = 0; i < few(STROKES); i++) check_stroke(in[k]->w[i], in[k]->s[i]);
+        add_row((struct Row){ ones[k], run_strokes, in[k], few(STROKES), (Call *)gerlyantu_liang_barsky, (Call *)tuned_liang_barsky, few(STROKES) });
     }
     mixed = in[KINDS];
     for (int k = 0; k <= KINDS; k++) add_batches(lists[k], MOST, k);
     for (int k = 0; k <= KINDS; k++)
-        add_row((struct Row){ counted[k], run_counted, in[k], STROKES, (Call *)gerlyantu_cohen_sutherland, (Call *)tuned_cohen_sutherland, STROKES });
+        add_row((struct Row){ counted[k], run_counted, in[k], few(STROKES), (Call *)gerlyantu_cohen_sutherland, (Call *)tuned_cohen_sutherland, few(STROKES) });
     for (int k = 0; k < 7; k++) add_batches(growth[k], sizes[k], KINDS);
 }

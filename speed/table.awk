@@ -11,9 +11,11 @@ FILENAME == ARGV[1] { count[$1, $2] = $3; next }
     }
 }
 # Ours has no call without the test of convexity. An outline with its last corner twice is refused (7) at the last edge, one with its first corner
-# twice at the first turn: what lies between, all but two turns of the test, is taken off. Three corners are refused at the first turn either way.
-function without_test(table, corners) {
-    return table["ours", "outline " corners " mixed"] - (table["ours", "refused late " corners] - table["ours", "refused early " corners])
+# twice at the first turn: between them lie all turns of the test but two, which give what a turn costs; a turn a corner is taken off. Of three
+# corners all turns are alike, so there it is the cost of a turn of eight.
+function without_test(table, corners,    some) {
+    some = corners == 3 ? 8 : corners
+    return table["ours", "outline " corners " mixed"] - corners * (table["ours", "refused late " some] - table["ours", "refused early " some]) / (some - 2)
 }
 function line(name) {
     printf "%-24s %9.1f %9.1f %6.2f", name, ns["ours", name], ns["tuned", name], ns["ours", name] / ns["tuned", name]

@@ -1,4 +1,4 @@
-# Reads the symbols and the machine code of an archive for x86-64, as 'objdump -t -d -r -w --no-show-raw-insn' prints them, and
+# Reads the sections, symbols and machine code of an archive for x86-64, as 'objdump -h -t -d -r -w --no-show-raw-insn' prints them, and
 # prints for each call its code, its constants and its stack. What it cannot follow stops it with status 1.
 #   code[f], constants[f]  bytes of one function's code, and the names of its constants
 #   stack[f]               the deepest that f goes below the stack pointer at its first instruction, with all that it calls
@@ -19,6 +19,9 @@ function with_commas(n) {
 }
 
 # ---- reading
+
+# A section of constants that is named after a function: the table of its switches.
+/^ +[0-9]+ \.rodata\./ && $2 !~ /\.cst[0-9]+$/ { bytes[$2] = number_of($3); next }
 
 # A symbol: its place, flags, section, size and name.
 /^[0-9a-f]+ .*\t[0-9a-f]+ / {
@@ -106,6 +109,12 @@ function step(f, i, d,    o, target) {
     deeper(f, d + below(args[f, i]))
     if (o ~ /^ret/ && d != 0) fail(f ": returns from depth " d)
     if (o ~ /^(ret|ud2)/) return
+    # A switch goes on, as deep as it is, where nothing else leads to; the language has no calls through pointers.
+    if (o == "jmp" && args[f, i] ~ /^\*%/ && (".rodata." f) in bytes) {
+        if (f in switched && switched[f] != d) fail(f ": switches at two depths")
+        switched[f] = d
+        return
+    }
     if (o ~ /^j/) {
         target = args[f, i]
         if (target !~ /^[0-9a-f]+$/ || refers[f, i] != "" || !((f, number_of(target)) in place)) fail(f ": " o " " target)
@@ -117,6 +126,13 @@ function step(f, i, d,    o, target) {
     deeper(f, d + moved(f, i))
 }
 
+function follow(f,    i) {
+    while (last > 0) {
+        i = waiting[last--]
+        step(f, i, depth[f, i])
+    }
+}
+
 # Follows every way through f, then what it calls.
 function stack_of(f,    i) {
     if (f in done) return stack[f]
@@ -125,14 +141,14 @@ function stack_of(f,    i) {
     stack[f] = 0
     last = 0
     arrive(f, 1, 0)
-    while (last > 0) {
-        i = waiting[last--]
-        step(f, i, depth[f, i])
-    }
+    follow(f)
     for (i = 1; i <= count[f]; i++) {
-        if ((f, i) in called) enter(f, refers[f, i], called[f, i])
-        if (!((f, i) in depth) && op[f, i] !~ /^(nop|data16|cs|xchg|int3)/) fail(f ": no way leads to " op[f, i])
+        if ((f, i) in depth || op[f, i] ~ /^(nop|data16|cs|xchg|int3)/) continue
+        if (!(f in switched)) fail(f ": no way leads to " op[f, i])
+        arrive(f, i, switched[f])
+        follow(f)
     }
+    for (i = 1; i <= count[f]; i++) if ((f, i) in called) enter(f, refers[f, i], called[f, i])
     done[f] = 1
     return stack[f]
 }
