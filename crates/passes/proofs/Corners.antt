@@ -1,6 +1,6 @@
 -- What is so of every corner of a ring that a memory holds: it is small, and its tag names a line.
-use mathlib.Core.Path.{_≡_, sym, ap, _∙_, subst}
-use mathlib.Core.List.{List, [], _∷_}
+use mathlib.Core.Path.{subst}
+use mathlib.Core.List.{List, _∷_}
 use mathlib.Core.Logic.{⊎-elim}
 use Prim.Native.Nat.{ℕ, zero, suc, _+_, _-_, _<_, _≤_}
 use native.Mathlib.Nat.{eq-or-lt-of-le}
@@ -8,7 +8,7 @@ use native.Mathlib.Omega.{arith}
 use lib.IntN.{ℤ}
 use Rattle.grid.specs.declared.Window.{Window}
 use Rattle.rings.specs.Lists.{All, ∅, _◂_, Walk, last, step, Edges, nothing, closed}
-use Rattle.passes.specs.Memory.{pointIn, Small}
+use Rattle.passes.specs.Memory.{Small}
 use Rattle.passes.specs.Tags.{tagIn, Lies, Named}
 use Rattle.passes.specs.Limits.{SmallIn}
 use Rattle.passes.specs.Runs.{Tagged, cornerIn, cornersFrom}

@@ -1,13 +1,12 @@
 -- The limit that a side sets is the side's line.
-use mathlib.Core.Path.{_≡_, refl, sym, ap, _∙_}
+use mathlib.Core.Path.{_≡_}
 use mathlib.Core.List.{List, [], _∷_}
 use Prim.Native.Nat.{ℕ, zero, suc, _+_, _*_, _/_, _<_}
 use native.Mathlib.Nat.{add-zero}
 use native.Mathlib.Omega.{arith}
 use lib.IntN.{ℤ, pos, negsuc, _-ℤ_, _*ℤ_}
 use lib.ListN.{getD}
-use Rattle.whole.specs.Within.{Within}
-use Rattle.whole.proofs.Expressions.{Expr, Env, var, con, _⊕_, _⊖_, _⊗_, neg}
+use Rattle.whole.proofs.Expressions.{Env, var, con, _⊕_, _⊖_, _⊗_, neg}
 use Rattle.whole.proofs.Polynomials.{ring}
 use Rattle.grid.specs.declared.Window.{Window}
 use Rattle.rings.specs.Points.{value}

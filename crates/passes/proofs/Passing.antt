@@ -15,7 +15,7 @@ use Rattle.whole.specs.Choice.{if_then_else_}
 use Rattle.whole.proofs.Order.{≤-antisym}
 use Rattle.grid.specs.declared.Window.{Window}
 use Rattle.rings.specs.Lists.{All, ∅, _◂_, nothing}
-use Rattle.rings.specs.Points.{Point, Line, value, In, Out, On}
+use Rattle.rings.specs.Points.{Point, Line, value, In, Out}
 use Rattle.rings.specs.Rings.{Ring}
 use Rattle.rings.specs.Cuts.{CutBy}
 use Rattle.rings.proofs.Lists.{final}
@@ -24,11 +24,11 @@ use Rattle.passes.specs.Memory.{pointIn, ringFrom}
 use Rattle.passes.specs.Orders.{sideLine}
 use Rattle.passes.specs.Outlines.{Job}
 use Rattle.passes.specs.Tags.{tagIn}
-use Rattle.passes.specs.Steps.{Meeting, putAt, Entered, Went}
+use Rattle.passes.specs.Steps.{putAt, Entered, Went}
 use Rattle.passes.specs.Steps as steps
 use Rattle.passes.specs.Runs.{Tagged, tagged, cornerIn, cornersFrom, pointsOf, Traced, Moved, Goes, Comes, on-line, crosses, more}
 use Rattle.passes.specs.Passes.{places, Held, Passed}
-use Rattle.passes.proofs.Memories.{Put, put-at, corners-points, corners-split, corners-same, corners-all, corners-final, ring-split, ring-all-from}
+use Rattle.passes.proofs.Memories.{put-at, corners-points, corners-split, corners-same, corners-all, corners-final, ring-split, ring-all-from}
 use Rattle.passes.proofs.Pieces.{next-of, cut-nothing, keep-none, cut-middle, keep-middle}
 
 -- ---- what stands where the ring goes out: the corners t from the place i up to the place r

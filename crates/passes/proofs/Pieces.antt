@@ -26,7 +26,7 @@ use Rattle.passes.proofs.Sides.{side-on}
 use Rattle.passes.proofs.Outlines.{named-real}
 use Rattle.passes.proofs.Meetings.{not-along}
 
-pub not-across : {h : Line} {u v : Point} → (Over h u → Out h v → ⊥) → (Out h u → Over h v → ⊥) → Across h u v → ⊥
+not-across : {h : Line} {u v : Point} → (Over h u → Out h v → ⊥) → (Out h u → Over h v → ⊥) → Across h u v → ⊥
 not-across f g (leaves a b) = f a b
 not-across f g (enters a b) = g a b
 
@@ -56,12 +56,12 @@ names-same : {w : Window} {zs : List ℤ} {t : ℤ} {e e′ : Stroke} → length
 names-same l n n′ = names-are l n ∙ sym (names-are l n′)
 
 -- ---- where the line of u and v meets the side's line between them
-pub record Found (h : Line) (e : Stroke) (u v p : Point) : Type 0 where
-  pub small : Small p
-  pub crossing : Crossing h u v p
-  pub on-stroke : On (lineOf e) p
+record Found (h : Line) (e : Stroke) (u v p : Point) : Type 0 where
+  small : Small p
+  crossing : Crossing h u v p
+  on-stroke : On (lineOf e) p
 
-pub found : {w : Window} {zs : List ℤ} {s : ℕ} {a : ℤ} {u v p : Point} → Job w zs s → (l : Lies w zs a u v) → Meeting w zs s a p → Proper u → Proper v → Across (sideLine w s) u v → Found (sideLine w s) (l .stroke) u v p
+found : {w : Window} {zs : List ℤ} {s : ℕ} {a : ℤ} {u v p : Point} → Job w zs s → (l : Lies w zs a u v) → Meeting w zs s a p → Proper u → Proper v → Across (sideLine w s) u v → Found (sideLine w s) (l .stroke) u v p
 found {w} {s = s} {u = u} {v} {p} g l m pu pv x =
     let e = l .stroke in
     let real = named-real (g .outline) (l .named) in

@@ -1,15 +1,13 @@
 -- The sides of a window: their numbers, their lines, and the strokes of length 1 on these.
 use mathlib.Core.Path.{_≡_, sym, ap, _∙_, subst}
-use mathlib.Core.List.{List, [], _∷_}
-use Prim.Native.Nat.{ℕ, zero, suc, _+_, _*_, _/_, _<_}
-use native.Mathlib.Nat.{add-zero}
+use mathlib.Core.List.{[], _∷_}
+use Prim.Native.Nat.{ℕ, zero, suc, _<_}
 use native.Mathlib.Omega.{arith}
 use lib.Dec.{ltb}
-use lib.IntN.{ℤ, pos, negsuc, negℤ, _-ℤ_, _*ℤ_}
-use lib.ListN.{getD}
+use lib.IntN.{ℤ, pos, negsuc, negℤ}
 use lib.Signed.{_<ℤ_}
 use Rattle.whole.specs.Within.{Within}
-use Rattle.whole.proofs.Expressions.{Expr, Env, var, con, _⊕_, _⊖_, _⊗_, neg}
+use Rattle.whole.proofs.Expressions.{Expr, var, con, _⊕_, _⊖_, _⊗_, neg}
 use Rattle.whole.proofs.Polynomials.{ring}
 use Rattle.whole.proofs.Naturals.{neg-plus, neg-minus}
 use Rattle.whole.proofs.Order.{zarith}
@@ -22,7 +20,6 @@ use Rattle.rings.specs.Points.{Point, Line, value, through, On, Real}
 use Rattle.rings.specs.Windows.{left-side, right-side, bottom-side, top-side}
 use Rattle.rings.proofs.Plane.{nought}
 use Rattle.rings.proofs.Windows.{left-real, right-real, bottom-real, top-real}
-use Rattle.passes.specs.Memory.{pointIn}
 use Rattle.passes.specs.Orders.{sideLine}
 use Rattle.passes.specs.Tags.{stroke, lineOf, numberOf, signOf, sideOf}
 
@@ -41,26 +38,6 @@ sign-within zero = abs-within (omega arith)
 sign-within (suc zero) = abs-within (omega arith)
 sign-within (suc (suc zero)) = abs-within (omega arith)
 sign-within (suc (suc (suc s))) = abs-within (omega arith)
-
--- ---- the value of a side's line, by its sign and its number
-module _ (w : Window) (m : List ℤ) (i : ℕ) where
-  abbrev corner : ℤ → Env
-  corner c = c ∷ pointIn m i .X ∷ pointIn m i .Y ∷ pointIn m i .W ∷ []
-
-  -- X or Y, and the sign
-  abbrev by-sign : ℕ → ℤ → Expr
-  by-sign k z = con z ⊗ var k ⊖ (con z ⊗ var 0) ⊗ var 3
-
-  abbrev by-line : Expr → Expr → Expr → Expr
-  by-line a b c = a ⊗ var 1 ⊕ b ⊗ var 2 ⊕ c ⊗ var 3
-
-  pub side-value : (s : ℕ) → s < 4 → signOf s *ℤ getD m (4 * i + s / 2) (pos 0) -ℤ (signOf s *ℤ numberOf w s) *ℤ getD m (4 * i + 2) (pos 0) ≡ value (sideLine w s) (pointIn m i)
-  unfolding value left-side right-side bottom-side top-side
-  side-value zero h = rw (add-zero (4 * i)) (ring (corner (w .left)) (by-sign 1 (pos 1)) (by-line one nought (neg (var 0))) tt)
-  side-value (suc zero) h = rw (add-zero (4 * i)) (ring (corner (w .right)) (by-sign 1 (negsuc 0)) (by-line (con (negsuc 0)) nought (var 0)) tt)
-  side-value (suc (suc zero)) h = ring (corner (w .bottom)) (by-sign 2 (pos 1)) (by-line nought one (neg (var 0))) tt
-  side-value (suc (suc (suc zero))) h = ring (corner (w .top)) (by-sign 2 (negsuc 0)) (by-line nought (con (negsuc 0)) (var 0)) tt
-  side-value (suc (suc (suc (suc s)))) h = absurd (omega arith)
 
 -- ---- two lines of which the values are opposite
 abbrev pub Opposite : Line → Line → Type 0

@@ -20,9 +20,8 @@ use Rattle.whole.specs.Choice.{if_then_else_}
 use Rattle.grid.specs.declared.Window.{Window}
 use Rattle.grid.specs.declared.Stroke.{Stroke}
 use Rattle.rings.specs.Points.{Point, Line, through, On}
-use Rattle.rings.specs.Rings.{Edge}
 use Rattle.corners.specs.Corners.{gridPoint, next}
-use Rattle.passes.specs.Memory.{pointIn, Small}
+use Rattle.passes.specs.Memory.{pointIn}
 
 abbrev pub stroke : ℤ → ℤ → ℤ → ℤ → Stroke
 stroke ax ay bx by = record { x1 = ax; y1 = ay; x2 = bx; y2 = by }

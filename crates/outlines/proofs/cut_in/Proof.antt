@@ -1,7 +1,7 @@
 -- `outlines::cut_in` meets its contract: the ring that the passes left is given from its first place on. Assumes nothing.
-use mathlib.Core.Path.{_≡_, sym, subst}
+use mathlib.Core.Path.{sym, subst}
 use mathlib.Core.List.{List}
-use Prim.Native.Nat.{ℕ, _-_, _*_, _≤_}
+use Prim.Native.Nat.{_-_, _*_, _≤_}
 use native.Mathlib.Omega.{arith}
 use borrow.Author.Needs.{needs}
 use denote.Ref.{now}
@@ -9,7 +9,6 @@ use lib.IntN.{ℤ}
 use lib.ListN.{length, length-take, length-drop}
 use Rattle.rings.specs.Points.{Point}
 use Rattle.rings.specs.Rings.{Ring}
-use Rattle.passes.specs.Passes.{ringAt}
 use Rattle.passes.specs.declared.Places.{Places}
 use Rattle.outlines.specs.Workers.{GaveRing}
 use Rattle.outlines.proofs.Giving.{LeftRing, in-order, left-ring, ring-part, give-ring, give-nothing, none-cuts}
