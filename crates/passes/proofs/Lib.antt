@@ -6,6 +6,7 @@ pub mod Outlines
 pub mod Reaches
 pub mod Meetings
 pub mod Pieces
+pub mod Ends
 pub mod Passing
 pub mod Corners
 pub mod Running

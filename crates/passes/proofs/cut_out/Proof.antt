@@ -23,7 +23,8 @@ use Rattle.passes.specs.Limits.{LimitOnTable}
 use Rattle.passes.specs.Runs.{Tagged, cornerIn, Moved}
 use Rattle.passes.specs.Passes.{places, Held}
 use Rattle.passes.proofs.Corners.{small-in, named-in}
-use Rattle.passes.proofs.Passing.{Gone, Come, gone, come, cut-out}
+use Rattle.passes.proofs.Ends.{Gone, Come, gone, come}
+use Rattle.passes.proofs.Passing.{cut-out}
 use Rattle.passes.proofs.cut_out.Statement.{statement}
 use Rattle.passes.proofs.cut_out.Tie as tie
 

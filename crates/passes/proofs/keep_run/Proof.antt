@@ -20,7 +20,8 @@ use Rattle.passes.specs.Limits.{limitLine}
 use Rattle.passes.specs.Runs.{Tagged, cornerIn}
 use Rattle.passes.specs.Passes.{places, Held}
 use Rattle.passes.proofs.Corners.{small-in, named-in}
-use Rattle.passes.proofs.Passing.{Gone, Come, gone, come, keep-run, leaves-none}
+use Rattle.passes.proofs.Ends.{Gone, Come, gone, come}
+use Rattle.passes.proofs.Passing.{keep-run, leaves-none}
 use Rattle.passes.proofs.keep_run.Statement.{statement}
 use Rattle.passes.proofs.keep_run.Tie as tie
 
