@@ -14,7 +14,7 @@ use Rattle.rings.proofs.Start.{turned-ring}
 use Rattle.rings.proofs.Theorems.{starts-at}
 use Rattle.passes.specs.Memory.{pointIn, ringFrom, ringIn}
 use Rattle.passes.proofs.Memories.{ring-length, ring-all}
-use Rattle.outlines.specs.Workers.{Decides, LowestIn, LowestAt, startedAt}
+use Rattle.outlines.specs.Workers.{Decides, LowestIn, startedAt}
 use Rattle.outlines.proofs.Memory.{memory-at, turned-at}
 
 module _ {p q : Point} {a b : ℤ} where
@@ -34,21 +34,22 @@ module _ {p q : Point} {a b : ℤ} where
 
 -- ---- the lowest corner in a memory
 module _ (m : List ℤ) where
-  pub lowest-at : {n k : ℕ} → LowestIn (ringIn m n) k → LowestAt m n k
-  lowest-at {n} {k} s =
-      let e = ring-length m 0 n in
-      let l : k < n = let i = s .inside in omega arith in
-      record { inside = l; least = λ i h b. s .least i (omega arith) (transport (λ t. Before (sym (memory-at m h) t) (sym (memory-at m l) t)) b) }
+  module _ (n : ℕ) {k : ℕ} (s : LowestIn (ringIn m n) k) where
+    pub below : k < n
+    below = let i = s .inside in let e = ring-length m 0 n in omega arith
+
+    none-before : (i : ℕ) → i < n → Before (pointIn m i) (pointIn m k) → ⊥
+    none-before i h b = let e = ring-length m 0 n in s .least i (omega arith) (transport (λ t. Before (sym (memory-at m h) t) (sym (memory-at m below) t)) b)
 
   -- the ring started there
-  pub lowest-starts : {n k : ℕ} → Ring (ringIn m n) → LowestAt m n k → Starts (startedAt m n k)
+  pub lowest-starts : (n : ℕ) {k : ℕ} → Ring (ringIn m n) → LowestIn (ringIn m n) k → Starts (startedAt m n k)
   unfolding ringFrom
-  lowest-starts {n} {k} g s = go (n - k) refl
+  lowest-starts n {k} g s = go (n - k) refl
     where
       go : (r : ℕ) → n - k ≡ r → Starts (ringFrom m k r ++ ringFrom m 0 k)
-      go zero e = let l = s .inside in absurd (omega arith)
+      go zero e = let l = below n s in absurd (omega arith)
       go (suc r) e =
-          let l = s .inside in
+          let l = below n s in
           starts-at (pointIn m k) (ringFrom m (suc k) r ++ ringFrom m 0 k)
           (subst (λ (j : ℕ). Ring (ringFrom m k j ++ ringFrom m 0 k)) e (turned-ring (turned-at m {n = n} {k = k} (omega arith)) g))
-          (all-append (ring-all m (suc k) r (λ j h. s .least j (omega arith))) (ring-all m 0 k (λ j h. s .least j (omega arith))))
+          (all-append (ring-all m (suc k) r (λ j b h. none-before n s j (omega arith))) (ring-all m 0 k (λ j b h. none-before n s j (omega arith))))

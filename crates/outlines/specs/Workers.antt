@@ -7,7 +7,6 @@
 --   Decides b P           b is true exactly when P holds
 --   LowestIn r k          of the corners of the ring r none comes before that at place k
 --   Forward r k           the walk down from the first corner of r forward ends at place k: at the lowest corner, or at the first, where the second does not come before it
---   LowestAt m n k        of the first n corners in the memory m none comes before that at place k
 --   startedAt m n k       these corners, started at place k
 --   WroteFraction n d k before after   n/d in lowest terms is written at place k, the numerator before the denominator
 --   Wrote r before after  the numbers of the corners r are written from the front, and the rest is as it was
@@ -71,10 +70,6 @@ pub record LowestIn (r : List Point) (k : ℕ) : Type 0 where
 pub data Forward (r : List Point) : ℕ → Type 0 where
   stays : (Before (at r 1) (at r 0) → ⊥) → Forward r 0
   moves : {k : ℕ} → 0 < k → LowestIn r k → Forward r k
-
-pub record LowestAt (m : List ℤ) (n k : ℕ) : Type 0 where
-  pub inside : k < n
-  pub least : (i : ℕ) → i < n → Before (pointIn m i) (pointIn m k) → ⊥
 
 abbrev pub startedAt : List ℤ → ℕ → ℕ → List Point
 startedAt m n k = ringFrom m k (n - k) ++ ringFrom m 0 k

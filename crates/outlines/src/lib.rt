@@ -16,7 +16,7 @@ ghost use Rattle.rings.specs.Rings.{Ring};
 ghost use Rattle.passes.specs.Memory.{pointIn, ringFrom, ringIn};
 ghost use Rattle.passes.specs.Outlines.{OutlineOnTable, Reaches};
 ghost use Rattle.outlines.specs.Outlines.{rightCount, Clipped, Outline};
-ghost use Rattle.outlines.specs.Workers.{unreadRefusal, numbersRefusal, NumbersOnTable, ReachOnTable, Decides, LowestIn, Forward, LowestAt, startedAt, WroteFraction, Wrote, GaveRing};
+ghost use Rattle.outlines.specs.Workers.{unreadRefusal, numbersRefusal, NumbersOnTable, ReachOnTable, Decides, LowestIn, Forward, startedAt, WroteFraction, Wrote, GaveRing};
 
 mod reach;
 mod uncut;
@@ -135,7 +135,7 @@ fn down_back(m: &[i32], n: usize) -> usize
 fn lowest_corner(m: &[i32], n: usize) -> usize
     requires { ⌜ 4 * n ≤ length (now m) ⌝ }
     requires { ⌜ Ring (ringIn (now m) n) ⌝ }
-    ensures { λ r. ⌜ LowestAt (now (m .entry)) n r ⌝ }
+    ensures { λ r. ⌜ LowestIn (ringIn (now (m .entry)) n) r ⌝ }
 {
     let i = down_forward(m, n);
     if i == 0 {

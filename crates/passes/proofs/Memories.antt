@@ -77,15 +77,10 @@ unfolding ringFrom
 ring-split m i zero b = (λ j. ringFrom m (sym (add-zero i) j) (zero-add b j))
 ring-split m i (suc a) b = ap (ringFrom m i) (suc-add a b) ∙ ap (λ (r : List Point). pointIn m i ∷ r) (ring-split m (suc i) a b ∙ ap (λ (k : ℕ). ringFrom m (suc i) a ++ ringFrom m k b) (omega arith))
 
-pub ring-all-from : {P : Point → Type 0} (m : List ℤ) (i n : ℕ) → ((k : ℕ) → i ≤ k → k < i + n → P (pointIn m k)) → All P (ringFrom m i n)
-unfolding ringFrom
-ring-all-from m i zero f = ∅
-ring-all-from m i (suc n) f = f i (omega arith) (omega arith) ◂ ring-all-from m (suc i) n (λ k l h. f k (omega arith) (omega arith))
-
-pub ring-all : {P : Point → Type 0} (m : List ℤ) (i n : ℕ) → ((k : ℕ) → k < i + n → P (pointIn m k)) → All P (ringFrom m i n)
+pub ring-all : {P : Point → Type 0} (m : List ℤ) (i n : ℕ) → ((k : ℕ) → i ≤ k → k < i + n → P (pointIn m k)) → All P (ringFrom m i n)
 unfolding ringFrom
 ring-all m i zero f = ∅
-ring-all m i (suc n) f = f i (omega arith) ◂ ring-all m (suc i) n (λ k h. f k (omega arith))
+ring-all m i (suc n) f = f i (omega arith) (omega arith) ◂ ring-all m (suc i) n (λ k l h. f k (omega arith) (omega arith))
 
 -- ---- its corners with their tags
 pub corners-points : (m : List ℤ) (i n : ℕ) → pointsOf (cornersFrom m i n) ≡ ringFrom m i n
@@ -105,10 +100,10 @@ corners-same m m′ i i′ (suc n) f = λ j.
     (ap (cornerIn m′) (sym (add-zero i′)) ∙ f 0 (omega arith) ∙ ap (cornerIn m) (add-zero i)) j
     ∷ corners-same m m′ (suc i) (suc i′) n (λ k h. ap (cornerIn m′) (omega arith) ∙ f (suc k) (omega arith) ∙ ap (cornerIn m) (omega arith)) j
 
-pub corners-all : {P : Tagged → Type 0} (m : List ℤ) (i n : ℕ) → ((k : ℕ) → i ≤ k → k < i + n → P (cornerIn m k)) → All P (cornersFrom m i n)
+pub tagged-all : {P : Tagged → Type 0} (m : List ℤ) (i n : ℕ) → ((k : ℕ) → i ≤ k → k < i + n → P (cornerIn m k)) → All P (cornersFrom m i n)
 unfolding cornersFrom
-corners-all m i zero f = ∅
-corners-all m i (suc n) f = f i (omega arith) (omega arith) ◂ corners-all m (suc i) n (λ k l h. f k (omega arith) (omega arith))
+tagged-all m i zero f = ∅
+tagged-all m i (suc n) f = f i (omega arith) (omega arith) ◂ tagged-all m (suc i) n (λ k l h. f k (omega arith) (omega arith))
 
 pub corners-final : (m : List ℤ) (i n : ℕ) → final (cornerIn m i) (cornersFrom m (suc i) n) ≡ cornerIn m (i + n)
 unfolding cornersFrom

@@ -21,7 +21,7 @@ use Rattle.passes.specs.Orders.{sideLine}
 use Rattle.passes.specs.Outlines.{Job}
 use Rattle.passes.specs.Runs.{Tagged, cornerIn, cornersFrom, pointsOf, Traced, Moved, Goes, Comes, more}
 use Rattle.passes.specs.Passes.{places, Held, Passed}
-use Rattle.passes.proofs.Memories.{corners-points, corners-split, corners-same, corners-all, corners-final, ring-split, ring-all-from}
+use Rattle.passes.proofs.Memories.{corners-points, corners-split, corners-same, tagged-all, corners-final, ring-split, ring-all}
 use Rattle.passes.proofs.Ends.{Gone, Come}
 use Rattle.passes.proofs.Pieces.{next-of, cut-nothing, keep-none, cut-middle, keep-middle}
 
@@ -128,7 +128,7 @@ module _ {w : Window} {zs : List ℤ} {s : ℕ} (g : Job w zs s) where
         let traced = subst (Traced w zs) (ap (cornersFrom m from) size ∙ three m from x y z) (held .traced) in
         transport (λ j. Passed w zs s m (places from (whole j)) m₄ (places from (end j)))
         (passed m m₄ from n from n′ (three m from x y z) stands (omega (arith, g′ .few, c .few))
-        (cut-middle g traced (corners-all m from (suc x) inside) (corners-all m a (suc y) outside) all-in goes comes))
+        (cut-middle g traced (tagged-all m from (suc x) inside) (tagged-all m a (suc y) outside) all-in goes comes))
 
   pub cut-out : (m : List ℤ) {from a b to : ℕ} → from < a → a < b → b ≤ to → CutOut m from a b to
   cut-out m {from} {a} {b} {to} l h k =
@@ -182,7 +182,7 @@ module _ {w : Window} {zs : List ℤ} {s : ℕ} (g : Job w zs s) where
         let traced = subst (Traced w zs) (ap (cornersFrom m from) size ∙ three m from y x z) (held .traced) in
         transport (λ j. Passed w zs s m (places from (whole j)) m₂ (places start (is j)))
         (passed m m₂ from n start n′ (three m from y x z) stands (omega (arith, g′ .few, c .start))
-        (keep-middle g traced (corners-all m from (suc y) outside) (corners-all m f (suc x) inside) all-out comes goes))
+        (keep-middle g traced (tagged-all m from (suc y) outside) (tagged-all m f (suc x) inside) all-out comes goes))
 
   pub keep-run : (m : List ℤ) {from f e to : ℕ} → from < f → f < e → e ≤ to → KeepRun m from f e to
   keep-run m {from} {f} {e} {to} l h k =
@@ -196,7 +196,7 @@ module _ {w : Window} {zs : List ℤ} {s : ℕ} (g : Job w zs s) where
 -- ---- all corners lie inside, or all outside
 module _ {w : Window} {zs : List ℤ} {s : ℕ} {m : List ℤ} {i k : ℕ} (l : i ≤ k) where
   pub leaves-all : Held w zs m (places i k) → ((j : ℕ) → i ≤ j → j < k → In (sideLine w s) (pointIn m j)) → Passed w zs s m (places i k) m (places i k)
-  leaves-all held f = record { order = l; end = omega arith; cut = cut-nothing (ring-all-from m i (k - i) (λ j a b. f j a (omega arith))); traced = held .traced }
+  leaves-all held f = record { order = l; end = omega arith; cut = cut-nothing (ring-all m i (k - i) (λ j a b. f j a (omega arith))); traced = held .traced }
 
   pub leaves-none : ((j : ℕ) → i ≤ j → j < k → Out (sideLine w s) (pointIn m j)) → Passed w zs s m (places i k) m (places i i)
   unfolding cornersFrom pointsOf
@@ -204,4 +204,4 @@ module _ {w : Window} {zs : List ℤ} {s : ℕ} {m : List ℤ} {i k : ℕ} (l : 
       let e : i + (k - i) ≡ k = omega arith in
       let z : i + 0 ≡ i = add-zero i in
       transport (λ j. Passed w zs s m (places i (e j)) m (places i (z j)))
-      (passed m m i (k - i) i 0 refl refl (omega arith) (keep-none (corners-all m i (k - i) (λ j a b. f j a (omega arith))), record { small = ∅; lies = nothing }))
+      (passed m m i (k - i) i 0 refl refl (omega arith) (keep-none (tagged-all m i (k - i) (λ j a b. f j a (omega arith))), record { small = ∅; lies = nothing }))

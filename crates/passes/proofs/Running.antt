@@ -29,7 +29,7 @@ use Rattle.passes.specs.Passes.{places, ringAt, Held, Passed, Ran, area}
 use Rattle.passes.specs.declared.Places.{Places}
 use Rattle.passes.proofs.Sides.{side-line-real}
 use Rattle.passes.proofs.Orders.{lines-length, lines-from}
-use Rattle.passes.proofs.Memories.{ring-length, ring-at, ring-all-from, corners-all}
+use Rattle.passes.proofs.Memories.{ring-length, ring-at, ring-all, tagged-all}
 use Rattle.passes.proofs.Outlines.{corner-count, corner-at, edge-from, edge-below, edge-line, outline-ring}
 use Rattle.passes.proofs.Reaches.{clear-in, cut-in}
 use Rattle.passes.proofs.Pieces.{cut-nothing}
@@ -87,7 +87,7 @@ module _ {zs m : List ℤ} (o : OutlineOnTable zs) (l : Loaded zs m (length zs /
       record {
         ring = subst Ring (sym ring-loaded) (outline-ring o);
         traced = record {
-          small = subst (λ (k : ℕ). All (λ c. Small (c .point)) (cornersFrom m 0 k)) e (corners-all m 0 n (λ k a h. loaded-small k (omega arith)));
+          small = subst (λ (k : ℕ). All (λ c. Small (c .point)) (cornersFrom m 0 k)) e (tagged-all m 0 n (λ k a h. loaded-small k (omega arith)));
           lies = subst (λ (k : ℕ). Edges (λ a b. Lies w zs (a .tag) (a .point) (b .point)) (cornersFrom m 0 k)) e (edges-from m n (omega (arith, o .three)) loaded-lies);
         };
       }
@@ -148,4 +148,4 @@ run-ended {w} {reach} {o} {zs} {m} {p} h size r =
     let end : drop 4 (linesIn o w) ≡ [] = drop-of-length-le (linesIn o w) {i = 4} (omega (arith, lines-length o w h)) in
     area (r .order) (omega (arith, r .room)) (omega (arith, r .held .ring .three, ring-length m (p .from) n)) (omega (arith, r .room, corner-count zs))
     (r .so-far (some (ringAt m p)) (subst (λ (hs : List Line). Cuts hs (ringAt m p) (some (ringAt m p))) (sym end) no-more))
-    (ring-all-from m (p .from) n (λ j a b. small-in (r .held) j a (omega arith)))
+    (ring-all m (p .from) n (λ j a b. small-in (r .held) j a (omega arith)))

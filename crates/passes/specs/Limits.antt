@@ -2,7 +2,7 @@
 --   LimitOnTable l        the sign, the axis and the number of the limit l are a side's
 --   limitLine l           the line of the limit l: its sign times X, or Y where its axis is 1, less its number times W
 --   SmallIn m i k         the corners in the memory m from the place i up to the place k are small
---   Beyond out h p        p lies strictly outside h, or, where out is false, inside it or on it
+--   LiesSo out h p        p lies strictly outside h, or, where out is false, inside it or on it
 --   RunTo h m out from to r   of the corners in the memory m those from one place on, up to the place r, lie so; the one at r does not, unless r is the place to
 use mathlib.Core.Bool.{Bool, true, false, not}
 use mathlib.Core.List.{List}
@@ -19,22 +19,22 @@ pub record LimitOnTable (l : Limit) : Type 0 where
   pub axis : l .axis < 2
   pub number : Within farthest (l .c)
 
-abbrev along : ℕ → ℤ → ℤ → Line
-along zero s c = record { A = s; B = pos 0; C = negℤ c }
-along (suc k) s c = record { A = pos 0; B = s; C = negℤ c }
+abbrev lineBy : ℕ → ℤ → ℤ → Line
+lineBy zero s c = record { A = s; B = pos 0; C = negℤ c }
+lineBy (suc k) s c = record { A = pos 0; B = s; C = negℤ c }
 
 abbrev pub limitLine : Limit → Line
-limitLine l = along (l .axis) (l .sign) (l .c)
+limitLine l = lineBy (l .axis) (l .sign) (l .c)
 
 abbrev pub SmallIn : List ℤ → ℕ → ℕ → Type 0
 SmallIn m i k = (j : ℕ) → i ≤ j → j < k → Small (pointIn m j)
 
-abbrev pub Beyond : Bool → Line → Point → Type 0
-Beyond true h p = Out h p
-Beyond false h p = In h p
+abbrev pub LiesSo : Bool → Line → Point → Type 0
+LiesSo true h p = Out h p
+LiesSo false h p = In h p
 
 pub record RunTo (h : Line) (m : List ℤ) (out : Bool) (from to r : ℕ) : Type 0 where
   pub above : from ≤ r
   pub below : r ≤ to
-  pub run : (i : ℕ) → from ≤ i → i < r → Beyond out h (pointIn m i)
-  pub ends : r < to → Beyond (not out) h (pointIn m r)
+  pub run : (i : ℕ) → from ≤ i → i < r → LiesSo out h (pointIn m i)
+  pub ends : r < to → LiesSo (not out) h (pointIn m r)

@@ -1,4 +1,4 @@
--- The steps of a pass: where a stroke meets a side's line, a corner put into a memory, and what one step from a corner to the next leaves.
+-- The ends of a run outside a side: where a stroke meets the side's line, a corner put into a memory, and what was put where the ring comes in and where it goes out.
 --   pointOf c                   a corner of the program as a point
 --   Meets h e p                 p is where the stroke e meets the line h, if it does not run along it
 --   Meeting w zs s t p          p is where the line that the tag t names meets the window's side s

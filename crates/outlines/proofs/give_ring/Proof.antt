@@ -7,7 +7,7 @@ use denote.Ref.{now}
 use lib.ListN.{length}
 use Rattle.passes.specs.Memory.{ringIn}
 use Rattle.passes.proofs.Memories.{ring-length}
-use Rattle.outlines.proofs.Lowest.{lowest-starts}
+use Rattle.outlines.proofs.Lowest.{below, lowest-starts}
 use Rattle.outlines.proofs.Memory.{turned-at}
 use Rattle.outlines.proofs.Writing.{gave-short, gave-wrote}
 use Rattle.outlines.proofs.give_ring.Statement.{statement}
@@ -27,7 +27,9 @@ lowest-corner-requires : tie.Need-lowest-corner-requires
 lowest-corner-requires c κs = search needs
 
 write-ring-requires : tie.Need-write-ring-requires
-write-ring-requires c κs = search needs
+write-ring-requires c κs =
+    let a = c .before .before .before in
+    (omega (arith, below (now (a .args .m)) (a .args .n) (c .before .lowest-corner .ensures)), (a .pre .0, (a .pre .1 .proper, omega (arith, c .before .before .if1 .left))))
 
 same-length : tie.Need-same-length
 same-length c = search needs
@@ -38,8 +40,8 @@ returns-2 c =
     let a = l .before .before in
     let m = now (a .args .m) in
     let k = l .lowest-corner .ensures in
-    let below = k .inside in
-    gave-wrote (a .pre .1) (four a) (turned-at m (omega arith)) (lowest-starts m (a .pre .1) k) (l .before .if1 .left) (c .before .write-ring .ensures)
+    let l′ = below m (a .args .n) k in
+    gave-wrote (a .pre .1) (four a) (turned-at m (omega arith)) (lowest-starts m (a .args .n) (a .pre .1) k) (l .before .if1 .left) (c .before .write-ring .ensures)
 
 pub give-ring-spec : {M : Type 1} → statement M
 give-ring-spec = tie.close (tie.spec mul-need returns lowest-corner-requires write-ring-requires same-length returns-2)

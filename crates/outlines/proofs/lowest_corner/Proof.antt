@@ -5,7 +5,6 @@ use denote.Ref.{now}
 use Rattle.passes.specs.Memory.{ringIn}
 use Rattle.outlines.specs.Workers.{Forward}
 use Rattle.outlines.proofs.Downhill.{moved}
-use Rattle.outlines.proofs.Lowest.{lowest-at}
 use Rattle.outlines.proofs.lowest_corner.Statement.{statement}
 use Rattle.outlines.proofs.lowest_corner.Tie as tie
 
@@ -18,10 +17,10 @@ down-back-requires c κs =
     (a .pre .0, (a .pre .1, subst (Forward (ringIn (now (a .args .m)) (a .args .n))) (c .if1 .taken) (c .before .down-forward .ensures)))
 
 returns : tie.Need-returns
-returns c = lowest-at (now (c .before .before .before .args .m)) (c .down-back .ensures)
+returns c = c .down-back .ensures
 
 returns-2 : tie.Need-returns-2
-returns-2 c = let a = c .before .before in lowest-at (now (a .args .m)) (moved (c .if1 .left) (c .before .down-forward .ensures))
+returns-2 c = moved (c .if1 .left) (c .before .down-forward .ensures)
 
 pub lowest-corner-spec : {M : Type 1} → statement M
 lowest-corner-spec = tie.close (tie.spec down-forward-requires down-back-requires returns returns-2)

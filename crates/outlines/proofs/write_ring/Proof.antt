@@ -16,7 +16,7 @@ use Rattle.outlines.proofs.write_ring.Tie as tie
 
 -- any corners of the ring are proper
 proper : (c : tie.Start) (i k : ℕ) → i + k ≤ c .args .n → All Proper (ringFrom (now (c .args .m)) i k)
-proper c i k h = ring-all (now (c .args .m)) i k (λ j l. at-place (now (c .args .m)) 0 (c .args .n) (c .pre .1 .1 .0) j (omega arith) (omega arith))
+proper c i k h = ring-all (now (c .args .m)) i k (λ j b l. at-place (now (c .args .m)) 0 (c .args .n) (c .pre .1 .1 .0) j (omega arith) (omega arith))
 
 sub-rest : tie.Need-sub-rest
 sub-rest c = search needs

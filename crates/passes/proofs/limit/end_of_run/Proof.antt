@@ -11,33 +11,33 @@ use mir.Val.{toZ, ofZ}
 use Rattle.whole.proofs.Comparisons.{tt-ff, ff-tt, lt-yes, lt-no, back}
 use Rattle.rings.specs.Points.{Point, Line, value, In, Out}
 use Rattle.passes.specs.Memory.{pointIn}
-use Rattle.passes.specs.Limits.{limitLine, Beyond}
+use Rattle.passes.specs.Limits.{limitLine, LiesSo}
 use Rattle.passes.proofs.limit.end_of_run.Statement.{statement}
 use Rattle.passes.proofs.limit.end_of_run.Tie as tie
 use Rattle.passes.proofs.limit.value_at.Reads as value-at-reads
 
 -- ---- the test: b is whether the corner lies outside
 module _ (h : Line) (p : Point) (b : Bool) (outside : b ≡ true → Out h p) (inside : b ≡ false → In h p) where
-  as-asked : (out : Bool) → not (Bool·beq b out) ≡ false → Beyond out h p
+  as-asked : (out : Bool) → not (Bool·beq b out) ≡ false → LiesSo out h p
   as-asked = go b outside inside
     where
-      go : (b : Bool) → (b ≡ true → Out h p) → (b ≡ false → In h p) → (out : Bool) → not (Bool·beq b out) ≡ false → Beyond out h p
+      go : (b : Bool) → (b ≡ true → Out h p) → (b ≡ false → In h p) → (out : Bool) → not (Bool·beq b out) ≡ false → LiesSo out h p
       go true f g true e = f refl
       go true f g false e = absurd (tt-ff e)
       go false f g true e = absurd (tt-ff e)
       go false f g false e = g refl
 
-  else-asked : (out : Bool) → not (Bool·beq b out) ≡ true → Beyond (not out) h p
+  else-asked : (out : Bool) → not (Bool·beq b out) ≡ true → LiesSo (not out) h p
   else-asked = go b outside inside
     where
-      go : (b : Bool) → (b ≡ true → Out h p) → (b ≡ false → In h p) → (out : Bool) → not (Bool·beq b out) ≡ true → Beyond (not out) h p
+      go : (b : Bool) → (b ≡ true → Out h p) → (b ≡ false → In h p) → (out : Bool) → not (Bool·beq b out) ≡ true → LiesSo (not out) h p
       go true f g true e = absurd (ff-tt e)
       go true f g false e = f refl
       go false f g true e = g refl
       go false f g false e = absurd (ff-tt e)
 
 abbrev Inv-loop : tie.InvT-loop
-Inv-loop l m from to outside i₀ i = (from ≤ i) × (i ≤ to) × ((j : ℕ) → from ≤ j → j < i → Beyond outside (limitLine l) (pointIn m j))
+Inv-loop l m from to outside i₀ i = (from ≤ i) × (i ≤ to) × ((j : ℕ) → from ≤ j → j < i → LiesSo outside (limitLine l) (pointIn m j))
 
 abbrev μ-loop : tie.MeasureT-loop
 μ-loop l m from to outside i₀ i = to - i
@@ -75,7 +75,7 @@ loop-again c =
       omega (arith, i .inv .0),
       omega arith,
       λ j h l. ⊎-elim
-          (λ (e : j ≡ i .i). subst (λ (k : ℕ). Beyond (s .args .outside) (limitLine (s .args .l)) (pointIn (now (s .args .m)) k)) (sym e)
+          (λ (e : j ≡ i .i). subst (λ (k : ℕ). LiesSo (s .args .outside) (limitLine (s .args .l)) (pointIn (now (s .args .m)) k)) (sym e)
           (as-asked (limitLine (s .args .l)) (pointIn (now (s .args .m)) (i .i)) _ (lt-yes (is-value (c .before)) refl) (lt-no (is-value (c .before)) refl) (s .args .outside) (c .if1 .left)))
           (λ b. i .inv .2 j h b)
           (eq-or-lt-of-le (omega arith)),
