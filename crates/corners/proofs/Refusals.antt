@@ -22,7 +22,7 @@ unfolding rightCount
 corners-on-table zs c f =
     let p = and-eq-true-iff (eqb (length zs % 2) 0) _ .0 c in
     let q = and-eq-true-iff (leb 6 (length zs)) (leb (length zs) 32) .0 (p .1) in
-    record { even = eqb-true (length zs % 2) 0 (p .0); three = leb-true 6 (length zs) (q .0); on = λ k h. before-off zs k (omega arith) h }
+    record { even = eqb-true (length zs % 2) 0 (p .0); three = leb-true 6 (length zs) (q .0); few = omega (arith, leb-true (length zs) 32 (q .1)); on = λ k h. before-off zs k (omega arith) h }
 
 counted : (zs : List ℤ) → badCount zs .number ≡ 0 → rightCount (length zs) ≡ true
 unfolding badCount

@@ -1,5 +1,5 @@
 -- What the workers behind the corner calls promise each other.
---   CornersOnTable zs         zs are three corners or more, two numbers each, all on the table
+--   CornersOnTable zs         zs are 3 to 64 corners, two numbers each, all on the table
 --   CornerOnTable a           both numbers of a corner are on the table
 --   Short w                   a way no longer than the table, across and up
 --   cornerAt zs i             the corner whose two numbers stand at i
@@ -28,6 +28,7 @@ use Rattle.corners.specs.declared.Way.{Way}
 pub record CornersOnTable (zs : List ℤ) : Type 0 where
   pub even : length zs % 2 ≡ 0
   pub three : 2 * fewest ≤ length zs
+  pub few : length zs ≤ 128
   pub on : (k : ℕ) → k < length zs → Within farthest (getD zs k (pos 0))
 
 pub record CornerOnTable (a : Corner) : Type 0 where

@@ -75,7 +75,7 @@ fn turns_left(a: Way, b: Way) -> bool
 }
 
 // 1 where one of two edges goes down and the other does not.
-fn change(a: Way, b: Way) -> usize
+fn change(a: Way, b: Way) -> u32
     ensures { λ r. ⌜ r ≡ changeOf a b ⌝ }
 {
     if (a.y < 0) ^ (b.y < 0) {

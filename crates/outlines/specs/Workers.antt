@@ -1,6 +1,4 @@
 -- What the workers behind the outline call promise each other.
---   unreadRefusal w o zs  what the call refuses before it looks at the outline's numbers: 2, 3, 4, then 5
---   numbersRefusal zs     what it refuses in them: 6, then 7
 --   NumbersOnTable zs     all numbers of an outline are on the table
 --   ReachOnTable b        no number of what lies in the rectangle b is off the table
 --   Beyond w b s          no point of the rectangle b lies strictly inside the side s of the window w
@@ -25,24 +23,15 @@ use Rattle.whole.specs.Within.{Within}
 use Rattle.fraction.specs.Fraction.{LowestOf}
 use Rattle.fraction.specs.declared.Fraction.{Fraction}
 use Rattle.grid.specs.Calls.{answered, written}
-use Rattle.grid.specs.Refusals.{numberOff, first, offTable, windowRefusal}
 use Rattle.grid.specs.Table.{farthest}
 use Rattle.grid.specs.declared.Answer.{Answer}
-use Rattle.grid.specs.declared.Refusal.{Refusal}
 use Rattle.grid.specs.declared.Window.{Window}
 use Rattle.rings.specs.Lists.{All, Turned}
 use Rattle.rings.specs.Points.{Point, Before}
 use Rattle.rings.specs.Rings.{at, Starts}
 use Rattle.corners.specs.Corners.{gridPoint, cornersOf}
 use Rattle.passes.specs.Memory.{pointIn, ringFrom}
-use Rattle.outlines.specs.Outlines.{badOrder, badOutline, notConvex, RingNumbers}
-
--- ---- refusals
-abbrev pub unreadRefusal : Window → ℕ → List ℤ → Refusal
-unreadRefusal w o zs = first (windowRefusal w ∷ badOrder o ∷ badOutline zs ∷ [])
-
-abbrev pub numbersRefusal : List ℤ → Refusal
-numbersRefusal zs = first (offTable numberOff zs ∷ notConvex zs ∷ [])
+use Rattle.outlines.specs.Outlines.{RingNumbers}
 
 abbrev pub NumbersOnTable : List ℤ → Type 0
 NumbersOnTable zs = (k : ℕ) → k < length zs → Within farthest (getD zs k (pos 0))

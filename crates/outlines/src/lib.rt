@@ -15,8 +15,8 @@ ghost use Rattle.rings.specs.Points.{Proper, Before};
 ghost use Rattle.rings.specs.Rings.{Ring};
 ghost use Rattle.passes.specs.Memory.{pointIn, ringFrom, ringIn};
 ghost use Rattle.passes.specs.Outlines.{OutlineOnTable, Reaches};
-ghost use Rattle.outlines.specs.Outlines.{rightCount, Clipped, Outline};
-ghost use Rattle.outlines.specs.Workers.{unreadRefusal, numbersRefusal, NumbersOnTable, ReachOnTable, Decides, LowestIn, Forward, startedAt, WroteFraction, Wrote, GaveRing};
+ghost use Rattle.outlines.specs.Outlines.{rightCount, outlineRefusal, Clipped, Outline};
+ghost use Rattle.outlines.specs.Workers.{NumbersOnTable, ReachOnTable, Decides, LowestIn, Forward, startedAt, WroteFraction, Wrote, GaveRing};
 
 mod reach;
 mod uncut;
@@ -33,9 +33,29 @@ fn right_count(n: usize) -> bool
     false
 }
 
-// What the call refuses before it looks at the outline's numbers.
-fn unread_refusal(w: Window, order: u32, outline: &[i32]) -> Refusal
-    ensures { λ r. ⌜ r ≡ unreadRefusal w order (now (outline .entry)) ⌝ }
+// Whether an outline of the right length is not refused, nor its window and order. They come last: their numbers then take no room in the walks.
+fn takes(w: Window, order: u32, outline: &[i32], reach: Window) -> bool
+    requires { ⌜ rightCount (length (now outline)) ≡ true ⌝ }
+    requires { ⌜ Reaches (now outline) reach ⌝ }
+    requires { ⌜ (NumbersOnTable (now outline) → ReachOnTable reach) ⌝ }
+    ensures { λ r. ⌜ Decides r (outlineRefusal w order (now (outline .entry)) .number ≡ 0) ⌝ }
+{
+    if !reach::on_table(reach) {
+        return false;
+    }
+    if !corners::strictly_convex(outline) {
+        return false;
+    }
+    if grid::window_refusal(w).number != 0 {
+        return false;
+    }
+    order <= 23
+}
+
+// What is refused, where something is: only then it is asked in the order of the numbers.
+fn refusal(w: Window, order: u32, outline: &[i32]) -> Refusal
+    requires { ⌜ (outlineRefusal w order (now outline) .number ≡ 0 → ⊥) ⌝ }
+    ensures { λ r. ⌜ r ≡ outlineRefusal w order (now (outline .entry)) ⌝ }
 {
     let first = grid::window_refusal(w);
     if first.number != 0 {
@@ -53,33 +73,15 @@ fn unread_refusal(w: Window, order: u32, outline: &[i32]) -> Refusal
             place: 0,
         };
     }
-    Refusal {
-        number: 0,
-        place: 0,
-    }
-}
-
-// What the call refuses in the outline's numbers. How far they reach tells whether one is off the table; which one is asked only then.
-fn numbers_refusal(outline: &[i32], reach: Window) -> Refusal
-    requires { ⌜ rightCount (length (now outline)) ≡ true ⌝ }
-    requires { ⌜ Reaches (now outline) reach ⌝ }
-    requires { ⌜ (NumbersOnTable (now outline) → ReachOnTable reach) ⌝ }
-    ensures { λ r. ⌜ r ≡ numbersRefusal (now (outline .entry)) ⌝ }
-{
-    if !reach::on_table(reach) {
+    let off = grid::first_off(outline);
+    if off < outline.len() {
         return Refusal {
             number: grid::NUMBER_OFF,
-            place: grid::first_off(outline),
-        };
-    }
-    if !corners::strictly_convex(outline) {
-        return Refusal {
-            number: grid::OUTLINE_BAD,
-            place: 0,
+            place: off,
         };
     }
     Refusal {
-        number: 0,
+        number: grid::OUTLINE_BAD,
         place: 0,
     }
 }
@@ -246,7 +248,7 @@ fn cut_in(
     give_ring(&m[4 * left.from..], n, out)
 }
 
-// The same with a memory of its own; few corners need only a small one, which is sooner cleared.
+// The same with a memory of its own; fewer corners need a smaller one, which is sooner cleared.
 fn cut_by_passes(w: Window, reach: Window, order: u32, outline: &[i32], out: &mut [i32]) -> Answer
     requires { ⌜ WindowOnTable w ⌝ }
     requires { ⌜ order ≤ 23 ⌝ }
@@ -258,8 +260,12 @@ fn cut_by_passes(w: Window, reach: Window, order: u32, outline: &[i32], out: &mu
         let mut few = [0i32; 64];
         return cut_in(w, reach, order, outline, &mut few, out);
     }
-    let mut m = [0i32; 272];
-    cut_in(w, reach, order, outline, &mut m, out)
+    if outline.len() <= 56 {
+        let mut some = [0i32; 128];
+        return cut_in(w, reach, order, outline, &mut some, out);
+    }
+    let mut most = [0i32; 272];
+    cut_in(w, reach, order, outline, &mut most, out)
 }
 
 // What the window leaves of an outline in which nothing is refused, the plain cases first: they need no pass.
@@ -288,22 +294,16 @@ fn clipped(w: Window, order: u32, outline: &[i32], reach: Window, out: &mut [i32
 pub fn clip_outline(w: Window, order: u32, outline: &[i32], out: &mut [i32]) -> Answer
     ensures { λ r. ⌜ Outline w order (now (outline .entry)) r (now (out .entry)) (now (out .exit)) ⌝ }
 {
-    let unread = unread_refusal(w, order, outline);
-    if unread.number != 0 {
-        return Answer {
-            number: unread.number,
-            place: unread.place,
-            count: 0,
-        };
+    if right_count(outline.len()) {
+        let reach = reach::reach_of(outline);
+        if takes(w, order, outline, reach) {
+            return clipped(w, order, outline, reach, out);
+        }
     }
-    let reach = reach::reach_of(outline);
-    let bad = numbers_refusal(outline, reach);
-    if bad.number != 0 {
-        return Answer {
-            number: bad.number,
-            place: bad.place,
-            count: 0,
-        };
+    let bad = refusal(w, order, outline);
+    Answer {
+        number: bad.number,
+        place: bad.place,
+        count: 0,
     }
-    clipped(w, order, outline, reach, out)
 }

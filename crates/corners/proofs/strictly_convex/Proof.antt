@@ -101,7 +101,7 @@ change-requires c κs = tt
 add-changes : tie.Need-add-changes Inv-loop μ-loop
 add-changes c =
     let l = c .before .before .before .before .before .before in
-    omega (arith, c .change .ensures, few-changes (start l .pre) (l .before .loop .inv) (c .before .before .before .way-from2 .result), start l .good)
+    omega (arith, c .change .ensures, few-changes (start l .pre) (l .before .loop .inv) (c .before .before .before .way-from2 .result), start l .pre .few)
 
 module _ (c : tie.After-struct-told4 Inv-loop μ-loop) where
   abbrev counted : tie.After-change Inv-loop μ-loop
@@ -154,7 +154,7 @@ change-requires-2 c κs = tt
 add-result : tie.Need-add-result Inv-loop μ-loop
 add-result c =
     let l = c .before .before .before in
-    omega (arith, c .change2 .ensures, few-changes (entry l .pre) (l .before .loop .inv) (first l .way-from .result), entry l .good)
+    omega (arith, c .change2 .ensures, few-changes (entry l .pre) (l .before .loop .inv) (first l .way-from .result), entry l .pre .few)
 
 returns-3 : tie.Need-returns-3 Inv-loop μ-loop
 returns-3 c =

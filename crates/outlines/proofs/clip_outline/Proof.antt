@@ -1,44 +1,28 @@
--- `outlines::clip_outline` meets its contract: refused before its numbers are looked at, refused by them, or clipped. Assumes nothing.
-use mathlib.Core.Path.{_≡_, sym, ap, _∙_, subst}
+-- `outlines::clip_outline` meets its contract: clipped where nothing is refused, and refused elsewhere. Assumes nothing.
+use mathlib.Core.Path.{_≡_, sym, _∙_, subst}
+use mathlib.Core.Logic.{⊎-elim}
 use borrow.Author.Needs.{needs}
 use denote.Ref.{now}
+use Rattle.whole.proofs.Comparisons.{ff-tt}
 use Rattle.grid.specs.declared.Refusal.{Refusal}
 use Rattle.grid.proofs.Calls.{call-refused}
 use Rattle.outlines.specs.Outlines.{outlineRefusal}
-use Rattle.outlines.specs.Workers.{unreadRefusal}
-use Rattle.outlines.proofs.Refusals.{refused-unread, refused-by-numbers, counted, nothing-refused}
+use Rattle.outlines.proofs.Refusals.{nothing-refused}
 use Rattle.outlines.proofs.clip_outline.Statement.{statement}
 use Rattle.outlines.proofs.clip_outline.Tie as tie
 
-unread-refusal-requires : tie.Need-unread-refusal-requires
-unread-refusal-requires c κs = search needs
-
-returns : tie.Need-returns
-returns c =
-    let e = c .before .before .unread-refusal .ensures in
-    call-refused (refused-unread _ _ _ (subst (λ (r : Refusal). r .number ≡ 0 → ⊥) e (c .if1 .taken)) ∙ sym e) (c .if1 .taken)
+right-count-requires : tie.Need-right-count-requires
+right-count-requires c κs = search needs
 
 reach-of-requires : tie.Need-reach-of-requires
 reach-of-requires c κs = search needs
 
--- nothing is refused before the numbers
-unread : (c : tie.Else1) → let a = c .before .before .before .args in unreadRefusal (a .w) (a .order) (now (a .outline)) .number ≡ 0
-unread c = ap (λ (r : Refusal). r .number) (sym (c .before .before .unread-refusal .ensures)) ∙ c .if1 .left
-
-numbers-refusal-requires : tie.Need-numbers-refusal-requires
-numbers-refusal-requires c κs = (counted _ _ _ (unread (c .before)), (c .reach-of .ensures .0, c .reach-of .ensures .1))
-
--- what the numbers are refused by is what the call is
-decided : (c : tie.After-numbers-refusal) → let a = c .before .before .before .before .before .args in
-    outlineRefusal (a .w) (a .order) (now (a .outline)) ≡ c .numbers-refusal .result
-decided c = refused-by-numbers _ _ _ (unread (c .before .before)) ∙ sym (c .numbers-refusal .ensures)
-
-returns-2 : tie.Need-returns-2
-returns-2 c = call-refused (decided (c .before .before)) (c .if2 .taken)
+takes-requires : tie.Need-takes-requires
+takes-requires c κs = (sym (c .before .before .right-count .ensures) ∙ c .before .if1 .taken, (c .reach-of .ensures .0, c .reach-of .ensures .1))
 
 -- nothing is refused
-taken : (c : tie.Else2) → let a = c .before .before .before .before .before .before .before .args in outlineRefusal (a .w) (a .order) (now (a .outline)) .number ≡ 0
-taken c = ap (λ (r : Refusal). r .number) (decided (c .before .before)) ∙ c .if2 .left
+taken : (c : tie.Then2) → let a = c .before .before .before .before .before .args in outlineRefusal (a .w) (a .order) (now (a .outline)) .number ≡ 0
+taken c = c .before .takes .ensures .yes (c .if2 .taken)
 
 clipped-requires : tie.Need-clipped-requires
 clipped-requires c κs =
@@ -47,8 +31,8 @@ clipped-requires c κs =
       (
         k .order,
         (
-          record { even = k .corners .even; three = k .corners .three; few = k .few; on = k .corners .on; convex = k .ring .convex },
-          c .before .before .before .before .reach-of .ensures .0,
+          record { even = k .corners .even; three = k .corners .three; few = k .corners .few; on = k .corners .on; convex = k .ring .convex },
+          c .before .before .before .reach-of .ensures .0,
         ),
       ),
     )
@@ -56,10 +40,24 @@ clipped-requires c κs =
 same-length : tie.Need-same-length
 same-length c = search needs
 
-returns-3 : tie.Need-returns-3
-returns-3 c = record { refused = λ n. absurd (n (taken (c .before .before .before))); given = λ _. c .before .clipped .ensures }
+returns : tie.Need-returns
+returns c = record { refused = λ n. absurd (n (taken (c .before .before .before))); given = λ _. c .before .clipped .ensures }
+
+-- something is refused
+refused : (c : tie.Joined1) → let a = c .before .before .args in outlineRefusal (a .w) (a .order) (now (a .outline)) .number ≡ 0 → ⊥
+refused c e =
+    ⊎-elim
+    (λ o. o .2 .ensures .no (o .3 .left) e)
+    (λ o. ff-tt (sym (o .left) ∙ c .before .right-count .ensures ∙ nothing-refused _ _ _ e .count))
+    (c .if1 .came)
+
+refusal-requires : tie.Need-refusal-requires
+refusal-requires c κs = refused c
+
+returns-2 : tie.Need-returns-2
+returns-2 c = call-refused (sym (c .refusal .ensures)) (subst (λ (r : Refusal). r .number ≡ 0 → ⊥) (sym (c .refusal .ensures)) (refused (c .before)))
 
 pub clip-outline-spec : {M : Type 1} → statement M
 clip-outline-spec =
     tie.close
-    (tie.spec unread-refusal-requires returns reach-of-requires numbers-refusal-requires returns-2 clipped-requires same-length returns-3)
+    (tie.spec right-count-requires reach-of-requires takes-requires clipped-requires same-length returns refusal-requires returns-2)

@@ -1,4 +1,4 @@
--- `outlines::cut_by_passes` meets its contract: either memory has room for four corners more than the outline has. Assumes nothing.
+-- `outlines::cut_by_passes` meets its contract: each memory has room for four corners more than the outline has. Assumes nothing.
 use native.Mathlib.Omega.{arith}
 use borrow.Author.Needs.{needs}
 use Rattle.outlines.proofs.cut_by_passes.Statement.{statement}
@@ -20,13 +20,25 @@ slice-aggregate-cut-in-2 : tie.Need-slice-aggregate-cut-in-2
 slice-aggregate-cut-in-2 c = search needs
 
 cut-in-requires-2 : tie.Need-cut-in-requires-2
-cut-in-requires-2 c κs = let s = c .before .before .before in (s .pre .0, (s .pre .1 .0, (s .pre .1 .1 .0, (s .pre .1 .1 .1, omega (arith, s .pre .1 .1 .0 .few)))))
+cut-in-requires-2 c κs = let s = c .before .before .before .before in (s .pre .0, (s .pre .1 .0, (s .pre .1 .1 .0, (s .pre .1 .1 .1, omega (arith, c .before .before .if2 .taken)))))
 
 same-length-2 : tie.Need-same-length-2
 same-length-2 c = search needs
 
 returns-2 : tie.Need-returns-2
 returns-2 c = search needs
+
+slice-aggregate-cut-in-3 : tie.Need-slice-aggregate-cut-in-3
+slice-aggregate-cut-in-3 c = search needs
+
+cut-in-requires-3 : tie.Need-cut-in-requires-3
+cut-in-requires-3 c κs = let s = c .before .before .before .before in (s .pre .0, (s .pre .1 .0, (s .pre .1 .1 .0, (s .pre .1 .1 .1, omega (arith, s .pre .1 .1 .0 .few)))))
+
+same-length-3 : tie.Need-same-length-3
+same-length-3 c = search needs
+
+returns-3 : tie.Need-returns-3
+returns-3 c = search needs
 
 pub cut-by-passes-spec : {M : Type 1} → statement M
 cut-by-passes-spec =
@@ -39,4 +51,8 @@ cut-by-passes-spec =
     slice-aggregate-cut-in-2
     cut-in-requires-2
     same-length-2
-    returns-2)
+    returns-2
+    slice-aggregate-cut-in-3
+    cut-in-requires-3
+    same-length-3
+    returns-3)
