@@ -40,5 +40,7 @@ CALLS(gerlyantu)
 CALLS(tuned)
 // The same without the test of convexity: for outlines that are known to be strictly convex.
 struct Answer tuned_clip_convex(struct Window w, u32 order, const i32 *outline, usize count, i32 *out, usize room);
+// The same by four passes that look at every corner, without a rectangle round the outline first.
+struct Answer tuned_clip_plainly(struct Window w, u32 order, const i32 *outline, usize count, i32 *out, usize room);
 
 #endif

@@ -100,9 +100,12 @@ static void check_outline(struct Window w, u32 order, const i32 *c, usize count,
     struct Answer a = gerlyantu_clip_outline(w, order, c, count, out[0], room), b = tuned_clip_outline(w, order, c, count, out[1], room);
     check(a.number == b.number && a.place == b.place && a.count == b.count && !memcmp(out[0], out[1], sizeof out[0]), "an outline");
     if (!convex) return;
-    for (usize i = 0; i < ROOM + 8; i++) out[1][i] = 7000000 + (i32)i;
-    b = tuned_clip_convex(w, order, c, count, out[1], room);
-    check(a.number == b.number && a.place == b.place && a.count == b.count && !memcmp(out[0], out[1], sizeof out[0]), "a convex outline");
+    OutlineCall *const untested[] = { tuned_clip_convex, tuned_clip_plainly };
+    for (int k = 0; k < 2; k++) {
+        for (usize i = 0; i < ROOM + 8; i++) out[1][i] = 7000000 + (i32)i;
+        b = untested[k](w, order, c, count, out[1], room);
+        check(a.number == b.number && a.place == b.place && a.count == b.count && !memcmp(out[0], out[1], sizeof out[0]), "a convex outline");
+    }
 }
 
 // Small outlines, so that corners lie on sides and rings touch, and some that are refused.
@@ -156,25 +159,28 @@ void print_outlines(void) {
         }
 }
 
-static void rows_of(usize n, const char *const names[7]) {
+static void rows_of(usize n, const char *const names[9]) {
     Call *ours = (Call *)gerlyantu_clip_outline, *tuned = (Call *)tuned_clip_outline;
-    const struct Outlines *in = 0;
+    const struct Outlines *in = 0, *cut = 0;
     for (int k = 0; k <= KINDS; k++) {
         in = outlines_of(OUTLINES, n, k);
         check_outlines(in, 1);
+        if (k == CUT) cut = in;
         add_row((struct Row){ names[k], run_outlines, in, in->many, ours, tuned, in->many });
     }
     mixed[mixed_count++] = in;
     add_row((struct Row){ names[4], run_outlines, in, in->many, ours, (Call *)tuned_clip_convex, in->many });
+    add_row((struct Row){ names[5], run_outlines, in, in->many, ours, (Call *)tuned_clip_plainly, in->many });
+    add_row((struct Row){ names[6], run_outlines, cut, cut->many, ours, (Call *)tuned_clip_plainly, cut->many });
     for (int early = 0; early <= 1; early++) {
         const struct Outlines *bad = spoilt(in, early);
         check_outlines(bad, 0);
-        add_row((struct Row){ names[5 + early], run_outlines, bad, bad->many, ours, tuned, bad->many });
+        add_row((struct Row){ names[7 + early], run_outlines, bad, bad->many, ours, tuned, bad->many });
     }
 }
 
 #define NAMES(n) { "outline " n " whole", "outline " n " cut", "outline " n " outside", "outline " n " mixed", "outline " n " untested", \
-    "refused late " n, "refused early " n }
+    "outline " n " plain", "outline " n " plain cut", "refused late " n, "refused early " n }
 
 void outline_rows(void) {
     static const char *const three[] = NAMES("3"), *const eight[] = NAMES("8"), *const sixteen[] = NAMES("16"), *const most[] = NAMES("64");

@@ -13,9 +13,9 @@ FILENAME == ARGV[1] { count[$1, $2] = $3; next }
 # Ours has no call without the test of convexity. An outline with its last corner twice is refused (7) at the last edge, one with its first corner
 # twice at the first turn: between them lie all turns of the test but two, which give what a turn costs; a turn a corner is taken off. Of three
 # corners all turns are alike, so there it is the cost of a turn of eight.
-function without_test(table, corners,    some) {
+function without_test(table, corners, row,    some) {
     some = corners == 3 ? 8 : corners
-    return table["ours", "outline " corners " mixed"] - corners * (table["ours", "refused late " some] - table["ours", "refused early " some]) / (some - 2)
+    return table["ours", "outline " corners " " row] - corners * (table["ours", "refused late " some] - table["ours", "refused early " some]) / (some - 2)
 }
 function line(name) {
     printf "%-24s %9.1f %9.1f %6.2f", name, ns["ours", name], ns["tuned", name], ns["ours", name] / ns["tuned", name]
@@ -31,10 +31,11 @@ function head(title) {
 }
 END {
     for (i = 1; i <= n; i++)
-        if (names[i] ~ /untested/) {
+        if (names[i] ~ /untested|plain/) {
             split(names[i], word, " ")
-            ns["ours", names[i]] = without_test(ns, word[2])
-            instructions["ours", names[i]] = without_test(instructions, word[2])
+            row = word[4] ? word[4] : "mixed"
+            ns["ours", names[i]] = without_test(ns, word[2], row)
+            instructions["ours", names[i]] = without_test(instructions, word[2], row)
         }
     head("growth, per stroke")
     for (i = 1; i <= n; i++) if (names[i] ~ /^growth batch/) line(names[i])

@@ -278,3 +278,21 @@ struct Answer tuned_clip_outline(struct Window w, u32 order, const i32 *c, usize
 struct Answer tuned_clip_convex(struct Window w, u32 order, const i32 *c, usize n, i32 *restrict out, usize room) {
     return clip(w, order, c, n, out, room, 0);
 }
+
+struct Answer tuned_clip_plainly(struct Window w, u32 order, const i32 *c, usize n, i32 *restrict out, usize room) {
+    if (!good_window(w)) {
+        struct Refusal r = window_refusal(w);
+        return (struct Answer){ r.number, r.place, 0 };
+    }
+    if (UNLIKELY(order > 23)) return (struct Answer){ 4, 0, 0 };
+    if (UNLIKELY(n % 2 != 0 || n < 6 || n > 128)) return (struct Answer){ 5, 0, 0 };
+    if (any_off(c, n)) return (struct Answer){ 6, first_off(c), 0 };
+    struct Corner memory[72], *ring = memory;
+    struct Job j = { { w.left, w.right, w.bottom, w.top }, c, n };
+    usize left = load(ring, c, 0, n) - ring;
+    for (usize k = 0; k < 4; k++) {
+        left = pass(&j, orders[order][k], &ring, left);
+        if (left < 3) return (struct Answer){ 0, 0, 0 };
+    }
+    return give(ring, left, out, room);
+}

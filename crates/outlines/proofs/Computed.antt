@@ -10,7 +10,7 @@ use lib.Dec.{eqb, leb}
 use lib.IntN.{ℤ, pos, _*ℤ_}
 use lib.ListN.{length}
 use lib.Signed.{_≤ℤ_, _<ℤ_, ltZ, clashℤ}
-use Rattle.whole.specs.Choice.{if_then_else_}
+use Rattle.whole.specs.Choice.{if_then_else_, Decides}
 use Rattle.whole.proofs.Comparisons.{by-test, lt-yes, lt-no, ff-tt, tt-ff}
 use Rattle.whole.proofs.Order.{zarith, <→≤, ≤-antisym}
 use Rattle.grid.specs.Calls.{refusedBy, answered, written}
@@ -30,7 +30,6 @@ use Rattle.rings.proofs.Theorems.{starts-at}
 use Rattle.corners.specs.Corners.{cornersOf}
 use Rattle.passes.specs.Orders.{linesIn}
 use Rattle.outlines.specs.Outlines.{outlineRefusal, Clipped, Outline}
-use Rattle.outlines.specs.Workers.{Decides}
 use Rattle.outlines.proofs.Lowest.{by-width}
 use Rattle.outlines.proofs.Passes.{cuts-ring, ring-passed, none-passed}
 use Rattle.outlines.proofs.Refusals.{nothing-refused}

@@ -6,12 +6,13 @@ use Prim.Native.Nat.{ℕ, zero, suc, _+_, _<_}
 use native.Mathlib.Decide.{decLt}
 use native.Mathlib.Omega.{arith}
 use lib.ListN.{length}
+use Rattle.whole.specs.Choice.{Decides}
 use Rattle.rings.specs.Points.{Point, Proper, Before}
 use Rattle.rings.specs.Rings.{at, Edge, along, closing, Ring}
 use Rattle.rings.proofs.Linear.{place-all}
 use Rattle.rings.proofs.Before.{before-asym, before-trans}
 use Rattle.rings.proofs.Theorems.{valley}
-use Rattle.outlines.specs.Workers.{Decides, LowestIn, Forward, stays, moves}
+use Rattle.outlines.specs.Workers.{LowestIn, Forward, stays, moves}
 
 -- the same of the same points
 pub decides-same : {b : Bool} {p q u v : Point} → p ≡ u → q ≡ v → Decides b (Before u v) → Decides b (Before p q)

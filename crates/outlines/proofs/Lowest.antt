@@ -5,6 +5,7 @@ use Prim.Native.Nat.{ℕ, zero, suc, _-_, _<_}
 use native.Mathlib.Omega.{arith}
 use lib.IntN.{ℤ, _*ℤ_}
 use lib.Signed.{_≤ℤ_, ltZ}
+use Rattle.whole.specs.Choice.{Decides}
 use Rattle.whole.proofs.Order.{zarith}
 use Rattle.whole.proofs.Comparisons.{lt-yes, lt-no}
 use Rattle.rings.specs.Points.{Point, Before, lower, level}
@@ -14,7 +15,7 @@ use Rattle.rings.proofs.Start.{turned-ring}
 use Rattle.rings.proofs.Theorems.{starts-at}
 use Rattle.passes.specs.Memory.{pointIn, ringFrom, ringIn}
 use Rattle.passes.proofs.Memories.{ring-length, ring-all}
-use Rattle.outlines.specs.Workers.{Decides, LowestIn, startedAt}
+use Rattle.outlines.specs.Workers.{LowestIn, startedAt}
 use Rattle.outlines.proofs.Memory.{memory-at, turned-at}
 
 module _ {p q : Point} {a b : ℤ} where

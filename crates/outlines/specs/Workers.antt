@@ -2,7 +2,6 @@
 --   NumbersOnTable zs     all numbers of an outline are on the table
 --   ReachOnTable b        no number of what lies in the rectangle b is off the table
 --   Beyond w b s          no point of the rectangle b lies strictly inside the side s of the window w
---   Decides b P           b is true exactly when P holds
 --   LowestIn r k          of the corners of the ring r none comes before that at place k
 --   Forward r k           the walk down from the first corner of r forward ends at place k: at the lowest corner, or at the first, where the second does not come before it
 --   startedAt m n k       these corners, started at place k
@@ -12,7 +11,6 @@
 --   cornerIn zs k         of an outline, the corner whose x stands at place k
 --   LowestPlace zs k      no corner of the outline comes before that at place k
 use mathlib.Core.Path.{_≡_}
-use mathlib.Core.Bool.{Bool, true, false}
 use mathlib.Core.List.{List, [], _∷_, _++_}
 use Prim.Native.Nat.{ℕ, zero, suc, _+_, _-_, _%_, _<_}
 use lib.IntN.{ℤ, pos, negℤ}
@@ -30,7 +28,7 @@ use Rattle.rings.specs.Lists.{All, Turned}
 use Rattle.rings.specs.Points.{Point, Before}
 use Rattle.rings.specs.Rings.{at, Starts}
 use Rattle.corners.specs.Corners.{gridPoint, cornersOf}
-use Rattle.passes.specs.Memory.{pointIn, ringFrom}
+use Rattle.passes.specs.Memory.{ringFrom}
 use Rattle.outlines.specs.Outlines.{RingNumbers}
 
 abbrev pub NumbersOnTable : List ℤ → Type 0
@@ -47,10 +45,6 @@ Beyond w b zero = b .right ≤ℤ w .left
 Beyond w b (suc zero) = w .right ≤ℤ b .left
 Beyond w b (suc (suc zero)) = b .top ≤ℤ w .bottom
 Beyond w b (suc (suc (suc s))) = w .top ≤ℤ b .bottom
-
-pub record Decides (b : Bool) (P : Type 0) : Type 0 where
-  pub yes : b ≡ true → P
-  pub no : b ≡ false → P → ⊥
 
 pub record LowestIn (r : List Point) (k : ℕ) : Type 0 where
   pub inside : k < length r

@@ -3,10 +3,11 @@ use grid::Answer;
 ghost use mathlib.Core.Path.{_≡_};
 ghost use Prim.Native.Nat.{_+_, _*_, _%_, _≤_};
 ghost use lib.ListN.{length};
+ghost use Rattle.whole.specs.Choice.{Decides};
 ghost use Rattle.rings.specs.Points.{Before};
 ghost use Rattle.rings.specs.Rings.{Ring};
 ghost use Rattle.corners.specs.Corners.{cornersOf};
-ghost use Rattle.outlines.specs.Workers.{Decides, LowestIn, Forward, cornerIn, LowestPlace, Wrote, GaveRing};
+ghost use Rattle.outlines.specs.Workers.{LowestIn, Forward, cornerIn, LowestPlace, Wrote, GaveRing};
 
 // Whether the corner i of an outline lies lower than the corner j, or as low and further left.
 fn comes_before(c: &[i32], i: usize, j: usize) -> bool

@@ -1,21 +1,22 @@
 -- What stands in memory at the two ends of the run outside: where the ring goes out, and where it comes in.
 use mathlib.Core.Path.{_≡_, refl, sym, ap, _∙_, subst}
 use mathlib.Core.List.{List, [], _∷_}
-use mathlib.Core.Logic.{_⊎_, inl, inr}
-use Prim.Native.Nat.{ℕ, zero, _+_, _-_, _*_, _<_, _≤_}
+use mathlib.Core.Bool.{Bool}
+use mathlib.Core.Logic.{_⊎_, inl, inr, ⊎-elim}
+use Prim.Native.Nat.{ℕ, _+_, _-_, _*_, _<_, _≤_}
 use native.Mathlib.Nat.{add-zero}
 use native.Mathlib.Numerals.{add-one}
 use native.Mathlib.Omega.{arith}
 use lib.IntN.{ℤ, pos}
 use lib.ListN.{length}
-use lib.Signed.{_≤ℤ_, _<ℤ_}
-use Rattle.whole.proofs.Order.{≤-antisym}
+use Rattle.whole.specs.Choice.{Decides}
+use Rattle.whole.proofs.Order.{≤-total, ≤-antisym}
 use Rattle.grid.specs.declared.Window.{Window}
-use Rattle.rings.specs.Points.{Point, Line, value, In}
+use Rattle.rings.specs.Points.{Point, Line, value, In, Over, On}
 use Rattle.passes.specs.Memory.{pointIn}
 use Rattle.passes.specs.Orders.{sideLine}
 use Rattle.passes.specs.Tags.{tagIn}
-use Rattle.passes.specs.Steps.{putAt, Entered, Went}
+use Rattle.passes.specs.Steps.{Meeting, putAt, Entered, Went}
 use Rattle.passes.specs.Steps as steps
 use Rattle.passes.specs.Runs.{Tagged, tagged, cornerIn, cornersFrom, Goes, Comes, on-line, crosses}
 use Rattle.passes.proofs.Memories.{put-at}
@@ -32,14 +33,18 @@ pub record Gone (w : Window) (zs : List ℤ) (s : ℕ) (m : List ℤ) (i : ℕ) 
   pub before : (j : ℕ) → j < i → cornerIn m′ j ≡ cornerIn m j
   pub after : (j : ℕ) → r ≤ j → cornerIn m′ j ≡ cornerIn m j
 
-pub gone : {w : Window} {zs : List ℤ} {s : ℕ} {here : ℤ} {m : List ℤ} {i : ℕ} {m′ : List ℤ} {r : ℕ} → 4 * i + 8 ≤ length m → here ≡ value (sideLine w s) (pointIn m i) → In (sideLine w s) (pointIn m i)
+-- a corner inside that is not on the line
+over : (h : Line) (p : Point) → In h p → (On h p → ⊥) → Over h p
+over h p k n = ⊎-elim (λ l. absurd (n (≤-antisym l k))) (λ l. l) (≤-total (value h p) (pos 0))
+
+pub gone : {w : Window} {zs : List ℤ} {s : ℕ} {here : Bool} {m : List ℤ} {i : ℕ} {m′ : List ℤ} {r : ℕ} → 4 * i + 8 ≤ length m → Decides here (On (sideLine w s) (pointIn m i)) → In (sideLine w s) (pointIn m i)
     → Went w zs s here m i m′ r → Gone w zs s m i m′ r
 unfolding cornersFrom
 gone {s = s} {m = m} {i} h e k (steps.on-line l) =
     let p = put-at m i (pointIn m i) (pos (64 + s)) (omega arith) in
     record {
       t = tagged (pointIn m i) (pos (64 + s)) ∷ [];
-      goes = on-line (≤-antisym (subst (λ (z : ℤ). z ≤ℤ pos 0) e l) k);
+      goes = on-line (e .yes l);
       count = 1;
       some = omega arith;
       few = omega arith;
@@ -48,11 +53,11 @@ gone {s = s} {m = m} {i} h e k (steps.on-line l) =
       before = λ j b. p .others j (inl b);
       after = λ j b. p .others j (inr (omega arith));
     }
-gone {s = s} {m = m} {i} h e k (steps.crosses {p = q} l x) =
+gone {w} {s = s} {m = m} {i} h e k (steps.crosses {p = q} l x) =
     let p = put-at m (i + 1) q (pos (64 + s)) (omega arith) in
     record {
       t = cornerIn m i ∷ tagged q (pos (64 + s)) ∷ [];
-      goes = crosses (subst (λ (z : ℤ). pos 0 <ℤ z) e l) x;
+      goes = crosses (over (sideLine w s) (pointIn m i) k (e .no l)) x;
       count = 2;
       some = omega arith;
       few = omega arith;
@@ -72,23 +77,23 @@ pub record Come (w : Window) (zs : List ℤ) (s : ℕ) (m : List ℤ) (o : ℕ) 
   pub stands : cornersFrom m′ r count ≡ c
   pub others : (j : ℕ) → j < o ⊎ o < j → cornerIn m′ j ≡ cornerIn m j
 
-pub come : {w : Window} {zs : List ℤ} {s : ℕ} {there : ℤ} {m : List ℤ} {o : ℕ} {p : Point} {m′ : List ℤ} {r : ℕ} → 4 * o + 4 ≤ length m → there ≡ value (sideLine w s) p → In (sideLine w s) p
-    → Entered w zs s there m o m′ r → Come w zs s m o p m′ r
+pub come : {w : Window} {zs : List ℤ} {s : ℕ} {h : Line} {there : Bool} {m : List ℤ} {o : ℕ} {p : Point} {m′ : List ℤ} {r : ℕ} → h ≡ sideLine w s → 4 * o + 4 ≤ length m
+    → Decides there (On (sideLine w s) p) → In (sideLine w s) p → Entered w zs h there m o m′ r → Come w zs s m o p m′ r
 unfolding cornersFrom
-come h e k (steps.on-line l) = record {
+come q h e k (steps.on-line l) = record {
   c = [];
-  comes = on-line (≤-antisym (subst (λ (z : ℤ). z ≤ℤ pos 0) e l) k);
+  comes = on-line (e .yes l);
   count = 0;
   few = omega arith;
   start = add-zero _;
   stands = refl;
   others = λ j b. refl;
 }
-come {m = m} {o} h e k (steps.crosses {p = q} l x) =
-    let p = put-at m o q (tagIn m o) h in
+come {w} {zs} {s} {m = m} {o} {p = z} q h e k (steps.crosses {p = x} l met) =
+    let p = put-at m o x (tagIn m o) h in
     record {
-      c = tagged q (tagIn m o) ∷ [];
-      comes = crosses (subst (λ (z : ℤ). pos 0 <ℤ z) e l) x;
+      c = tagged x (tagIn m o) ∷ [];
+      comes = crosses (over (sideLine w s) z k (e .no l)) (subst (λ (k : Line). Meeting w zs k (tagIn m o) x) q met);
       count = 1;
       few = omega arith;
       start = refl;

@@ -1,8 +1,9 @@
 -- Where a stroke meets a line: the point that `meet` computes, the same with x and y exchanged, and that a stroke with points on both sides of a line does not run along it.
 use mathlib.Core.Path.{_≡_, refl, sym, ap, _∙_}
+use mathlib.Core.Bool.{Bool, true, false}
 use mathlib.Core.List.{List, [], _∷_}
 use mathlib.Core.Logic.{⊎-elim}
-use Prim.Native.Nat.{ℕ, zero, suc, _<_, _≤_}
+use Prim.Native.Nat.{ℕ, zero, suc}
 use native.Mathlib.Omega.{arith}
 use lib.Dec.{T, leb}
 use lib.IntN.{ℤ, pos, negℤ, _*ℤ_}
@@ -13,7 +14,6 @@ use Rattle.whole.proofs.Polynomials.{ring, same}
 use Rattle.whole.proofs.Order.{≤-total, ≤-antisym, <-diff}
 use Rattle.whole.proofs.Certificates.{clash, po, lt, eq, _⊞_, _⊠_, eq-by, eqn, eq-cancel, _⊹_}
 use Rattle.whole.proofs.Ranges.{Bounds, bound, within}
-use Rattle.grid.specs.declared.Window.{Window}
 use Rattle.grid.specs.declared.Stroke.{Stroke}
 use Rattle.grid.specs.Table.{farthest, StrokeOnTable}
 use Rattle.rings.specs.Points.{Point, Line, value, through, Over, Out, On, Real, Proper}
@@ -22,9 +22,10 @@ use Rattle.rings.specs.Windows.{left-side, bottom-side}
 use Rattle.rings.proofs.Plane.{nought, with-line, value-of, det-of, w-of}
 use Rattle.corners.specs.Corners.{gridPoint}
 use Rattle.passes.specs.Memory.{largestNumber}
-use Rattle.passes.specs.Orders.{sideLine}
-use Rattle.passes.specs.Tags.{stroke, numberOf, lineOf}
+use Rattle.passes.specs.Tags.{stroke, lineOf}
+use Rattle.passes.specs.Limits.{limitLine}
 use Rattle.passes.specs.Steps.{Meets}
+use Rattle.passes.specs.declared.limit.Limit.{Limit}
 use Rattle.passes.proofs.Sides.{Opposite, right-opposite, top-opposite}
 
 abbrev one : Expr
@@ -108,18 +109,25 @@ bottom-meets c ax ay bx by {p} m = record {
   small = λ n. let s = m .small (λ q. n (bottom-left c (gridPoint ax ay) ∙ q ∙ sym (bottom-left c (gridPoint bx by)))) in record { positive = s .positive; den = s .den; x = s .y; y = s .x };
 }
 
--- ---- a side of the window
-pub upright-meets : (w : Window) (s : ℕ) {e : Stroke} {p : Point} → s < 2 → Meets (left-side (numberOf w s)) e p → Meets (sideLine w s) e p
-upright-meets w zero h m = m
-upright-meets w (suc zero) h m = opposite (right-opposite (w .right)) m
-upright-meets w (suc (suc s)) h m = absurd (omega arith)
+-- ---- a limit's line, by its axis
+pub upright-meets : (l : Limit) {e : Stroke} {p : Point} → l .axis ≡ 0 → Meets (left-side (l .c)) e p → Meets (limitLine l) e p
+upright-meets l {e} {p} z m = go (l .low) (l .axis) z
+  where
+    go : (low : Bool) (k : ℕ) → k ≡ 0 → Meets (limitLine (record { low = low; axis = k; c = l .c })) e p
+    go true zero z = m
+    go false zero z = opposite (right-opposite (l .c)) m
+    go low (suc k) z = absurd (omega arith)
 
-pub level-meets : (w : Window) (s : ℕ) (e : Stroke) {p : Point} → 2 ≤ s → s < 4 → Meets (left-side (numberOf w s)) (stroke (e .y1) (e .x1) (e .y2) (e .x2)) p → Meets (sideLine w s) e (exchanged p)
-level-meets w zero e h l m = absurd (omega arith)
-level-meets w (suc zero) e h l m = absurd (omega arith)
-level-meets w (suc (suc zero)) e h l m = bottom-meets (w .bottom) (e .x1) (e .y1) (e .x2) (e .y2) m
-level-meets w (suc (suc (suc zero))) e h l m = opposite (top-opposite (w .top)) (bottom-meets (w .top) (e .x1) (e .y1) (e .x2) (e .y2) m)
-level-meets w (suc (suc (suc (suc s)))) e h l m = absurd (omega arith)
+pub level-meets : (l : Limit) (e : Stroke) {p : Point} → (l .axis ≡ 0 → ⊥) → Meets (left-side (l .c)) (stroke (e .y1) (e .x1) (e .y2) (e .x2)) p → Meets (limitLine l) e (exchanged p)
+level-meets l e {p} n m = go (l .low) (l .axis) n
+  where
+    met : Meets (bottom-side (l .c)) e (exchanged p)
+    met = bottom-meets (l .c) (e .x1) (e .y1) (e .x2) (e .y2) m
+
+    go : (low : Bool) (k : ℕ) → (k ≡ 0 → ⊥) → Meets (limitLine (record { low = low; axis = k; c = l .c })) e (exchanged p)
+    go low zero n = absurd (n refl)
+    go true (suc k) n = met
+    go false (suc k) n = opposite (top-opposite (l .c)) met
 
 -- ---- a stroke whose line has points on both sides of h does not run along h: else h would be h(a)·W on it, a being its start
 module _ (h : Line) (e : Stroke) where

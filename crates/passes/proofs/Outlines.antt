@@ -14,7 +14,7 @@ use mir.Val.{toZ, ofZ}
 use Rattle.whole.proofs.Comparisons.{back}
 use Rattle.grid.specs.declared.Window.{Window}
 use Rattle.grid.specs.declared.Stroke.{Stroke}
-use Rattle.grid.specs.Table.{strokeAt, WindowOnTable, StrokeOnTable}
+use Rattle.grid.specs.Table.{WindowOnTable, StrokeOnTable}
 use Rattle.rings.specs.Lists.{All, ∅, _◂_}
 use Rattle.rings.specs.Points.{Point, through, Real, Proper}
 use Rattle.rings.specs.Rings.{at, Edge, along, closing, Ring}
@@ -29,24 +29,16 @@ pub read-stroke : (a b c d : ℤ) → mag a < 2 ^ 31 → mag b < 2 ^ 31 → mag 
 read-stroke a b c d ha hb hc hd = λ i. stroke (back w32 a ha i) (back w32 b hb i) (back w32 c hc i) (back w32 d hd i)
 
 -- ---- the next corner
-next-on : (n k : ℕ) → suc k < n → next n k ≡ suc k
+pub next-on : (n k : ℕ) → suc k < n → next n k ≡ suc k
 unfolding next
 next-on n k h = simp (ne-eqb (suc k) n (λ e. omega arith))
 
-next-round : (n k : ℕ) → suc k ≡ n → next n k ≡ 0
+pub next-round : (n k : ℕ) → suc k ≡ n → next n k ≡ 0
 unfolding next
 next-round n k e = simp (eq-eqb (suc k) n e)
 
-pub edge-on : (zs : List ℤ) (k : ℕ) → suc k < length zs / 2 → strokeAt zs (2 * k) ≡ edgeOf zs k
-unfolding edgeOf
-edge-on zs k h =
-    let a : 2 * k + 2 ≡ 2 * suc k = omega arith in
-    let b : 2 * k + 3 ≡ 2 * suc k + 1 = omega arith in
-    rw (next-on (length zs / 2) k h) (λ i. stroke (getD zs (2 * k) (pos 0)) (getD zs (2 * k + 1) (pos 0)) (getD zs (a i) (pos 0)) (getD zs (b i) (pos 0)))
-
-pub edge-round : (zs : List ℤ) (k : ℕ) → suc k ≡ length zs / 2 → stroke (getD zs (2 * k) (pos 0)) (getD zs (2 * k + 1) (pos 0)) (getD zs 0 (pos 0)) (getD zs 1 (pos 0)) ≡ edgeOf zs k
-unfolding edgeOf
-edge-round zs k h = rw (next-round (length zs / 2) k h)
+pub next-below : (n k : ℕ) → k < n → next n k < n
+next-below n k h = ⊎-elim (λ e. rw (next-round n k e) (omega arith)) (λ l. rw (next-on n k l) l) (eq-or-lt-of-le h)
 
 -- ---- the corners
 pub corner-count : (zs : List ℤ) → length (cornersOf zs) ≡ length zs / 2

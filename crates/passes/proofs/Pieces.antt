@@ -61,7 +61,7 @@ record Found (h : Line) (e : Stroke) (u v p : Point) : Type 0 where
   crossing : Crossing h u v p
   on-stroke : On (lineOf e) p
 
-found : {w : Window} {zs : List ℤ} {s : ℕ} {a : ℤ} {u v p : Point} → Job w zs s → (l : Lies w zs a u v) → Meeting w zs s a p → Proper u → Proper v → Across (sideLine w s) u v → Found (sideLine w s) (l .stroke) u v p
+found : {w : Window} {zs : List ℤ} {s : ℕ} {a : ℤ} {u v p : Point} → Job w zs s → (l : Lies w zs a u v) → Meeting w zs (sideLine w s) a p → Proper u → Proper v → Across (sideLine w s) u v → Found (sideLine w s) (l .stroke) u v p
 found {w} {s = s} {u = u} {v} {p} g l m pu pv x =
     let e = l .stroke in
     let real = named-real (g .outline) (l .named) in

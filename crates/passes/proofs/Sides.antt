@@ -21,7 +21,7 @@ use Rattle.rings.specs.Windows.{left-side, right-side, bottom-side, top-side}
 use Rattle.rings.proofs.Plane.{nought}
 use Rattle.rings.proofs.Windows.{left-real, right-real, bottom-real, top-real}
 use Rattle.passes.specs.Orders.{sideLine}
-use Rattle.passes.specs.Tags.{stroke, lineOf, numberOf, signOf, sideOf}
+use Rattle.passes.specs.Tags.{stroke, lineOf, numberOf, sideOf}
 
 abbrev one : Expr
 one = con (pos 1)
@@ -32,12 +32,6 @@ number-within w zero t = t .left
 number-within w (suc zero) t = t .right
 number-within w (suc (suc zero)) t = t .bottom
 number-within w (suc (suc (suc s))) t = t .top
-
-pub sign-within : (s : ℕ) → Within 1 (signOf s)
-sign-within zero = abs-within (omega arith)
-sign-within (suc zero) = abs-within (omega arith)
-sign-within (suc (suc zero)) = abs-within (omega arith)
-sign-within (suc (suc (suc s))) = abs-within (omega arith)
 
 -- ---- two lines of which the values are opposite
 abbrev pub Opposite : Line → Line → Type 0

@@ -1,30 +1,32 @@
 -- A side as a limit on x or on y, and a run of corners inside it or outside it.
---   LimitOnTable l        the sign, the axis and the number of the limit l are a side's
---   limitLine l           the line of the limit l: its sign times X, or Y where its axis is 1, less its number times W
+--   LimitOnTable l        the axis and the number of the limit l are a side's
+--   limitLine l           the line of the limit l: in it X, or Y where its axis is 1, is at least its number times W where it is low, else at most
 --   SmallIn m i k         the corners in the memory m from the place i up to the place k are small
 --   LiesSo out h p        p lies strictly outside h, or, where out is false, inside it or on it
 --   RunTo h m out from to r   of the corners in the memory m those from one place on, up to the place r, lie so; the one at r does not, unless r is the place to
 use mathlib.Core.Bool.{Bool, true, false, not}
 use mathlib.Core.List.{List}
 use Prim.Native.Nat.{ℕ, zero, suc, _<_, _≤_}
-use lib.IntN.{ℤ, pos, negℤ}
+use lib.IntN.{ℤ}
 use Rattle.whole.specs.Within.{Within}
 use Rattle.grid.specs.Table.{farthest}
 use Rattle.rings.specs.Points.{Point, Line, In, Out}
+use Rattle.rings.specs.Windows.{left-side, right-side, bottom-side, top-side}
 use Rattle.passes.specs.Memory.{pointIn, Small}
 use Rattle.passes.specs.declared.limit.Limit.{Limit}
 
 pub record LimitOnTable (l : Limit) : Type 0 where
-  pub sign : Within 1 (l .sign)
   pub axis : l .axis < 2
   pub number : Within farthest (l .c)
 
-abbrev lineBy : ℕ → ℤ → ℤ → Line
-lineBy zero s c = record { A = s; B = pos 0; C = negℤ c }
-lineBy (suc k) s c = record { A = pos 0; B = s; C = negℤ c }
+abbrev lineBy : Bool → ℕ → ℤ → Line
+lineBy true zero c = left-side c
+lineBy false zero c = right-side c
+lineBy true (suc k) c = bottom-side c
+lineBy false (suc k) c = top-side c
 
 abbrev pub limitLine : Limit → Line
-limitLine l = lineBy (l .axis) (l .sign) (l .c)
+limitLine l = lineBy (l .low) (l .axis) (l .c)
 
 abbrev pub SmallIn : List ℤ → ℕ → ℕ → Type 0
 SmallIn m i k = (j : ℕ) → i ≤ j → j < k → Small (pointIn m j)

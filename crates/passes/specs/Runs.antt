@@ -48,9 +48,9 @@ pub record Moved (m m′ : List ℤ) (from to at : ℕ) : Type 0 where
 
 pub data Goes (w : Window) (zs : List ℤ) (s : ℕ) : Tagged → List Tagged → List Tagged → Type 0 where
   on-line : {u : Tagged} → On (sideLine w s) (u .point) → Goes w zs s u [] (tagged (u .point) (pos (64 + s)) ∷ [])
-  crosses : {u : Tagged} {p : Point} → Over (sideLine w s) (u .point) → Meeting w zs s (u .tag) p → Goes w zs s u [] (u ∷ tagged p (pos (64 + s)) ∷ [])
+  crosses : {u : Tagged} {p : Point} → Over (sideLine w s) (u .point) → Meeting w zs (sideLine w s) (u .tag) p → Goes w zs s u [] (u ∷ tagged p (pos (64 + s)) ∷ [])
   more : {u v : Tagged} {r t : List Tagged} → Goes w zs s v r t → Goes w zs s u (v ∷ r) (u ∷ t)
 
 pub data Comes (w : Window) (zs : List ℤ) (s : ℕ) (o : Tagged) (p : Point) : List Tagged → Type 0 where
   on-line : On (sideLine w s) p → Comes w zs s o p []
-  crosses : {q : Point} → Over (sideLine w s) p → Meeting w zs s (o .tag) q → Comes w zs s o p (tagged q (o .tag) ∷ [])
+  crosses : {q : Point} → Over (sideLine w s) p → Meeting w zs (sideLine w s) (o .tag) q → Comes w zs s o p (tagged q (o .tag) ∷ [])

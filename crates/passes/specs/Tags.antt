@@ -3,7 +3,6 @@
 --   lineOf e            the line from the start of a stroke to its end
 --   edgeOf zs k         of the outline zs, the edge from the corner k to the next
 --   numberOf w s        the window's number of the side s
---   signOf s            1 where the window lies above the number of the side s, -1 where it lies below
 --   sideOf w s          a stroke on the line of the window's side s, of length 1
 --   Names w zs t e      the tag t names the line of e: below 64 the outline's own edge from its corner t, from 64 on a side of the window
 --   Named w zs t        t names a line
@@ -14,7 +13,7 @@ use mathlib.Core.Path.{_≡_}
 use mathlib.Core.List.{List}
 use Prim.Native.Nat.{ℕ, zero, suc, _+_, _*_, _/_, _<_}
 use lib.Dec.{ltb}
-use lib.IntN.{ℤ, pos, negsuc}
+use lib.IntN.{ℤ, pos}
 use lib.ListN.{length, getD}
 use Rattle.whole.specs.Choice.{if_then_else_}
 use Rattle.grid.specs.declared.Window.{Window}
@@ -39,12 +38,6 @@ numberOf w zero = w .left
 numberOf w (suc zero) = w .right
 numberOf w (suc (suc zero)) = w .bottom
 numberOf w (suc (suc (suc s))) = w .top
-
-abbrev pub signOf : ℕ → ℤ
-signOf zero = pos 1
-signOf (suc zero) = negsuc 0
-signOf (suc (suc zero)) = pos 1
-signOf (suc (suc (suc s))) = negsuc 0
 
 unfoldable pub sideOf : Window → ℕ → Stroke
 sideOf w s = if ltb s 2 then stroke (numberOf w s) (pos 0) (numberOf w s) (pos 1) else stroke (pos 0) (numberOf w s) (pos 1) (numberOf w s)

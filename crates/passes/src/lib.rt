@@ -11,11 +11,12 @@ ghost use Rattle.whole.specs.Choice.{if_then_else_};
 ghost use Rattle.whole.specs.Within.{Within};
 ghost use Rattle.grid.specs.Table.{farthest, WindowOnTable, StrokeOnTable};
 ghost use Rattle.rings.specs.Points.{Out};
+ghost use Rattle.corners.specs.Corners.{next};
 ghost use Rattle.rings.specs.Windows.{«left-side»};
 ghost use Rattle.passes.specs.Memory.{pointIn};
 ghost use Rattle.passes.specs.Orders.{sideLine, sidesIn, packed};
 ghost use Rattle.passes.specs.Outlines.{OutlineOnTable, Reaches, Clear, Job};
-ghost use Rattle.passes.specs.Tags.{stroke, numberOf, signOf, edgeOf, tagIn, Names, Named, Loaded};
+ghost use Rattle.passes.specs.Tags.{stroke, numberOf, edgeOf, tagIn, Names, Named, Loaded};
 ghost use Rattle.passes.specs.Limits.{LimitOnTable, limitLine, RunTo};
 ghost use Rattle.passes.specs.Steps.{pointOf, Meets, Meeting, putAt, Entered, Went};
 ghost use Rattle.passes.specs.Runs.{Moved};
@@ -89,17 +90,6 @@ fn number(w: Window, side: usize) -> i32
     w.top
 }
 
-// 1 for a side that the window lies above, -1 for one that it lies below.
-fn sign_of(side: usize) -> i32
-    requires { ⌜ side < 4 ⌝ }
-    ensures { λ r. ⌜ r ≡ signOf side ⌝ }
-{
-    if side % 2 == 0 {
-        return 1;
-    }
-    -1
-}
-
 // Whether a side is clear of a rectangle: none of its points lies outside.
 fn clear(w: Window, side: usize, reach: Window) -> bool
     ensures { λ r. ⌜ (r ≡ true → Clear w reach side) ⌝ }
@@ -123,12 +113,22 @@ fn limit_of(w: Window, side: usize) -> Limit
     ensures { λ r. ⌜ limitLine r ≡ sideLine w side ⌝ }
     ensures { λ r. ⌜ LimitOnTable r ⌝ }
 {
-    let sign = sign_of(side);
     Limit {
-        sign,
+        low: side % 2 == 0,
         axis: side / 2,
-        c: sign * number(w, side),
+        c: number(w, side),
     }
+}
+
+// Of n corners the one that comes after the corner k: after the last the first.
+fn next_of(k: usize, n: usize) -> usize
+    requires { ⌜ k < n ⌝ }
+    ensures { λ r. ⌜ r ≡ next n k ⌝ }
+{
+    if k + 1 == n {
+        return 0;
+    }
+    k + 1
 }
 
 // The outline's edge from its corner k to the next.
@@ -137,15 +137,12 @@ fn edge(outline: &[i32], k: usize) -> Stroke
     requires { ⌜ k < length (now outline) / 2 ⌝ }
     ensures { λ r. ⌜ r ≡ edgeOf (now (outline .entry)) k ⌝ }
 {
-    let at = 2 * k;
-    if at + 2 < outline.len() {
-        return grid::stroke_at(outline, at);
-    }
+    let next = next_of(k, outline.len() / 2);
     Stroke {
-        x1: outline[at],
-        y1: outline[at + 1],
-        x2: outline[0],
-        y2: outline[1],
+        x1: outline[2 * k],
+        y1: outline[2 * k + 1],
+        x2: outline[2 * next],
+        y2: outline[2 * next + 1],
     }
 }
 
@@ -198,15 +195,17 @@ fn meet(c: i32, ax: i32, ay: i32, bx: i32, by: i32) -> Corner
     }
 }
 
-// Where the line that a tag names meets a side's.
-fn crossing(w: Window, side: usize, outline: &[i32], tag: i32) -> Corner
-    requires { ⌜ Job w (now outline) side ⌝ }
+// Where the line that a tag names meets a limit's.
+fn crossing(w: Window, l: Limit, outline: &[i32], tag: i32) -> Corner
+    requires { ⌜ WindowOnTable w ⌝ }
+    requires { ⌜ OutlineOnTable (now outline) ⌝ }
+    requires { ⌜ LimitOnTable l ⌝ }
     requires { ⌜ Named w (now outline) tag ⌝ }
-    ensures { λ r. ⌜ Meeting w (now (outline .entry)) side tag (pointOf r) ⌝ }
+    ensures { λ r. ⌜ Meeting w (now (outline .entry)) (limitLine l) tag (pointOf r) ⌝ }
 {
     let e = named(w, outline, tag);
-    let c = number(w, side);
-    if side < 2 {
+    let c = l.c;
+    if l.axis == 0 {
         return meet(c, e.x1, e.y1, e.x2, e.y2);
     }
     let p = meet(c, e.y1, e.x1, e.y2, e.x2);
@@ -245,37 +244,48 @@ fn put(m: &mut [i32], i: usize, p: Corner, tag: i32)
     m[at + 3] = tag;
 }
 
-// Where the ring comes in from the corner o outside to one of the value there: the crossing takes the place of o.
+// Where the ring comes in from the corner o outside to one inside, not there on the limit: the crossing takes the place of o.
 // What is left begins at the place answered.
-fn enter(w: Window, side: usize, outline: &[i32], m: &mut [i32], o: usize, there: i32) -> usize
-    requires { ⌜ Job w (now outline) side ⌝ }
+fn enter(w: Window, l: Limit, outline: &[i32], m: &mut [i32], o: usize, there: bool) -> usize
+    requires { ⌜ WindowOnTable w ⌝ }
+    requires { ⌜ OutlineOnTable (now outline) ⌝ }
+    requires { ⌜ LimitOnTable l ⌝ }
     requires { ⌜ 4 * o + 4 ≤ length (now m) ⌝ }
     requires { ⌜ Named w (now outline) (tagIn (now m) o) ⌝ }
-    ensures { λ r. ⌜ Entered w (now (outline .entry)) side there (now (m .entry)) o (now (m .exit)) r ⌝ }
+    ensures { λ r. ⌜ Entered w (now (outline .entry)) (limitLine l) there (now (m .entry)) o (now (m .exit)) r ⌝ }
 {
-    if there <= 0 {
+    if there {
         return o + 1;
     }
     let tag = m[4 * o + 3];
-    put(m, o, crossing(w, side, outline, tag), tag);
+    put(m, o, crossing(w, l, outline, tag), tag);
     o
 }
 
-// Where the ring goes out from the corner i inside, of the value here: the crossing comes after it, or its next edge lies
+// Where the ring goes out from the corner i inside: the crossing comes after it or, where it is here on the limit, its next edge lies
 // along the side. What is left ends before the place answered.
-fn leave(w: Window, side: usize, outline: &[i32], m: &mut [i32], i: usize, here: i32) -> usize
+fn leave(
+    w: Window,
+    side: usize,
+    l: Limit,
+    outline: &[i32],
+    m: &mut [i32],
+    i: usize,
+    here: bool,
+) -> usize
     requires { ⌜ Job w (now outline) side ⌝ }
+    requires { ⌜ (limitLine l ≡ sideLine w side) × LimitOnTable l ⌝ }
     requires { ⌜ 4 * i + 8 ≤ length (now m) ⌝ }
     requires { ⌜ Named w (now outline) (tagIn (now m) i) ⌝ }
     ensures { λ r. ⌜ Went w (now (outline .entry)) side here (now (m .entry)) i (now (m .exit)) r ⌝ }
 {
     let cut = 64 + (side as i32);
-    if here <= 0 {
+    if here {
         put(m, i, corner_at(m, i), cut);
         return i + 1;
     }
     let tag = m[4 * i + 3];
-    put(m, i + 1, crossing(w, side, outline, tag), cut);
+    put(m, i + 1, crossing(w, l, outline, tag), cut);
     i + 2
 }
 
@@ -343,11 +353,11 @@ fn cut_out(
     ensures { λ r. ⌜ Passed w (now (outline .entry)) side (now (m .entry)) (places from to) (now (m .exit)) r ⌝ }
 {
     let b = limit::end_of_run(l, m, a + 1, to, true);
-    let here = limit::value_at(l, m, a - 1);
-    let there = limit::value_at(l, m, after(b, from, to));
+    let here = limit::touches(l, m, a - 1);
+    let there = limit::touches(l, m, after(b, from, to));
     let k = make_room(m, a, b - 1, to);
-    let second = enter(w, side, outline, m, b - 1 + k, there);
-    let first = leave(w, side, outline, m, a - 1, here);
+    let second = enter(w, l, outline, m, b - 1 + k, there);
+    let first = leave(w, side, l, outline, m, a - 1, here);
     moves::move_down(m, second, to + k, first);
     Places {
         from,
@@ -377,10 +387,10 @@ fn keep_run(
         return Places { from, to: from };
     }
     let e = limit::end_of_run(l, m, s + 1, to, false);
-    let there = limit::value_at(l, m, s);
-    let here = limit::value_at(l, m, e - 1);
-    let start = enter(w, side, outline, m, s - 1, there);
-    let end = leave(w, side, outline, m, e - 1, here);
+    let there = limit::touches(l, m, s);
+    let here = limit::touches(l, m, e - 1);
+    let start = enter(w, l, outline, m, s - 1, there);
+    let end = leave(w, side, l, outline, m, e - 1, here);
     Places {
         from: start,
         to: end,

@@ -1,27 +1,67 @@
 // A side of a window as a limit on x or on y, and where the run of corners inside it or outside it ends.
 ghost use mathlib.Core.Path.{_≡_};
+ghost use mathlib.Core.Bool.{true, false};
 ghost use Prim.Native.Nat.{_+_, _*_, _≤_};
 ghost use lib.ListN.{length};
-ghost use Rattle.rings.specs.Points.{value};
+ghost use Rattle.whole.specs.Choice.{Decides};
+ghost use Rattle.rings.specs.Points.{On};
 ghost use Rattle.passes.specs.Memory.{pointIn, Small};
 ghost use Rattle.passes.specs.Limits.{LimitOnTable, limitLine, SmallIn, RunTo};
 
-// Inside is where sign times X, or times Y where axis is 1, is at least c times the denominator.
+// Inside is where X, or Y where axis is 1, is at least c times the denominator where low, else at most.
 pub struct Limit {
-    pub sign: i32,
+    pub low: bool,
     pub axis: usize,
     pub c: i32,
 }
 
-// Positive where the corner i lies inside, 0 where it lies on the limit, negative where it lies outside.
-pub fn value_at(l: Limit, m: &[i32], i: usize) -> i32
+// Whether the corner i lies on the limit.
+pub fn touches(l: Limit, m: &[i32], i: usize) -> bool
     requires { ⌜ LimitOnTable l ⌝ }
     requires { ⌜ 4 * i + 4 ≤ length (now m) ⌝ }
     requires { ⌜ Small (pointIn (now m) i) ⌝ }
-    ensures { λ r. ⌜ r ≡ value (limitLine l) (pointIn (now (m .entry)) i) ⌝ }
+    ensures { λ r. ⌜ Decides r (On (limitLine l) (pointIn (now (m .entry)) i)) ⌝ }
 {
     let at = 4 * i;
-    l.sign * m[at + l.axis] - l.c * m[at + 2]
+    m[at + l.axis] == l.c * m[at + 2]
+}
+
+// The end of a run for a low limit. A loop for each kind compares without a sign, which is two instructions less a corner.
+fn end_low(l: Limit, m: &[i32], from: usize, to: usize, outside: bool) -> usize
+    requires { ⌜ l .low ≡ true ⌝ }
+    requires { ⌜ LimitOnTable l ⌝ }
+    requires { ⌜ from ≤ to ⌝ }
+    requires { ⌜ 4 * to ≤ length (now m) ⌝ }
+    requires { ⌜ SmallIn (now m) from to ⌝ }
+    ensures { λ r. ⌜ RunTo (limitLine l) (now (m .entry)) outside from to r ⌝ }
+{
+    let mut i = from;
+    while i < to {
+        if (m[4 * i + l.axis] < l.c * m[4 * i + 2]) != outside {
+            return i;
+        }
+        i += 1;
+    }
+    to
+}
+
+// The same for a limit that is not low.
+fn end_high(l: Limit, m: &[i32], from: usize, to: usize, outside: bool) -> usize
+    requires { ⌜ l .low ≡ false ⌝ }
+    requires { ⌜ LimitOnTable l ⌝ }
+    requires { ⌜ from ≤ to ⌝ }
+    requires { ⌜ 4 * to ≤ length (now m) ⌝ }
+    requires { ⌜ SmallIn (now m) from to ⌝ }
+    ensures { λ r. ⌜ RunTo (limitLine l) (now (m .entry)) outside from to r ⌝ }
+{
+    let mut i = from;
+    while i < to {
+        if (m[4 * i + l.axis] > l.c * m[4 * i + 2]) != outside {
+            return i;
+        }
+        i += 1;
+    }
+    to
 }
 
 // The end of the run of corners from a place on that lie outside, or of those that do not.
@@ -32,12 +72,8 @@ pub fn end_of_run(l: Limit, m: &[i32], from: usize, to: usize, outside: bool) ->
     requires { ⌜ SmallIn (now m) from to ⌝ }
     ensures { λ r. ⌜ RunTo (limitLine l) (now (m .entry)) outside from to r ⌝ }
 {
-    let mut i = from;
-    while i < to {
-        if (value_at(l, m, i) < 0) != outside {
-            return i;
-        }
-        i += 1;
+    if l.low {
+        return end_low(l, m, from, to, outside);
     }
-    to
+    end_high(l, m, from, to, outside)
 }

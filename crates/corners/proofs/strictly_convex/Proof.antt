@@ -17,12 +17,6 @@ use Rattle.corners.proofs.Rounds.{edge-of}
 use Rattle.corners.proofs.Walking.{Walked, closing-is, walked-start, walked-short, few-changes, next-is, last-is, not-turning, walked-more, walked-end}
 use Rattle.corners.proofs.strictly_convex.Statement.{statement}
 use Rattle.corners.proofs.strictly_convex.Tie as tie
-use Rattle.corners.proofs.strictly_convex.Reads as reads
-use Rattle.corners.proofs.strictly_convex.Lts as lts
-use Rattle.corners.proofs.change.Reads as change-reads
-use Rattle.corners.proofs.corner_at.Reads as corner-at-reads
-use Rattle.corners.proofs.turns_left.Reads as turns-left-reads
-use Rattle.corners.proofs.way_from.Reads as way-from-reads
 
 abbrev Inv-loop : tie.InvT-loop
 Inv-loop c n closing edge-x₀ edge-y₀ changes₀ i₀ edge-x edge-y changes i = Walked c (record { x = toZ w32 edge-x; y = toZ w32 edge-y }) changes i

@@ -1,5 +1,5 @@
 -- `passes::cut_out` meets its contract: what each worker tells of its memory makes the pass. Assumes nothing.
-use mathlib.Core.Path.{_≡_, sym, ap, _∙_, subst}
+use mathlib.Core.Path.{_≡_, sym, ap, _∙_, subst, transport}
 use mathlib.Core.List.{List}
 use mathlib.Core.Logic.{inl, ⊎-elim}
 use Prim.Native.Nat.{ℕ, _+_, _-_, _*_, _<_, _≤_}
@@ -11,11 +11,9 @@ use denote.Ref.{now}
 use lib.Dec.{eqb}
 use lib.IntN.{ℤ}
 use lib.ListN.{length}
-use mir.Syntax.{w32}
-use mir.Val.{toZ, ofZ}
-use Rattle.whole.specs.Choice.{if_then_else_}
-use Rattle.whole.proofs.Comparisons.{back, by-test}
-use Rattle.rings.specs.Points.{Line, value, In, Out}
+use Rattle.whole.specs.Choice.{if_then_else_, Decides}
+use Rattle.whole.proofs.Comparisons.{by-test}
+use Rattle.rings.specs.Points.{Point, Line, In, Out, On}
 use Rattle.passes.specs.Memory.{pointIn, Small}
 use Rattle.passes.specs.Orders.{sideLine}
 use Rattle.passes.specs.Tags.{tagIn, Named}
@@ -94,19 +92,19 @@ end-of-run-requires c κs =
     let s = c .before in
     (s .pre .1 .0 .1, (omega (arith, before-to s), (omega (arith, fits s), λ j l k. small-in (held s) j (omega (arith, after-from s)) k)))
 
-sub-value-at : tie.Need-sub-value-at
-sub-value-at c = omega (arith, after-from (c .before .before .before))
+sub-touches : tie.Need-sub-touches
+sub-touches c = omega (arith, after-from (c .before .before .before))
 
-value-at-requires : tie.Need-value-at-requires
-value-at-requires c κs =
+touches-requires : tie.Need-touches-requires
+touches-requires c κs =
     let s = c .before .before .before in
     (s .pre .1 .0 .1, (omega (arith, fits s, before-to s), small-in (held s) (s .args .a - 1) (omega (arith, after-from s)) (omega (arith, before-to s))))
 
 after-requires : tie.Need-after-requires
 after-requires c κs = search needs
 
-value-at-requires-2 : tie.Need-value-at-requires-2
-value-at-requires-2 c κs =
+touches-requires-2 : tie.Need-touches-requires-2
+touches-requires-2 c κs =
     let e = c .before .before .before .before in
     let s = start e in
     let n = next-of-ring e in
@@ -138,10 +136,10 @@ module _ (c : tie.After-make-room) where
   abbrev o : ℕ
   o = b found - 1 + k
 
-  abbrev there : tie.After-value-at2
+  abbrev there : tie.After-touches2
   there = c .before .before
 
-  abbrev here : tie.After-value-at
+  abbrev here : tie.After-touches
   here = there .before .before .before
 
   size₁ : length m₁ ≡ length (m s₁)
@@ -150,13 +148,11 @@ module _ (c : tie.After-make-room) where
   up : Moved (m s₁) m₁ (s₁ .args .a) (s₁ .args .to) (s₁ .args .a + k)
   up = c .make-room .ensures .1
 
-  is-there : toZ w32 (ofZ w32 (there .value-at2 .result)) ≡ value (h s₁) (pointIn (m s₁) (next found))
-  is-there =
-      back w32 (there .value-at2 .result) (there .value-at2 .ok) ∙ there .value-at2 .ensures
-      ∙ (λ j. value (s₁ .pre .1 .0 .0 j) (pointIn (m s₁) (there .before .after .ensures j)))
+  on-there : Decides (there .touches2 .result) (On (h s₁) (pointIn (m s₁) (next found)))
+  on-there = transport (λ j. Decides (there .touches2 .result) (On (s₁ .pre .1 .0 .0 j) (pointIn (m s₁) (there .before .after .ensures j)))) (there .touches2 .ensures)
 
-  is-here : toZ w32 (ofZ w32 (here .value-at .result)) ≡ value (h s₁) (pointIn (m s₁) (s₁ .args .a - 1))
-  is-here = back w32 (here .value-at .result) (here .value-at .ok) ∙ here .value-at .ensures ∙ (λ j. value (s₁ .pre .1 .0 .0 j) (pointIn (m s₁) (s₁ .args .a - 1)))
+  on-here : Decides (here .touches .result) (On (h s₁) (pointIn (m s₁) (s₁ .args .a - 1)))
+  on-here = subst (λ (h : Line). Decides (here .touches .result) (On h (pointIn (m s₁) (s₁ .args .a - 1)))) (s₁ .pre .1 .0 .0) (here .touches .ensures)
 
   -- the last corner outside, where it stands now
   last-out : cornerIn m₁ o ≡ cornerIn (m s₁) (b found - 1)
@@ -180,7 +176,7 @@ add-enter : tie.Need-add-enter
 add-enter c = let r = c .before .before in omega (arith, o-fits r, s₁ r .good)
 
 enter-requires : tie.Need-enter-requires
-enter-requires c κs = let r = c .before .before in (s₁ r .pre .0, (o-fits r, last-named r))
+enter-requires c κs = let r = c .before .before in (s₁ r .pre .0 .window, (s₁ r .pre .0 .outline, (s₁ r .pre .1 .0 .1, (o-fits r, last-named r))))
 
 module _ (c : tie.After-enter) where
   abbrev room : tie.After-make-room
@@ -193,7 +189,7 @@ module _ (c : tie.After-enter) where
   size₂ = c .enter .kept .1 .1 .1 .0 ∙ size₁ room
 
   came : Come (s₁ room .args .w) (now (s₁ room .args .outline)) (s₁ room .args .side) (m₁ room) (o room) (pointIn (m (s₁ room)) (next (found room))) m₂ (c .enter .result)
-  came = come (o-fits room) (is-there room) (next-of-ring (found room) .2) (c .enter .ensures)
+  came = come (s₁ room .pre .1 .0 .0) (o-fits room) (on-there room) (next-of-ring (found room) .2) (c .enter .ensures)
 
   -- the last corner inside is as it was
   last-in : cornerIn m₂ (s₁ room .args .a - 1) ≡ cornerIn (m (s₁ room)) (s₁ room .args .a - 1)
@@ -211,8 +207,11 @@ leave-requires c κs =
     let s = s₁ (room e) in (
       s .pre .0,
       (
-        omega (arith, size₂ e, fits s, before-to s),
-        subst (λ (c : Tagged). Named (s .args .w) (now (s .args .outline)) (c .tag)) (sym (last-in e)) (named-in (held s) (s .args .a - 1) (omega (arith, after-from s)) (omega (arith, before-to s))),
+        s .pre .1 .0,
+        (
+          omega (arith, size₂ e, fits s, before-to s),
+          subst (λ (c : Tagged). Named (s .args .w) (now (s .args .outline)) (c .tag)) (sym (last-in e)) (named-in (held s) (s .args .a - 1) (omega (arith, after-from s)) (omega (arith, before-to s))),
+        ),
       ),
     )
 
@@ -224,15 +223,15 @@ module _ (c : tie.After-leave) where
   s₂ = s₁ (room entered)
 
   abbrev m₃ : List ℤ
-  m₃ = c .leave .last .1 .1 .1 .0
+  m₃ = c .leave .last .1 .1 .1 .1 .0
 
   size₃ : length m₃ ≡ length (m s₂)
-  size₃ = c .leave .kept .1 .1 .1 .0 ∙ size₂ entered
+  size₃ = c .leave .kept .1 .1 .1 .1 .0 ∙ size₂ entered
 
   went : Gone (s₂ .args .w) (now (s₂ .args .outline)) (s₂ .args .side) (m₂ entered) (s₂ .args .a - 1) m₃ (c .leave .result)
   went =
       let p = ap (λ (c : Tagged). c .point) (last-in entered) in
-      gone (omega (arith, size₂ entered, fits s₂, before-to s₂)) (is-here (room entered) ∙ ap (value (h s₂)) (sym p))
+      gone (omega (arith, size₂ entered, fits s₂, before-to s₂)) (subst (λ (q : Point). Decides (here (room entered) .touches .result) (On (h s₂) q)) (sym p) (on-here (room entered)))
       (subst (In (h s₂)) (sym p) (first-in s₂ (s₂ .args .a - 1) (omega (arith, after-from s₂)) (omega (arith, after-from s₂)))) (c .leave .ensures)
 
   -- what is left ends before what comes after the run outside begins, and that before the end
@@ -279,10 +278,10 @@ cut-out-spec =
     (tie.spec
     add-end-of-run
     end-of-run-requires
-    sub-value-at
-    value-at-requires
+    sub-touches
+    touches-requires
     after-requires
-    value-at-requires-2
+    touches-requires-2
     sub-make-room
     make-room-requires
     sub-enter

@@ -1,69 +1,95 @@
--- `passes::edge` meets its contract: the next corner follows in the list, and after the last comes the first. Assumes nothing.
+-- `passes::edge` meets its contract: the next corner is the definition's. Assumes nothing.
 use mathlib.Core.Path.{_∙_}
-use Prim.Native.Nat.{_+_, _*_}
+use Prim.Native.Nat.{_+_, _*_, _/_, _<_}
 use native.Mathlib.Omega.{arith}
 use borrow.Author.Needs.{needs}
 use denote.Ref.{now}
 use lib.IntN.{pos}
-use lib.ListN.{getD}
-use Rattle.passes.proofs.Outlines.{read-stroke, edge-on, edge-round}
+use lib.ListN.{length, getD}
+use Rattle.corners.specs.Corners.{next}
+use Rattle.passes.specs.Tags.{stroke, edgeOf}
+use Rattle.passes.proofs.Outlines.{read-stroke, next-below}
 use Rattle.passes.proofs.edge.Statement.{statement}
 use Rattle.passes.proofs.edge.Tie as tie
 
-mul-at : tie.Need-mul-at
-mul-at c = search needs
-
-add-if1 : tie.Need-add-if1
-add-if1 c = search needs
-
-stroke-at-requires : tie.Need-stroke-at-requires
-stroke-at-requires c κs = search needs
-
-returns : tie.Need-returns
-returns c = c .stroke-at .ensures ∙ edge-on (now (c .before .before .args .outline)) (c .before .before .args .k) (omega arith)
+next-of-requires : tie.Need-next-of-requires
+next-of-requires c κs = search needs
 
 mul-t4 : tie.Need-mul-t4
 mul-t4 c = search needs
 
-shared-slice-copy-out-t8 : tie.Need-shared-slice-copy-out-t8
-shared-slice-copy-out-t8 c = search needs
+mul-t5 : tie.Need-mul-t5
+mul-t5 c = search needs
 
-add-t5 : tie.Need-add-t5
-add-t5 c = search needs
+shared-slice-copy-out-t7 : tie.Need-shared-slice-copy-out-t7
+shared-slice-copy-out-t7 c = search needs
 
-mul-t9 : tie.Need-mul-t9
-mul-t9 c = search needs
+mul-t8 : tie.Need-mul-t8
+mul-t8 c = search needs
 
-shared-slice-copy-out-t11 : tie.Need-shared-slice-copy-out-t11
-shared-slice-copy-out-t11 c = search needs
+add-t9 : tie.Need-add-t9
+add-t9 c = search needs
 
-shared-slice-copy-out-t13 : tie.Need-shared-slice-copy-out-t13
-shared-slice-copy-out-t13 c = search needs
+mul-t10 : tie.Need-mul-t10
+mul-t10 c = search needs
 
-shared-slice-copy-out-t15 : tie.Need-shared-slice-copy-out-t15
-shared-slice-copy-out-t15 c = search needs
+shared-slice-copy-out-t12 : tie.Need-shared-slice-copy-out-t12
+shared-slice-copy-out-t12 c = search needs
 
-returns-2 : tie.Need-returns-2
-returns-2 c =
-    let s = c .before .before .before .before .before in
-    let zs = now (s .args .outline) in
-    let k = s .args .k in
-    read-stroke (getD zs (2 * k) (pos 0)) (getD zs (2 * k + 1) (pos 0)) (getD zs 0 (pos 0)) (getD zs 1 (pos 0)) (c .before .before .before .t8 .given) (c .before .before .t11 .given) (c .before .t13 .given) (c .t15 .given)
-    ∙ edge-round zs k (omega arith)
+-- the next corner is one of the outline's
+next-in : (c : tie.After-next-of) → 2 * c .next-of .result + 1 < length (now (c .before .args .outline))
+next-in c =
+    let s = c .before in
+    omega (arith, c .next-of .ensures, next-below (length (now (s .args .outline)) / 2) (s .args .k) (s .pre .1))
+
+mul-t13 : tie.Need-mul-t13
+mul-t13 c = omega (arith, next-in (c .before .before), c .before .before .before .good)
+
+mul-t14 : tie.Need-mul-t14
+mul-t14 c = omega (arith, next-in (c .before .before), c .before .before .before .good)
+
+shared-slice-copy-out-t16 : tie.Need-shared-slice-copy-out-t16
+shared-slice-copy-out-t16 c = omega (arith, next-in (c .before .before))
+
+mul-t17 : tie.Need-mul-t17
+mul-t17 c = omega (arith, next-in (c .before .before .before), c .before .before .before .before .good)
+
+add-t18 : tie.Need-add-t18
+add-t18 c = omega (arith, next-in (c .before .before .before), c .before .before .before .before .good)
+
+mul-t19 : tie.Need-mul-t19
+mul-t19 c = omega (arith, next-in (c .before .before .before), c .before .before .before .before .good)
+
+shared-slice-copy-out-t21 : tie.Need-shared-slice-copy-out-t21
+shared-slice-copy-out-t21 c = next-in (c .before .before .before)
+
+returns : tie.Need-returns
+unfolding edgeOf
+returns c =
+    let n = c .before .before .before .before in
+    let zs = now (n .before .args .outline) in
+    let k = n .before .args .k in
+    let j = n .next-of .result in
+    read-stroke (getD zs (2 * k) (pos 0)) (getD zs (2 * k + 1) (pos 0)) (getD zs (2 * j) (pos 0)) (getD zs (2 * j + 1) (pos 0)) (c .before .before .before .t7 .given) (c .before .before .t12 .given) (c .before .t16 .given) (c .t21 .given)
+    ∙ (λ i. stroke (getD zs (2 * k) (pos 0)) (getD zs (2 * k + 1) (pos 0)) (getD zs (2 * n .next-of .ensures i) (pos 0)) (getD zs (2 * n .next-of .ensures i + 1) (pos 0)))
 
 pub edge-spec : {M : Type 1} → statement M
 edge-spec =
     tie.close
     (tie.spec
-    mul-at
-    add-if1
-    stroke-at-requires
-    returns
+    next-of-requires
     mul-t4
-    shared-slice-copy-out-t8
-    add-t5
-    mul-t9
-    shared-slice-copy-out-t11
-    shared-slice-copy-out-t13
-    shared-slice-copy-out-t15
-    returns-2)
+    mul-t5
+    shared-slice-copy-out-t7
+    mul-t8
+    add-t9
+    mul-t10
+    shared-slice-copy-out-t12
+    mul-t13
+    mul-t14
+    shared-slice-copy-out-t16
+    mul-t17
+    add-t18
+    mul-t19
+    shared-slice-copy-out-t21
+    returns)

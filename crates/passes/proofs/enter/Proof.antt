@@ -1,14 +1,14 @@
--- `passes::enter` meets its contract: each return is one case, by the sign that led there. Assumes nothing.
-use mathlib.Core.Path.{_≡_, refl, sym, ap, _∙_, subst}
+-- `passes::enter` meets its contract: each return is one case, by the test that led there. Assumes nothing.
+use mathlib.Core.Path.{_≡_, sym, ap, _∙_, subst}
 use mathlib.Core.List.{List}
 use borrow.Author.Needs.{needs}
 use denote.Ref.{now}
 use lib.IntN.{ℤ}
 use mir.Syntax.{w32}
 use mir.Val.{toZ, ofZ}
-use mir.Facts.{toZ-ofZ}
-use Rattle.whole.proofs.Comparisons.{le-yes, le-no, back}
+use Rattle.whole.proofs.Comparisons.{back}
 use Rattle.passes.specs.Tags.{tagIn, Named}
+use Rattle.passes.specs.Limits.{limitLine}
 use Rattle.passes.specs.Steps.{pointOf, Meeting, putAt, Entered, on-line, crosses}
 use Rattle.passes.proofs.enter.Statement.{statement}
 use Rattle.passes.proofs.enter.Tie as tie
@@ -23,7 +23,7 @@ add-result : tie.Need-add-result
 add-result c = search needs
 
 returns : tie.Need-returns
-returns c = on-line (le-yes (toZ-ofZ (c .before .fits .there)) refl (c .if1 .taken))
+returns c = on-line (c .if1 .taken)
 
 mul-tag : tie.Need-mul-tag
 mul-tag c = search needs
@@ -38,7 +38,7 @@ slice-copy-out-tag : tie.Need-slice-copy-out-tag
 slice-copy-out-tag c = search needs
 
 crossing-requires : tie.Need-crossing-requires
-crossing-requires c κs = let s = c .before .before .before in (s .pre .0, subst (Named (s .args .w) (now (s .args .outline))) (sym (is-tag (c .before))) (s .pre .1 .1))
+crossing-requires c κs = let s = c .before .before .before in (s .pre .0, (s .pre .1 .0, (s .pre .1 .1 .0, subst (Named (s .args .w) (now (s .args .outline))) (sym (is-tag (c .before))) (s .pre .1 .1 .1 .1))))
 
 put-requires : tie.Need-put-requires
 put-requires c κs = search needs
@@ -52,9 +52,9 @@ returns-2 c =
     let s = e .before .before in
     let p = pointOf (c .before .before .crossing .result) in
     let wrote : c .before .put .last .0 ≡ putAt (memory s) (s .args .o) p (tagIn (memory s) (s .args .o)) = c .before .put .ensures ∙ ap (putAt (memory s) (s .args .o) p) (is-tag e) in
-    subst (λ (m : List ℤ). Entered (s .args .w) (now (s .args .outline)) (s .args .side) (s .args .there) (memory s) (s .args .o) m (s .args .o)) (sym wrote)
-    (crosses (le-no (toZ-ofZ (s .fits .there)) refl (e .before .if1 .left))
-    (subst (λ (t : ℤ). Meeting (s .args .w) (now (s .args .outline)) (s .args .side) t p) (is-tag e) (c .before .before .crossing .ensures)))
+    subst (λ (m : List ℤ). Entered (s .args .w) (now (s .args .outline)) (limitLine (s .args .l)) (s .args .there) (memory s) (s .args .o) m (s .args .o)) (sym wrote)
+    (crosses (e .before .if1 .left)
+    (subst (λ (t : ℤ). Meeting (s .args .w) (now (s .args .outline)) (limitLine (s .args .l)) t p) (is-tag e) (c .before .before .crossing .ensures)))
 
 pub enter-spec : {M : Type 1} → statement M
 enter-spec = tie.close (tie.spec add-result returns mul-tag add-tag mul-tag-2 slice-copy-out-tag crossing-requires put-requires same-length returns-2)

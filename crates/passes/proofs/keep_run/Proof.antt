@@ -9,10 +9,8 @@ use borrow.Author.Needs.{needs}
 use denote.Ref.{now}
 use lib.IntN.{ℤ}
 use lib.ListN.{length}
-use mir.Syntax.{w32}
-use mir.Val.{toZ, ofZ}
-use Rattle.whole.proofs.Comparisons.{back}
-use Rattle.rings.specs.Points.{Line, value, In, Out}
+use Rattle.whole.specs.Choice.{Decides}
+use Rattle.rings.specs.Points.{Point, Line, In, Out, On}
 use Rattle.passes.specs.Memory.{pointIn}
 use Rattle.passes.specs.Orders.{sideLine}
 use Rattle.passes.specs.Tags.{Named}
@@ -125,33 +123,33 @@ end-of-run-requires-2 c κs =
     let s = s₀ o in
     (s .pre .1 .0 .1, (omega (arith, before-to o), (omega (arith, fits s), λ j l k. small-in (held s) j (omega (arith, after-from (first o))) k)))
 
-value-at-requires : tie.Need-value-at-requires
-value-at-requires c κs =
+touches-requires : tie.Need-touches-requires
+touches-requires c κs =
     let o = out (c .before) in
     let s = s₀ o in
     (s .pre .1 .0 .1, (omega (arith, fits s, before-to o), small-in (held s) (f (first o)) (omega (arith, after-from (first o))) (before-to o)))
 
-sub-value-at : tie.Need-sub-value-at
-sub-value-at c = omega (arith, after-f (c .before .before .before))
+sub-touches : tie.Need-sub-touches
+sub-touches c = omega (arith, after-f (c .before .before .before))
 
-value-at-requires-2 : tie.Need-value-at-requires-2
-value-at-requires-2 c κs =
+touches-requires-2 : tie.Need-touches-requires-2
+touches-requires-2 c κs =
     let r = c .before .before .before in
     let s = s₁ r in
     (s .pre .1 .0 .1, (omega (arith, fits s, after-f r, e-to r), small-in (held s) (e r - 1) (omega (arith, after-from (first (out r)), after-f r)) (omega (arith, after-f r, e-to r))))
 
-module _ (c : tie.After-value-at2) where
+module _ (c : tie.After-touches2) where
   abbrev runs : tie.After-end-of-run2
   runs = c .before .before .before .before
 
-  abbrev there : tie.After-value-at
+  abbrev there : tie.After-touches
   there = c .before .before
 
-  is-there : toZ w32 (ofZ w32 (there .value-at .result)) ≡ value (h (s₁ runs)) (pointIn (m (s₁ runs)) (f (first (out runs))))
-  is-there = back w32 (there .value-at .result) (there .value-at .ok) ∙ there .value-at .ensures ∙ (λ j. value (s₁ runs .pre .1 .0 .0 j) (pointIn (m (s₁ runs)) (f (first (out runs)))))
+  on-there : Decides (there .touches .result) (On (h (s₁ runs)) (pointIn (m (s₁ runs)) (f (first (out runs)))))
+  on-there = subst (λ (h : Line). Decides (there .touches .result) (On h (pointIn (m (s₁ runs)) (f (first (out runs)))))) (s₁ runs .pre .1 .0 .0) (there .touches .ensures)
 
-  is-here : toZ w32 (ofZ w32 (c .value-at2 .result)) ≡ value (h (s₁ runs)) (pointIn (m (s₁ runs)) (e runs - 1))
-  is-here = back w32 (c .value-at2 .result) (c .value-at2 .ok) ∙ c .value-at2 .ensures ∙ (λ j. value (s₁ runs .pre .1 .0 .0 j) (pointIn (m (s₁ runs)) (e runs - 1)))
+  on-here : Decides (c .touches2 .result) (On (h (s₁ runs)) (pointIn (m (s₁ runs)) (e runs - 1)))
+  on-here = subst (λ (h : Line). Decides (c .touches2 .result) (On h (pointIn (m (s₁ runs)) (e runs - 1)))) (s₁ runs .pre .1 .0 .0) (c .touches2 .ensures)
 
 sub-enter : tie.Need-sub-enter
 sub-enter c = omega (arith, after-from (first (out (runs (c .before)))))
@@ -162,10 +160,10 @@ enter-requires c κs =
     let s = s₁ r in
     let l = after-from (first (out r)) in
     let t = before-to (out r) in
-    (s .pre .0, (omega (arith, fits s), named-in (held s) (f (first (out r)) - 1) (omega arith) (omega arith)))
+    (s .pre .0 .window, (s .pre .0 .outline, (s .pre .1 .0 .1, (omega (arith, fits s), named-in (held s) (f (first (out r)) - 1) (omega arith) (omega arith)))))
 
 module _ (c : tie.After-enter) where
-  abbrev values : tie.After-value-at2
+  abbrev values : tie.After-touches2
   values = c .before .before
 
   abbrev r : tie.After-end-of-run2
@@ -181,7 +179,7 @@ module _ (c : tie.After-enter) where
   came =
       let l = after-from (first (out r)) in
       let t = before-to (out r) in
-      come (omega (arith, fits (s₁ r))) (is-there values) (f-in (out r)) (c .enter .ensures)
+      come (s₁ r .pre .1 .0 .0) (omega (arith, fits (s₁ r))) (on-there values) (f-in (out r)) (c .enter .ensures)
 
   -- the last corner inside is as it was
   last-in : cornerIn m₁ (e r - 1) ≡ cornerIn (m (s₁ r)) (e r - 1)
@@ -197,10 +195,10 @@ leave-requires c κs =
     let l = after-from (first (out (r i))) in
     let t = after-f (r i) in
     let k = e-to (r i) in
-    (s .pre .0, (omega (arith, size₁ i, fits s), subst (λ (c : Tagged). Named (s .args .w) (now (s .args .outline)) (c .tag)) (sym (last-in i)) (named-in (held s) (e (r i) - 1) (omega arith) (omega arith))))
+    (s .pre .0, (s .pre .1 .0, (omega (arith, size₁ i, fits s), subst (λ (c : Tagged). Named (s .args .w) (now (s .args .outline)) (c .tag)) (sym (last-in i)) (named-in (held s) (e (r i) - 1) (omega arith) (omega arith)))))
 
 same-length-2 : tie.Need-same-length-2
-same-length-2 c = c .before .leave .kept .1 .1 .1 .0 ∙ size₁ (c .before .before .before .before)
+same-length-2 c = c .before .leave .kept .1 .1 .1 .1 .0 ∙ size₁ (c .before .before .before .before)
 
 returns-2 : tie.Need-returns-2
 returns-2 c =
@@ -210,9 +208,9 @@ returns-2 c =
     let p = ap (λ (c : Tagged). c .point) (last-in i) in
     let t = after-f (r i) in
     let k = e-to (r i) in
-    let went : Gone (s .args .w) (now (s .args .outline)) (s .args .side) (m₁ i) (e (r i) - 1) (c .before .leave .last .1 .1 .1 .0) (c .before .leave .result) =
-    gone (omega (arith, size₁ i, fits s)) (is-here (values i) ∙ ap (value (h s)) (sym p)) (subst (In (h s)) (sym p) (all-in (r i) (e (r i) - 1) (omega arith) (omega arith))) (c .before .leave .ensures) in
-    keep-run (s .pre .0) (m s) (after-from x) (after-f (r i)) (e-to (r i)) (held s) (all-out x) (all-in (r i)) (back-out (r i)) (m₁ i) (c .before .leave .last .1 .1 .1 .0) (i .enter .result) (c .before .leave .result) (came i) went
+    let went : Gone (s .args .w) (now (s .args .outline)) (s .args .side) (m₁ i) (e (r i) - 1) (c .before .leave .last .1 .1 .1 .1 .0) (c .before .leave .result) =
+    gone (omega (arith, size₁ i, fits s)) (subst (λ (q : Point). Decides (values i .touches2 .result) (On (h s) q)) (sym p) (on-here (values i))) (subst (In (h s)) (sym p) (all-in (r i) (e (r i) - 1) (omega arith) (omega arith))) (c .before .leave .ensures) in
+    keep-run (s .pre .0) (m s) (after-from x) (after-f (r i)) (e-to (r i)) (held s) (all-out x) (all-in (r i)) (back-out (r i)) (m₁ i) (c .before .leave .last .1 .1 .1 .1 .0) (i .enter .result) (c .before .leave .result) (came i) went
 
 pub keep-run-spec : {M : Type 1} → statement M
 keep-run-spec =
@@ -224,9 +222,9 @@ keep-run-spec =
     returns
     add-end-of-run-2
     end-of-run-requires-2
-    value-at-requires
-    sub-value-at
-    value-at-requires-2
+    touches-requires
+    sub-touches
+    touches-requires-2
     sub-enter
     enter-requires
     sub-leave

@@ -1,5 +1,5 @@
--- `passes::leave` meets its contract: each return is one case, by the sign that led there. Assumes nothing.
-use mathlib.Core.Path.{_≡_, refl, sym, ap, _∙_, subst}
+-- `passes::leave` meets its contract: each return is one case, by the test that led there. Assumes nothing.
+use mathlib.Core.Path.{_≡_, sym, ap, _∙_, subst, transport}
 use mathlib.Core.List.{List}
 use Prim.Native.Nat.{ℕ, _+_}
 use native.Mathlib.Omega.{arith}
@@ -9,7 +9,7 @@ use lib.IntN.{ℤ, pos, _+ℤ_}
 use mir.Syntax.{w32}
 use mir.Val.{SFits, toZ, ofZ}
 use mir.Facts.{toZ-ofZ, toZ-pos}
-use Rattle.whole.proofs.Comparisons.{le-yes, le-no, back}
+use Rattle.whole.proofs.Comparisons.{back}
 use Rattle.passes.specs.Memory.{pointIn}
 use Rattle.passes.specs.Tags.{tagIn, Named}
 use Rattle.passes.specs.Steps.{pointOf, Meeting, putAt, Went, on-line, crosses}
@@ -59,7 +59,7 @@ returns c =
     let s = t .before in
     let wrote : c .before .put .last .0 ≡ putAt (memory s) (s .args .i) (pointIn (memory s) (s .args .i)) (pos (64 + s .args .side)) =
     c .before .put .ensures ∙ (λ k. putAt (memory s) (s .args .i) (c .before .before .corner-at .ensures k) (is-cut s k)) in
-    subst (λ (m : List ℤ). Done s m (s .args .i + 1)) (sym wrote) (on-line (le-yes (toZ-ofZ (s .fits .here)) refl (t .if1 .taken)))
+    subst (λ (m : List ℤ). Done s m (s .args .i + 1)) (sym wrote) (on-line (t .if1 .taken))
 
 mul-tag : tie.Need-mul-tag
 mul-tag c = search needs
@@ -77,7 +77,7 @@ add-put : tie.Need-add-put
 add-put c = search needs
 
 crossing-requires : tie.Need-crossing-requires
-crossing-requires c κs = let s = c .before .before .before in (s .pre .0, subst (Named (s .args .w) (now (s .args .outline))) (sym (is-tag (c .before))) (s .pre .1 .1))
+crossing-requires c κs = let s = c .before .before .before in (s .pre .0 .window, (s .pre .0 .outline, (s .pre .1 .0 .1, subst (Named (s .args .w) (now (s .args .outline))) (sym (is-tag (c .before))) (s .pre .1 .1 .1))))
 
 put-requires-2 : tie.Need-put-requires-2
 put-requires-2 c κs = search needs
@@ -95,8 +95,8 @@ returns-2 c =
     let p = pointOf (c .before .before .crossing .result) in
     let wrote : c .before .put2 .last .0 ≡ putAt (memory s) (s .args .i + 1) p (pos (64 + s .args .side)) = c .before .put2 .ensures ∙ ap (putAt (memory s) (s .args .i + 1) p) (is-cut s) in
     subst (λ (m : List ℤ). Done s m (s .args .i + 2)) (sym wrote)
-    (crosses (le-no (toZ-ofZ (s .fits .here)) refl (e .before .if1 .left))
-    (subst (λ (t : ℤ). Meeting (s .args .w) (now (s .args .outline)) (s .args .side) t p) (is-tag e) (c .before .before .crossing .ensures)))
+    (crosses (e .before .if1 .left)
+    (transport (λ i. Meeting (s .args .w) (now (s .args .outline)) (s .pre .1 .0 .0 i) (is-tag e i) p) (c .before .before .crossing .ensures)))
 
 pub leave-spec : {M : Type 1} → statement M
 leave-spec =
