@@ -2,18 +2,17 @@
 use mathlib.Core.Path.{_≡_, refl, sym, ap, _∙_, subst}
 use mathlib.Core.Bool.{Bool, true, false}
 use mathlib.Core.List.{List, [], _∷_, _++_, map}
-use Prim.Native.Nat.{ℕ, suc, _+_, _*_, _/_, _≤_, _<_}
+use Prim.Native.Nat.{ℕ, suc, _+_, _*_, _/_, _≤_}
 use native.Mathlib.Omega.{arith}
 use lib.IntN.{ℤ, pos}
-use lib.ListN.{length, getD, drop, length-append}
+use lib.ListN.{length, drop, length-append}
 use Rattle.whole.specs.Choice.{if_then_else_}
-use Rattle.whole.specs.Within.{Within}
 use Rattle.whole.proofs.Comparisons.{ff-tt}
 use Rattle.grid.specs.declared.Answer.{Answer}
 use Rattle.grid.specs.declared.Stroke.{Stroke}
 use Rattle.grid.specs.declared.Window.{Window}
 use Rattle.grid.specs.Refusals.{none}
-use Rattle.grid.specs.Table.{farthest, strokeAt, strokesOf, WindowOnTable, StrokesOnTable}
+use Rattle.grid.specs.Table.{strokeAt, strokesOf, WindowOnTable, StrokesOnTable, NumbersOnTable}
 use Rattle.grid.proofs.Calls.{call-unique}
 use Rattle.grid.proofs.StrokeLists.{strokes-more, strokes-none, stroke-of-list}
 use Rattle.strokes.specs.Strokes.{Clipped}
@@ -40,7 +39,7 @@ batch-unique {w} {zs} p q = call-unique (batchRefusal w zs) (λ xs ys. rows-uniq
 
 -- ---- the rows of the computed answers
 module _ {w : Window} (on : WindowOnTable w) where
-  each-clipped : (zs : List ℤ) → ((k : ℕ) → k < length zs → Within farthest (getD zs k (pos 0))) → Each (Clipped w) (strokesOf zs) (map (clippedOf w) (strokesOf zs))
+  each-clipped : (zs : List ℤ) → NumbersOnTable zs → Each (Clipped w) (strokesOf zs) (map (clippedOf w) (strokesOf zs))
   unfolding strokesOf
   each-clipped [] h = batches.none
   each-clipped (a ∷ []) h = batches.none

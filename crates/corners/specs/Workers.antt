@@ -13,13 +13,13 @@
 use mathlib.Core.Path.{_≡_}
 use mathlib.Core.Bool.{Bool, xor}
 use mathlib.Core.List.{List}
-use Prim.Native.Nat.{ℕ, _+_, _*_, _%_, _≤_, _<_}
+use Prim.Native.Nat.{ℕ, _+_, _*_, _%_, _≤_}
 use lib.IntN.{ℤ, pos, _-ℤ_, _*ℤ_}
 use lib.ListN.{length, getD}
 use lib.Signed.{ltZ}
 use Rattle.whole.specs.Choice.{if_then_else_}
 use Rattle.whole.specs.Within.{Within}
-use Rattle.grid.specs.Table.{farthest}
+use Rattle.grid.specs.Table.{farthest, NumbersOnTable}
 use Rattle.grid.specs.declared.Stroke.{Stroke}
 use Rattle.corners.specs.Corners.{fewest}
 use Rattle.corners.specs.declared.Corner.{Corner}
@@ -29,7 +29,7 @@ pub record CornersOnTable (zs : List ℤ) : Type 0 where
   pub even : length zs % 2 ≡ 0
   pub three : 2 * fewest ≤ length zs
   pub few : length zs ≤ 128
-  pub on : (k : ℕ) → k < length zs → Within farthest (getD zs k (pos 0))
+  pub on : NumbersOnTable zs
 
 pub record CornerOnTable (a : Corner) : Type 0 where
   pub x : Within farthest (a .x)

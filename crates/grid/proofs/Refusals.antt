@@ -13,7 +13,7 @@ use lib.Signed.{_<ℤ_, ltZ, ltZ-yes}
 use Rattle.whole.specs.Within.{Within}
 use Rattle.whole.proofs.Comparisons.{true-T}
 use Rattle.whole.specs.Choice.{if_then_else_}
-use Rattle.grid.specs.Table.{farthest, firstOff, sides, ends, WindowOnTable, StrokeOnTable, StrokesOnTable}
+use Rattle.grid.specs.Table.{farthest, firstOff, sides, ends, WindowOnTable, StrokeOnTable, StrokesOnTable, NumbersOnTable}
 use Rattle.grid.specs.Refusals.{windowOff, windowBad, lengthBad, numberOff, refuse, none, first, offTable, noArea, badStrokes, windowRefusal, strokeRefusal, strokesRefusal}
 use Rattle.grid.specs.declared.Window.{Window}
 use Rattle.grid.specs.declared.Stroke.{Stroke}
@@ -39,11 +39,11 @@ all-done r rs h = go (eqb (r .number) 0) refl h
     go false e h = absurd (eqb-false (r .number) 0 e h)
 
 -- ---- what is known where nothing is refused
-nothing-off : (n : ℕ) (zs : List ℤ) → (n ≡ 0 → ⊥) → offTable n zs .number ≡ 0 → (k : ℕ) → k < length zs → Within farthest (getD zs k (pos 0))
+pub nothing-off : (n : ℕ) (zs : List ℤ) → (n ≡ 0 → ⊥) → offTable n zs .number ≡ 0 → NumbersOnTable zs
 unfolding offTable
 nothing-off n zs h e = go (ltb (firstOff zs) (length zs)) refl e
   where
-    go : (b : Bool) → ltb (firstOff zs) (length zs) ≡ b → (if b then refuse n (firstOff zs) else none) .number ≡ 0 → (k : ℕ) → k < length zs → Within farthest (getD zs k (pos 0))
+    go : (b : Bool) → ltb (firstOff zs) (length zs) ≡ b → (if b then refuse n (firstOff zs) else none) .number ≡ 0 → NumbersOnTable zs
     go true t e k l = absurd (h e)
     go false t e k l = before-off zs k (omega (arith, ltb-false (firstOff zs) (length zs) t)) l
 

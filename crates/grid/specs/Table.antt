@@ -1,6 +1,7 @@
 -- The table: which numbers are coordinates on it.
 --   farthest      16,383, the largest coordinate; the least is its negative
 --   onTable z     z is a coordinate of the table
+--   NumbersOnTable zs   all numbers of a list are on the table
 --   firstOff zs   the index of the first number off the table; how many there are, if none is
 --   sides w       the four numbers of a window: left, bottom, right, top
 --   ends s        the four numbers of a stroke: x1, y1, x2, y2
@@ -24,6 +25,9 @@ farthest = 16383
 
 unfoldable pub onTable : ℤ → Bool
 onTable z = leZ (negℤ (pos farthest)) z && leZ z (pos farthest)
+
+abbrev pub NumbersOnTable : List ℤ → Type 0
+NumbersOnTable zs = (k : ℕ) → k < length zs → Within farthest (getD zs k (pos 0))
 
 unfoldable pub firstOff : List ℤ → ℕ
 firstOff [] = 0
@@ -62,4 +66,4 @@ pub record StrokeOnTable (s : Stroke) : Type 0 where
 pub record StrokesOnTable (zs : List ℤ) : Type 0 where
   pub by-four : length zs % 4 ≡ 0
   pub few : length zs ≤ 16384
-  pub on : (k : ℕ) → k < length zs → Within farthest (getD zs k (pos 0))
+  pub on : NumbersOnTable zs

@@ -5,7 +5,7 @@ use mathlib.Core.Option.{Option, none, some}
 use Prim.Native.Nat.{ℕ, suc, _<_, _≤_}
 use native.Mathlib.Omega.{arith}
 use lib.IntN.{ℤ, pos}
-use lib.ListN.{length, getD}
+use lib.ListN.{length}
 use lib.Signed.{_≤ℤ_, _<ℤ_}
 use Rattle.whole.specs.Within.{Within}
 use Rattle.whole.proofs.Expressions.{var, con, _⊕_, _⊖_, _⊗_, x0, x1}
@@ -17,7 +17,7 @@ use Rattle.fraction.specs.Fraction.{LowestOf}
 use Rattle.fraction.specs.declared.Fraction.{Fraction}
 use Rattle.fraction.proofs.LowestTerms.{lowest-least}
 use Rattle.grid.specs.declared.Window.{Window}
-use Rattle.grid.specs.Table.{farthest}
+use Rattle.grid.specs.Table.{farthest, NumbersOnTable}
 use Rattle.rings.specs.Lists.{All, ∅, _◂_, Walk, last, step, Edges, nothing, closed}
 use Rattle.rings.specs.Points.{Point, Line, value, through, Left, On, Real}
 use Rattle.rings.specs.Rings.{Ring}
@@ -77,7 +77,7 @@ sides-traced l b r t = side-traced (left l) ◂ side-traced (right r) ◂ side-t
 data OnGrid : Point → Type 0 where
   on-grid : {x y : ℤ} → Within farthest x → Within farthest y → OnGrid (gridPoint x y)
 
-corners-on-grid : (zs : List ℤ) → ((k : ℕ) → k < length zs → Within farthest (getD zs k (pos 0))) → All OnGrid (cornersOf zs)
+corners-on-grid : (zs : List ℤ) → NumbersOnTable zs → All OnGrid (cornersOf zs)
 unfolding cornersOf
 corners-on-grid [] h = ∅
 corners-on-grid (x ∷ []) h = ∅
@@ -127,7 +127,7 @@ both-ends {P} (_◂_ {x = o} p a) = closed (walk p a)
     walk h ∅ = last (h, p)
     walk h (k ◂ b) = step (h, k) (walk k b)
 
-outline-along : (zs : List ℤ) → ((k : ℕ) → k < length zs → Within farthest (getD zs k (pos 0))) → Ring (cornersOf zs) → Edges Along (cornersOf zs)
+outline-along : (zs : List ℤ) → NumbersOnTable zs → Ring (cornersOf zs) → Edges Along (cornersOf zs)
 outline-along zs on g =
     edges-zip (λ a b real k. grid-edge real (k .0) (k .1)) (real-edges (cornersOf zs) (g .three) (convex-ccw (cornersOf zs) .0 (g .convex))) (both-ends (corners-on-grid zs on))
 
@@ -148,7 +148,7 @@ small-numbers (f ◂ a) (corner p ps) = fraction (small (f .proper) (f .x) (p .x
     small h r l = ≤-trans (lowest-least {n = r .num} (r .positive) (lowest-same h (r .same) l)) (r .small)
 
 -- ---- of every list that the call may give
-small-given : {w : Window} {zs xs : List ℤ} → ((k : ℕ) → k < length zs → Within farthest (getD zs k (pos 0))) → Ring (cornersOf zs) → OutlineGives w zs xs → SmallDenominators xs
+small-given : {w : Window} {zs xs : List ℤ} → NumbersOnTable zs → Ring (cornersOf zs) → OutlineGives w zs xs → SmallDenominators xs
 small-given {w} {zs} {xs} on g p = let c = some-result (linesIn 0 w) (cornersOf zs) (lines-real w (omega arith)) g in go (c .0) (c .1)
   where
     go : (o : Option (List Point)) → Result (linesIn 0 w) (cornersOf zs) o → SmallDenominators xs

@@ -16,7 +16,7 @@ use Rattle.whole.proofs.Expressions.{Expr, var, neg, _⊕_, _⊗_}
 use Rattle.whole.proofs.Naturals.{neg-plus, neg-minus}
 use Rattle.whole.proofs.Order.{zarith, sub-is, ≤-antisym}
 use Rattle.whole.proofs.Polynomials.{ring}
-use Rattle.grid.specs.Table.{farthest}
+use Rattle.grid.specs.Table.{farthest, NumbersOnTable}
 use Rattle.grid.specs.declared.Window.{Window}
 use Rattle.rings.specs.Cuts.{Inside, Cuts, no-more, cut, Outcome, area, Result, none-left}
 use Rattle.rings.specs.Lists.{All, ∅, _◂_}
@@ -36,7 +36,7 @@ use Rattle.passes.proofs.Outlines.{corners-all}
 use Rattle.passes.proofs.Reaches.{left-at, right-at, bottom-at, top-at, clear-in}
 use Rattle.passes.proofs.Sides.{side-line-real}
 use Rattle.passes.proofs.Pieces.{cut-nothing}
-use Rattle.outlines.specs.Workers.{NumbersOnTable, ReachOnTable, Beyond}
+use Rattle.outlines.specs.Workers.{ReachOnTable, Beyond}
 use Rattle.outlines.proofs.Passes.{lines-real}
 
 pub all-clear : {w b : Window} → w .left ≤ℤ b .left → b .right ≤ℤ w .right → w .bottom ≤ℤ b .bottom → b .top ≤ℤ w .top → (s : ℕ) → Clear w b s

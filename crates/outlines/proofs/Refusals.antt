@@ -4,23 +4,22 @@ use mathlib.Core.Bool.{Bool, true, false, and-eq-true-iff}
 use mathlib.Core.List.{List, [], _∷_}
 use Prim.Native.Nat.{ℕ, suc, _%_, _≤_}
 use native.Mathlib.Omega.{arith}
-use borrow.Author.Tests.{eqb-true, leb-true, ltb-false, le-leb, le-ltb}
-use lib.Dec.{eqb, leb, ltb}
+use borrow.Author.Tests.{eqb-true, leb-true, le-leb, le-ltb}
+use lib.Dec.{eqb, leb}
 use lib.IntN.{ℤ}
 use lib.ListN.{length}
 use Rattle.whole.specs.Choice.{if_then_else_}
 use Rattle.grid.specs.Refusals.{numberOff, outlineBad, refuse, none, first, offTable, windowRefusal}
-use Rattle.grid.specs.Table.{firstOff, WindowOnTable}
+use Rattle.grid.specs.Table.{firstOff, WindowOnTable, NumbersOnTable}
 use Rattle.grid.specs.declared.Refusal.{Refusal}
 use Rattle.grid.specs.declared.Window.{Window}
-use Rattle.grid.proofs.Ranges.{off-later, off-none, within-on, before-off}
-use Rattle.grid.proofs.Refusals.{goes-on, all-done, window-on-table}
+use Rattle.grid.proofs.Ranges.{off-later, off-none, within-on}
+use Rattle.grid.proofs.Refusals.{goes-on, all-done, window-on-table, nothing-off}
 use Rattle.rings.specs.Rings.{Ring}
 use Rattle.corners.specs.Corners.{cornersOf, strictlyConvex}
 use Rattle.corners.specs.Workers.{CornersOnTable}
 use Rattle.corners.proofs.Convexity.{ring-same}
 use Rattle.outlines.specs.Outlines.{badOrder, rightCount, badOutline, notConvex, outlineRefusal}
-use Rattle.outlines.specs.Workers.{NumbersOnTable}
 
 -- ---- no number is off the table
 pub first-on : (zs : List ℤ) → NumbersOnTable zs → length zs ≤ firstOff zs
@@ -47,14 +46,6 @@ passed : {n : ℕ} (b : Bool) → (n ≡ 0 → ⊥) → (if b then none else ref
 passed true h e = refl
 passed false h e = absurd (h e)
 
-none-off : (zs : List ℤ) → offTable numberOff zs .number ≡ 0 → NumbersOnTable zs
-unfolding offTable
-none-off zs e = go (ltb (firstOff zs) (length zs)) refl e
-  where
-    go : (b : Bool) → ltb (firstOff zs) (length zs) ≡ b → (if b then refuse numberOff (firstOff zs) else none) .number ≡ 0 → NumbersOnTable zs
-    go true t e = absurd (omega arith)
-    go false t e = λ k h. before-off zs k (omega (arith, ltb-false (firstOff zs) (length zs) t)) h
-
 pub record Taken (w : Window) (o : ℕ) (zs : List ℤ) : Type 0 where
   pub window : WindowOnTable w
   pub order : o ≤ 23
@@ -71,7 +62,7 @@ nothing-refused w o zs e =
     let d = all-done (offTable numberOff zs) _ (c .1) in
     let f = all-done (notConvex zs) [] (d .1) in
     let n = passed (rightCount (length zs)) (omega arith) (c .0) in
-    let k = few-corners zs n (none-off zs (d .0)) in record {
+    let k = few-corners zs n (nothing-off numberOff zs (omega arith) (d .0)) in record {
       window = window-on-table w (a .0);
       order = leb-true o 23 (passed (leb o 23) (omega arith) (b .0));
       count = n;

@@ -1,5 +1,4 @@
 -- What the workers behind the outline call promise each other.
---   NumbersOnTable zs     all numbers of an outline are on the table
 --   ReachOnTable b        no number of what lies in the rectangle b is off the table
 --   Beyond w b s          no point of the rectangle b lies strictly inside the side s of the window w
 --   LowestIn r k          of the corners of the ring r none comes before that at place k
@@ -17,7 +16,6 @@ use lib.IntN.{ℤ, pos, negℤ}
 use lib.ListN.{length, getD}
 use lib.Seq.{sets}
 use lib.Signed.{_≤ℤ_}
-use Rattle.whole.specs.Within.{Within}
 use Rattle.fraction.specs.Fraction.{LowestOf}
 use Rattle.fraction.specs.declared.Fraction.{Fraction}
 use Rattle.grid.specs.Calls.{answered, written}
@@ -30,9 +28,6 @@ use Rattle.rings.specs.Rings.{at, Starts}
 use Rattle.corners.specs.Corners.{gridPoint, cornersOf}
 use Rattle.passes.specs.Memory.{ringFrom}
 use Rattle.outlines.specs.Outlines.{RingNumbers}
-
-abbrev pub NumbersOnTable : List ℤ → Type 0
-NumbersOnTable zs = (k : ℕ) → k < length zs → Within farthest (getD zs k (pos 0))
 
 pub record ReachOnTable (b : Window) : Type 0 where
   pub left : negℤ (pos farthest) ≤ℤ b .left

@@ -10,14 +10,14 @@ ghost use lib.ListN.{length};
 ghost use lib.Signed.{_<ℤ_};
 ghost use Rattle.whole.specs.Choice.{Decides};
 ghost use Rattle.grid.specs.Calls.{Given};
-ghost use Rattle.grid.specs.Table.{WindowOnTable};
+ghost use Rattle.grid.specs.Table.{WindowOnTable, NumbersOnTable};
 ghost use Rattle.rings.specs.Lists.{All};
 ghost use Rattle.rings.specs.Points.{Proper, Before};
 ghost use Rattle.rings.specs.Rings.{Ring};
 ghost use Rattle.passes.specs.Memory.{pointIn, ringFrom, ringIn};
 ghost use Rattle.passes.specs.Outlines.{OutlineOnTable, Reaches};
 ghost use Rattle.outlines.specs.Outlines.{rightCount, outlineRefusal, Clipped, Outline};
-ghost use Rattle.outlines.specs.Workers.{NumbersOnTable, ReachOnTable, LowestIn, Forward, startedAt, WroteFraction, Wrote, GaveRing};
+ghost use Rattle.outlines.specs.Workers.{ReachOnTable, LowestIn, Forward, startedAt, WroteFraction, Wrote, GaveRing};
 
 mod reach;
 mod uncut;

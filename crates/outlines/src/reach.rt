@@ -4,9 +4,10 @@ ghost use mathlib.Core.Bool.{true};
 ghost use Prim.Native.Nat.{ℕ};
 ghost use lib.IntN.{ℤ};
 ghost use lib.Signed.{_≤ℤ_};
+ghost use Rattle.grid.specs.Table.{NumbersOnTable};
 ghost use Rattle.whole.specs.Choice.{Decides};
 ghost use Rattle.passes.specs.Outlines.{Reaches, Clear};
-ghost use Rattle.outlines.specs.Workers.{NumbersOnTable, ReachOnTable, Beyond};
+ghost use Rattle.outlines.specs.Workers.{ReachOnTable, Beyond};
 use grid::Window;
 
 fn lesser(a: i32, b: i32) -> i32

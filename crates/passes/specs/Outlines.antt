@@ -10,9 +10,8 @@ use Prim.Native.Nat.{ℕ, zero, suc, _+_, _*_, _/_, _%_, _<_, _≤_}
 use lib.IntN.{ℤ, pos}
 use lib.ListN.{length, getD}
 use lib.Signed.{_≤ℤ_}
-use Rattle.whole.specs.Within.{Within}
 use Rattle.grid.specs.declared.Window.{Window}
-use Rattle.grid.specs.Table.{farthest, WindowOnTable}
+use Rattle.grid.specs.Table.{WindowOnTable, NumbersOnTable}
 use Rattle.rings.specs.Rings.{StrictlyConvex}
 use Rattle.corners.specs.Corners.{cornersOf}
 
@@ -20,7 +19,7 @@ pub record OutlineOnTable (zs : List ℤ) : Type 0 where
   pub even : length zs % 2 ≡ 0
   pub three : 6 ≤ length zs
   pub few : length zs ≤ 128
-  pub on : (k : ℕ) → k < length zs → Within farthest (getD zs k (pos 0))
+  pub on : NumbersOnTable zs
   pub convex : StrictlyConvex (cornersOf zs)
 
 pub record Round (zs : List ℤ) (n : ℕ) (b : Window) : Type 0 where

@@ -4,13 +4,13 @@ use native.Mathlib.Omega.{arith}
 use borrow.Author.Needs.{needs}
 use borrow.Author.Tests.{leb-true, leb-false, not-true, not-false}
 use denote.Ref.{now}
+use Rattle.grid.specs.Table.{NumbersOnTable}
 use Rattle.whole.proofs.Comparisons.{ff-tt}
 use Rattle.grid.specs.Refusals.{windowRefusal}
 use Rattle.grid.specs.declared.Refusal.{Refusal}
 use Rattle.grid.proofs.Refusals.{all-done}
 use Rattle.corners.proofs.Convexity.{ring-same}
 use Rattle.outlines.specs.Outlines.{outlineRefusal}
-use Rattle.outlines.specs.Workers.{NumbersOnTable}
 use Rattle.outlines.proofs.Reaching.{numbers-on}
 use Rattle.outlines.proofs.Refusals.{right-even, first-on, few-corners, nothing-refused, convex-taken}
 use Rattle.outlines.proofs.takes.Statement.{statement}

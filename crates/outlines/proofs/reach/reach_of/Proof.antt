@@ -6,11 +6,12 @@ use lib.IntN.{ℤ}
 use lib.Signed.{_≤ℤ_, mag}
 use mir.Syntax.{w32}
 use mir.Val.{toZ, ofZ}
+use Rattle.grid.specs.Table.{NumbersOnTable}
 use Rattle.whole.proofs.Comparisons.{back}
 use Rattle.whole.proofs.Order.{zarith}
 use Rattle.grid.specs.declared.Window.{Window}
 use Rattle.passes.specs.Outlines.{Round}
-use Rattle.outlines.specs.Workers.{NumbersOnTable, ReachOnTable}
+use Rattle.outlines.specs.Workers.{ReachOnTable}
 use Rattle.outlines.proofs.Reaching.{round-more, round-all}
 use Rattle.outlines.proofs.reach.reach_of.Statement.{statement}
 use Rattle.outlines.proofs.reach.reach_of.Tie as tie
