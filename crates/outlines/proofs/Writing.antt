@@ -1,8 +1,7 @@
 -- Corners written into an output: one after the other, some behind others, and a whole ring for which there is room or is not.
-use mathlib.Core.Path.{_≡_, sym, ap, _∙_, subst, subst₂}
+use mathlib.Core.Path.{_≡_, refl, sym, ap, _∙_, subst, subst₂}
 use mathlib.Core.List.{List, [], _∷_, _++_, append-assoc, append-nil}
-use Prim.Native.Nat.{ℕ, suc, _+_, _-_, _*_, _≤_, _<_, _^_}
-use native.Mathlib.Numerals.{add-one}
+use Prim.Native.Nat.{ℕ, zero, suc, _+_, _-_, _*_, _≤_, _<_, _^_}
 use native.Mathlib.Omega.{arith}
 use borrow.Author.Tests.{le-leb, lt-leb}
 use lib.IntN.{ℤ}
@@ -16,16 +15,17 @@ use Rattle.fraction.proofs.LowestTerms.{lowest-of-unique}
 use Rattle.fraction.proofs.Computed.{lowestOf, lowestOf-is}
 use Rattle.grid.specs.Calls.{answered, written}
 use Rattle.grid.specs.Refusals.{outputShort}
-use Rattle.grid.proofs.Fill.{Filled, filled-put}
-use Rattle.rings.specs.Lists.{All, Turned}
+use Rattle.grid.proofs.Fill.{Filled, filled-start, filled-put, filled-end}
+use Rattle.rings.specs.Lists.{All, ∅, _◂_, Turned}
 use Rattle.rings.specs.Points.{Point, Proper}
 use Rattle.rings.specs.Rings.{Ring, Starts}
 use Rattle.rings.proofs.Lists.{turned-length, turned-all}
 use Rattle.rings.proofs.Theorems.{start}
+use Rattle.corners.specs.Corners.{next}
 use Rattle.passes.specs.Memory.{pointIn, ringFrom}
-use Rattle.passes.proofs.Memories.{ring-length}
+use Rattle.passes.proofs.Outlines.{next-on, next-round, next-below}
 use Rattle.outlines.specs.Outlines.{RingNumbers}
-use Rattle.outlines.specs.Workers.{WroteFraction, Wrote, GaveRing}
+use Rattle.outlines.specs.Workers.{startedAt, WroteFraction, Wrote, GaveRing}
 use Rattle.outlines.proofs.Numbers.{numbersOf, numbers-of, numbers-length, numbers-append}
 
 -- two numbers as they are read
@@ -33,35 +33,98 @@ pub read-fraction : {k : ℕ} {before after : List ℤ} (n d : ℤ) → mag n < 
     → WroteFraction (toZ w32 (ofZ w32 n)) (toZ w32 (ofZ w32 d)) k before after → WroteFraction n d k before after
 read-fraction {k} {before} {after} n d hn hd = subst₂ (λ (n d : ℤ). WroteFraction n d k before after) (back w32 n hn) (back w32 d hd)
 
-module _ (m : List ℤ) where
-  pub numbers-room : (i n : ℕ) → All Proper (ringFrom m i n) → length (numbersOf (ringFrom m i n)) ≡ 4 * n
-  numbers-room i n a = numbers-length (numbers-of a) ∙ ap (λ (k : ℕ). 4 * k) (ring-length m i n)
+-- ---- one corner: its two fractions are written, and those of the corners r are still to come
+module _ {p : Point} {k : ℕ} {out out₁ out₂ : List ℤ} (h : Proper p) (x : WroteFraction (p .X) (p .W) k out out₁) (y : WroteFraction (p .Y) (p .W) (k + 2) out₁ out₂) where
+  due : (r : List Point) → numbersOf (p ∷ r) ≡ (x .fraction .num ∷ x .fraction .den ∷ []) ++ ((y .fraction .num ∷ y .fraction .den ∷ []) ++ numbersOf r)
+  unfolding numbersOf
+  due r =
+      let f : lowestOf (p .X) (p .W) ≡ x .fraction = lowest-of-unique h (lowestOf-is _ h) (x .lowest) in
+      let g : lowestOf (p .Y) (p .W) ≡ y .fraction = lowest-of-unique h (lowestOf-is _ h) (y .lowest) in
+      λ t. f t .num ∷ f t .den ∷ g t .num ∷ g t .den ∷ numbersOf r
 
-  pub none-left : {n : ℕ} (i : ℕ) → n ≡ 0 → numbersOf (ringFrom m i n) ≡ []
-  unfolding numbersOf ringFrom
-  none-left i e = ap (λ (n : ℕ). numbersOf (ringFrom m i n)) e
+  pub next-corner : {K out₀ : List ℤ} (r : List Point) → length K ≤ length out₀ → Filled K (numbersOf (p ∷ r)) out out₀ k → Filled K (numbersOf r) out₂ out₀ (k + 4)
+  next-corner {K} {out₀} r room s =
+      let ys = y .fraction .num ∷ y .fraction .den ∷ [] in
+      let one = filled-put (x .fraction .num ∷ x .fraction .den ∷ []) (rw (due r) at s) room in
+      let two = filled-put ys (subst (λ (zs : List ℤ). Filled K (ys ++ numbersOf r) zs out₀ (k + 2)) (sym (x .output)) one) room in
+      let e : k + 2 + 2 ≡ k + 4 = omega arith in
+      rw (y .output, ← e) two
 
-  -- those from place i on are still to come, and the two fractions of that corner are written
-  module _ {i to k : ℕ} {out out₁ out₂ : List ℤ} (l : i < to) (h : Proper (pointIn m i))
-      (x : WroteFraction (pointIn m i .X) (pointIn m i .W) k out out₁) (y : WroteFraction (pointIn m i .Y) (pointIn m i .W) (k + 2) out₁ out₂) where
-    due : numbersOf (ringFrom m i (to - i))
-        ≡ (x .fraction .num ∷ x .fraction .den ∷ []) ++ ((y .fraction .num ∷ y .fraction .den ∷ []) ++ numbersOf (ringFrom m (i + 1) (to - (i + 1))))
-    unfolding numbersOf ringFrom
-    due =
-        let e : to - i ≡ suc (to - (i + 1)) = omega arith in
-        let f : lowestOf (pointIn m i .X) (pointIn m i .W) ≡ x .fraction = lowest-of-unique h (lowestOf-is _ h) (x .lowest) in
-        let g : lowestOf (pointIn m i .Y) (pointIn m i .W) ≡ y .fraction = lowest-of-unique h (lowestOf-is _ h) (y .lowest) in
-        ap (λ (n : ℕ). numbersOf (ringFrom m i n)) e
-        ∙ (λ t. f t .num ∷ f t .den ∷ g t .num ∷ g t .den ∷ numbersOf (ringFrom m (sym (add-one i) t) (to - (i + 1))))
+-- ---- of the ring of the first n corners in a memory, c corners from the place i on, round the ring
+unfoldable pub around : List ℤ → ℕ → ℕ → ℕ → List Point
+around m n i zero = []
+around m n i (suc c) = pointIn m i ∷ around m n (next n i) c
 
-    pub next-corner : {K out₀ : List ℤ} → length K ≤ length out₀ → Filled K (numbersOf (ringFrom m i (to - i))) out out₀ k → Filled K (numbersOf (ringFrom m (i + 1) (to - (i + 1)))) out₂ out₀ (k + 4)
-    next-corner {K} {out₀} r s =
-        let ys = y .fraction .num ∷ y .fraction .den ∷ [] in
-        let rest = numbersOf (ringFrom m (i + 1) (to - (i + 1))) in
-        let one = filled-put (x .fraction .num ∷ x .fraction .den ∷ []) (rw due at s) r in
-        let two = filled-put ys (subst (λ (zs : List ℤ). Filled K (ys ++ rest) zs out₀ (k + 2)) (sym (x .output)) one) r in
-        let e : k + 2 + 2 ≡ k + 4 = omega arith in
-        rw (y .output, ← e) two
+module _ (m : List ℤ) (n : ℕ) where
+  -- they stand one after the other before the ring's end
+  straight : (i c : ℕ) → i + c ≤ n → around m n i c ≡ ringFrom m i c
+  unfolding around ringFrom
+  straight i zero h = refl
+  straight i (suc zero) h = refl
+  straight i (suc (suc c)) h = ap (λ (r : List Point). pointIn m i ∷ r) (ap (λ (j : ℕ). around m n j (suc c)) (next-on n i (omega arith)) ∙ straight (suc i) (suc c) (omega arith))
+
+  -- after the last the first
+  past-end : (i c d t : ℕ) → i + suc c ≡ n → t ≡ c + d → around m n i (suc t) ≡ ringFrom m i (suc c) ++ around m n 0 d
+  unfolding around ringFrom
+  past-end i zero d t e f = let k : t ≡ d = omega arith in λ s. pointIn m i ∷ around m n (next-round n i (omega arith) s) (k s)
+  past-end i (suc c) d zero e f = absurd (omega arith)
+  past-end i (suc c) d (suc t) e f =
+      ap (λ (r : List Point). pointIn m i ∷ r) (ap (λ (j : ℕ). around m n j (suc t)) (next-on n i (omega arith)) ∙ past-end (suc i) c d t (omega arith) (omega arith))
+
+  pub all-around : (i : ℕ) → i < n → around m n i n ≡ startedAt m n i
+  all-around i h =
+      let c = n - suc i in
+      let one : n - i ≡ suc c = omega arith in
+      let all : suc (n - 1) ≡ n = omega arith in
+      ap (around m n i) (sym all) ∙ past-end i c i (n - 1) (omega arith) (omega arith) ∙ (λ t. ringFrom m i (sym one t) ++ straight 0 i (omega arith) t)
+
+  pub around-proper : ((j : ℕ) → j < n → Proper (pointIn m j)) → (i c : ℕ) → i < n → All Proper (around m n i c)
+  unfolding around
+  around-proper f i zero h = ∅
+  around-proper f i (suc c) h = f i h ◂ around-proper f (next n i) c (next-below n i h)
+
+  pub around-length : (i c : ℕ) → length (around m n i c) ≡ c
+  unfolding around
+  around-length i zero = refl
+  around-length i (suc c) = ap suc (around-length (next n i) c)
+
+-- ---- a ring written from the place start on: k numbers stand at the front of the output, those of the corners from the place i on are still to come
+pub record Rounding (m : List ℤ) (n start : ℕ) (out₀ out : List ℤ) (i k : ℕ) : Type 0 where
+  pub place : i < n
+  pub left : ℕ
+  pub four : k + 4 * left ≡ 4 * n
+  pub filled : Filled (numbersOf (around m n start n)) (numbersOf (around m n i left)) out out₀ k
+
+module _ (m : List ℤ) (n start : ℕ) (f : (j : ℕ) → j < n → Proper (pointIn m j)) (s : start < n) where
+  pub round-starts : {out₀ : List ℤ} → Rounding m n start out₀ out₀ start 0
+  round-starts = record { place = s; left = n; four = omega arith; filled = filled-start _ _ }
+
+  numbers : RingNumbers (around m n start n) (numbersOf (around m n start n))
+  numbers = numbers-of (around-proper m n f start n s)
+
+  count : length (numbersOf (around m n start n)) ≡ 4 * n
+  count = numbers-length numbers ∙ ap (λ (k : ℕ). 4 * k) (around-length m n start n)
+
+  pub round-goes-on : {out₀ out out₁ out₂ : List ℤ} {i j k : ℕ} → 4 * n ≤ length out₀ → k < 4 * n → Rounding m n start out₀ out i k
+      → WroteFraction (pointIn m i .X) (pointIn m i .W) k out out₁ → WroteFraction (pointIn m i .Y) (pointIn m i .W) (k + 2) out₁ out₂ → j ≡ next n i → Rounding m n start out₀ out₂ j (k + 4)
+  unfolding around
+  round-goes-on {out₀} {out} {out₁} {out₂} {i} {j} {k} room l r x y e = go (r .left) (r .four) (r .filled)
+    where
+      go : (c : ℕ) → k + 4 * c ≡ 4 * n → Filled (numbersOf (around m n start n)) (numbersOf (around m n i c)) out out₀ k → Rounding m n start out₀ out₂ j (k + 4)
+      go zero q d = absurd (omega arith)
+      go (suc c) q d = record {
+        place = rw e (next-below n i (r .place));
+        left = c;
+        four = omega arith;
+        filled = rw e (next-corner (f i (r .place)) x y (around m n (next n i) c) (omega (arith, count)) d);
+      }
+
+  pub round-ends : {out₀ out : List ℤ} {i k : ℕ} → 4 * n ≤ k → Rounding m n start out₀ out i k → Wrote (startedAt m n start) out₀ out
+  unfolding around numbersOf
+  round-ends {out₀} {out} {i} {k} h r = subst (λ (c : List Point). Wrote c out₀ out) (all-around m n start s) (record { numbers = numbersOf (around m n start n); are = numbers; output = filled-end (go (r .left) (omega (arith, r .four)) (r .filled)) })
+    where
+      go : (c : ℕ) → c ≡ 0 → Filled (numbersOf (around m n start n)) (numbersOf (around m n i c)) out out₀ k → Filled (numbersOf (around m n start n)) [] out out₀ k
+      go c e d = rw e at d
 
 -- ---- some corners written from the front, and then others behind them
 room : (xs out : List ℤ) → length xs ≤ length out → written xs out ≡ xs ++ drop (length xs) out

@@ -4,7 +4,7 @@ use grid::Refusal;
 use grid::Window;
 ghost use mathlib.Core.Path.{_≡_};
 ghost use mathlib.Core.Bool.{true};
-ghost use Prim.Native.Nat.{_+_, _-_, _*_, _≤_};
+ghost use Prim.Native.Nat.{_+_, _*_, _<_, _≤_};
 ghost use lib.IntN.{pos};
 ghost use lib.ListN.{length};
 ghost use lib.Signed.{_<ℤ_};
@@ -14,7 +14,7 @@ ghost use Rattle.grid.specs.Table.{WindowOnTable, NumbersOnTable};
 ghost use Rattle.rings.specs.Lists.{All};
 ghost use Rattle.rings.specs.Points.{Proper, Before};
 ghost use Rattle.rings.specs.Rings.{Ring};
-ghost use Rattle.passes.specs.Memory.{pointIn, ringFrom, ringIn};
+ghost use Rattle.passes.specs.Memory.{pointIn, ringIn};
 ghost use Rattle.passes.specs.Outlines.{OutlineOnTable, Reaches};
 ghost use Rattle.outlines.specs.Outlines.{rightCount, outlineRefusal, Clipped, Outline};
 ghost use Rattle.outlines.specs.Workers.{ReachOnTable, LowestIn, Forward, startedAt, WroteFraction, Wrote, GaveRing};
@@ -165,37 +165,24 @@ fn write_fraction(n: i32, d: i32, out: &mut [i32], k: usize)
     out[k + 1] = den;
 }
 
-// Writes the corners from one place up to another, four numbers each, from the front of out.
-fn write_corners(m: &[i32], from: usize, to: usize, out: &mut [i32])
-    requires { ⌜ from ≤ to ⌝ }
-    requires { ⌜ 4 * to ≤ length (now m) ⌝ }
-    requires { ⌜ All Proper (ringFrom (now m) from (to - from)) ⌝ }
-    requires { ⌜ 4 * (to - from) ≤ length (now out) ⌝ }
-    ensures { λ _. ⌜ Wrote (ringFrom (now (m .entry)) from (to - from)) (now (out .entry)) (now (out .exit)) ⌝ }
-{
-    let mut i = from;
-    let mut k = 0;
-    while i < to {
-        let p = 4 * i;
-        let w = m[p + 2];
-        write_fraction(m[p], w, out, k);
-        write_fraction(m[p + 1], w, out, k + 2);
-        i += 1;
-        k += 4;
-    }
-}
-
-// Writes the first n corners from the front of out, started at a place.
+// Writes the ring of the first n corners, started at a place, four numbers each, from the front of out.
 fn write_ring(m: &[i32], n: usize, start: usize, out: &mut [i32])
-    requires { ⌜ start ≤ n ⌝ }
+    requires { ⌜ start < n ⌝ }
     requires { ⌜ 4 * n ≤ length (now m) ⌝ }
     requires { ⌜ All Proper (ringIn (now m) n) ⌝ }
     requires { ⌜ 4 * n ≤ length (now out) ⌝ }
     ensures { λ _. ⌜ Wrote (startedAt (now (m .entry)) n start) (now (out .entry)) (now (out .exit)) ⌝ }
 {
-    let rest = 4 * (n - start);
-    write_corners(m, start, n, out);
-    write_corners(m, 0, start, &mut out[rest..]);
+    let mut i = start;
+    let mut k = 0;
+    while k < 4 * n {
+        let p = 4 * i;
+        let w = m[p + 2];
+        write_fraction(m[p], w, out, k);
+        write_fraction(m[p + 1], w, out, k + 2);
+        i = passes::next_of(i, n);
+        k += 4;
+    }
 }
 
 // Gives the ring of the first n corners into a lent output, or refuses where it has no room there.

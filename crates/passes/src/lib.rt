@@ -121,7 +121,7 @@ fn limit_of(w: Window, side: usize) -> Limit
 }
 
 // Of n corners the one that comes after the corner k: after the last the first.
-fn next_of(k: usize, n: usize) -> usize
+pub fn next_of(k: usize, n: usize) -> usize
     requires { ⌜ k < n ⌝ }
     ensures { λ r. ⌜ r ≡ next n k ⌝ }
 {
