@@ -34,7 +34,7 @@ fn right_count(n: usize) -> bool
     false
 }
 
-// Whether an outline of the right length is not refused, nor its window and order. They come last: their numbers then take no room in the walks.
+// Whether nothing is refused, the outline's length being right. The window and the order come last: then they take no registers from the walks.
 fn takes(w: Window, order: u32, outline: &[i32], reach: Window) -> bool
     requires { ⌜ rightCount (length (now outline)) ≡ true ⌝ }
     requires { ⌜ Reaches (now outline) reach ⌝ }
@@ -53,7 +53,7 @@ fn takes(w: Window, order: u32, outline: &[i32], reach: Window) -> bool
     order <= 23
 }
 
-// What is refused, where something is: only then it is asked in the order of the numbers.
+// What is refused, where something is: only then the tests are made in the order of their numbers.
 fn refusal(w: Window, order: u32, outline: &[i32]) -> Refusal
     requires { ⌜ (outlineRefusal w order (now outline) .number ≡ 0 → ⊥) ⌝ }
     ensures { λ r. ⌜ r ≡ outlineRefusal w order (now (outline .entry)) ⌝ }

@@ -244,7 +244,7 @@ fn put(m: &mut [i32], i: usize, p: Corner, tag: i32)
     m[at + 3] = tag;
 }
 
-// Where the ring comes in from the corner o outside to one inside, not there on the limit: the crossing takes the place of o.
+// Where the ring comes in from the corner o outside: the crossing takes the place of o, unless the corner there, the next one, lies on the limit.
 // What is left begins at the place answered.
 fn enter(w: Window, l: Limit, outline: &[i32], m: &mut [i32], o: usize, there: bool) -> usize
     requires { ⌜ WindowOnTable w ⌝ }
@@ -262,8 +262,8 @@ fn enter(w: Window, l: Limit, outline: &[i32], m: &mut [i32], o: usize, there: b
     o
 }
 
-// Where the ring goes out from the corner i inside: the crossing comes after it or, where it is here on the limit, its next edge lies
-// along the side. What is left ends before the place answered.
+// Where the ring goes out from the corner i inside: the crossing comes after it, unless the corner here lies on the limit; then its next edge
+// lies along the side. What is left ends before the place answered.
 fn leave(
     w: Window,
     side: usize,
