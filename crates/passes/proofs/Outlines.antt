@@ -111,7 +111,7 @@ edge-line zs {k} {j} e =
 
 module _ {zs : List ℤ} (o : OutlineOnTable zs) where
   pub outline-ring : Ring (cornersOf zs)
-  outline-ring = record { three = omega (arith, corner-count zs, o .three); proper = corners-proper zs; convex = o .convex }
+  outline-ring = record { three = omega (arith, corner-count zs, o .corners .three); proper = corners-proper zs; convex = o .convex }
 
   edge-real : (k : ℕ) → k < length zs / 2 → Real (lineOf (edgeOf zs k))
   edge-real k h =
@@ -125,7 +125,7 @@ module _ {zs : List ℤ} (o : OutlineOnTable zs) where
   edge-on-table k h =
       let l = edge-below (next-edge h) in
       let j = next (length zs / 2) k in
-      record { x1 = o .on (2 * k) (omega arith); y1 = o .on (2 * k + 1) (omega arith); x2 = o .on (2 * j) (omega arith); y2 = o .on (2 * j + 1) (omega arith) }
+      record { x1 = o .corners .on (2 * k) (omega arith); y1 = o .corners .on (2 * k + 1) (omega arith); x2 = o .corners .on (2 * j) (omega arith); y2 = o .corners .on (2 * j + 1) (omega arith) }
 
 pub named-on-table : {w : Window} {zs : List ℤ} {a : ℤ} {e : Stroke} → WindowOnTable w → OutlineOnTable zs → Names w zs a e → StrokeOnTable e
 named-on-table t o (edge k h) = edge-on-table o k h

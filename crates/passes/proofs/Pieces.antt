@@ -65,7 +65,7 @@ found : {w : Window} {zs : List ℤ} {s : ℕ} {a : ℤ} {u v p : Point} → Job
 found {w} {s = s} {u = u} {v} {p} g l m pu pv x =
     let e = l .stroke in
     let real = named-real (g .outline) (l .named) in
-    let meets = subst (λ (e : Stroke). Meets (sideLine w s) e p) (names-same (g .outline .few) (m .named) (l .named)) (m .meets) in
+    let meets = subst (λ (e : Stroke). Meets (sideLine w s) e p) (names-same (g .outline .corners .few) (m .named) (l .named)) (m .meets) in
     let small = meets .small (not-along (sideLine w s) e u v pu pv real (l .from) (l .to) x) in
     record { small = small; crossing = line-crossing (lineOf e) real (l .from) (l .to) (meets .on-stroke) pu pv (small .positive) x (meets .on-side); on-stroke = meets .on-stroke }
 

@@ -68,7 +68,7 @@ module _ {zs m : List ℤ} (o : OutlineOnTable zs) (l : Loaded zs m (length zs /
       ring-at m 0 (length zs / 2) k j ∙ ap (pointIn m) (zero-add k) ∙ corner-in k j)
 
   loaded-small : (k : ℕ) → k < length zs / 2 → Small (pointIn m k)
-  loaded-small k h = subst Small (sym (l .corner k h)) (record { positive = omega zarith; den = omega zarith; x = within-up (omega arith) (o .on (2 * k) (omega arith)); y = within-up (omega arith) (o .on (2 * k + 1) (omega arith)) })
+  loaded-small k h = subst Small (sym (l .corner k h)) (record { positive = omega zarith; den = omega zarith; x = within-up (omega arith) (o .corners .on (2 * k) (omega arith)); y = within-up (omega arith) (o .corners .on (2 * k + 1) (omega arith)) })
 
   loaded-lies : {w : Window} (i k : ℕ) → Edge (length zs / 2) i k → Lies w zs (tagIn m i) (pointIn m i) (pointIn m k)
   loaded-lies {w} i k e =
@@ -88,7 +88,7 @@ module _ {zs m : List ℤ} (o : OutlineOnTable zs) (l : Loaded zs m (length zs /
         ring = subst Ring (sym ring-loaded) (outline-ring o);
         traced = record {
           small = subst (λ (k : ℕ). All (λ c. Small (c .point)) (cornersFrom m 0 k)) e (tagged-all m 0 n (λ k a h. loaded-small k (omega arith)));
-          lies = subst (λ (k : ℕ). Edges (λ a b. Lies w zs (a .tag) (a .point) (b .point)) (cornersFrom m 0 k)) e (edges-from m n (omega (arith, o .three)) loaded-lies);
+          lies = subst (λ (k : ℕ). Edges (λ a b. Lies w zs (a .tag) (a .point) (b .point)) (cornersFrom m 0 k)) e (edges-from m n (omega (arith, o .corners .three)) loaded-lies);
         };
       }
 

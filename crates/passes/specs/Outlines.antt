@@ -4,22 +4,19 @@
 --   Reaches zs b        all of them do
 --   Clear w b s         no point of the rectangle b lies outside the side s of the window w
 --   Job w zs s          a window and an outline on the table, and one of the window's four sides
-use mathlib.Core.Path.{_≡_}
 use mathlib.Core.List.{List}
-use Prim.Native.Nat.{ℕ, zero, suc, _+_, _*_, _/_, _%_, _<_, _≤_}
+use Prim.Native.Nat.{ℕ, zero, suc, _+_, _*_, _/_, _<_, _≤_}
 use lib.IntN.{ℤ, pos}
 use lib.ListN.{length, getD}
 use lib.Signed.{_≤ℤ_}
 use Rattle.grid.specs.declared.Window.{Window}
-use Rattle.grid.specs.Table.{WindowOnTable, NumbersOnTable}
+use Rattle.grid.specs.Table.{WindowOnTable}
 use Rattle.rings.specs.Rings.{StrictlyConvex}
 use Rattle.corners.specs.Corners.{cornersOf}
+use Rattle.corners.specs.Workers.{CornersOnTable}
 
 pub record OutlineOnTable (zs : List ℤ) : Type 0 where
-  pub even : length zs % 2 ≡ 0
-  pub three : 6 ≤ length zs
-  pub few : length zs ≤ 128
-  pub on : NumbersOnTable zs
+  pub corners : CornersOnTable zs
   pub convex : StrictlyConvex (cornersOf zs)
 
 pub record Round (zs : List ℤ) (n : ℕ) (b : Window) : Type 0 where

@@ -31,7 +31,7 @@ clipped-requires c κs =
       (
         k .order,
         (
-          record { even = k .corners .even; three = k .corners .three; few = k .corners .few; on = k .corners .on; convex = k .ring .convex },
+          record { corners = k .corners; convex = k .ring .convex },
           c .before .before .before .reach-of .ensures .0,
         ),
       ),

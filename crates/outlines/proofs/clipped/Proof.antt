@@ -10,7 +10,7 @@ inside-requires : tie.Need-inside-requires
 inside-requires c κs = search needs
 
 give-whole-requires : tie.Need-give-whole-requires
-give-whole-requires c κs = let t = c .before .before .before .pre .1 .1 .0 in (t .even, (t .few, outline-ring t))
+give-whole-requires c κs = let t = c .before .before .before .pre .1 .1 .0 in (t .corners .even, (t .corners .few, outline-ring t))
 
 same-length : tie.Need-same-length
 same-length c = search needs

@@ -32,7 +32,7 @@ slice-aggregate-cut-in-3 : tie.Need-slice-aggregate-cut-in-3
 slice-aggregate-cut-in-3 c = search needs
 
 cut-in-requires-3 : tie.Need-cut-in-requires-3
-cut-in-requires-3 c κs = let s = c .before .before .before .before in (s .pre .0, (s .pre .1 .0, (s .pre .1 .1 .0, (s .pre .1 .1 .1, omega (arith, s .pre .1 .1 .0 .few)))))
+cut-in-requires-3 c κs = let s = c .before .before .before .before in (s .pre .0, (s .pre .1 .0, (s .pre .1 .1 .0, (s .pre .1 .1 .1, omega (arith, s .pre .1 .1 .0 .corners .few)))))
 
 same-length-3 : tie.Need-same-length-3
 same-length-3 c = search needs

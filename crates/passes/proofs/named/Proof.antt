@@ -49,13 +49,13 @@ level w s h e = rw (le-ltb s 2 h) (λ i. stroke (pos 0) (e i) (pos 1) (e i))
 
 -- as it is read
 read : (c : tie.Start) → Tag (now (c .args .outline)) (c .args .tag) (natAbs (toZ w32 (ofZ w32 (c .args .tag))))
-read c = subst (λ (z : ℤ). Tag (now (c .args .outline)) (c .args .tag) (natAbs z)) (sym (toZ-ofZ (c .fits .tag))) (tag (c .pre .0 .few) (c .pre .1 .1))
+read c = subst (λ (z : ℤ). Tag (now (c .args .outline)) (c .args .tag) (natAbs z)) (sym (toZ-ofZ (c .fits .tag))) (tag (c .pre .0 .corners .few) (c .pre .1 .1))
 
 cast-k : tie.Need-cast-k
-cast-k c = subst (λ (z : ℤ). T (nonNeg z) × Fits w64 (natAbs z)) (sym (toZ-ofZ (c .fits .tag) ∙ tag (c .pre .0 .few) (c .pre .1 .1) .is)) (tt, record { fits = omega (arith, tag (c .pre .0 .few) (c .pre .1 .1) .few) })
+cast-k c = subst (λ (z : ℤ). T (nonNeg z) × Fits w64 (natAbs z)) (sym (toZ-ofZ (c .fits .tag) ∙ tag (c .pre .0 .corners .few) (c .pre .1 .1) .is)) (tt, record { fits = omega (arith, tag (c .pre .0 .corners .few) (c .pre .1 .1) .few) })
 
 edge-requires : tie.Need-edge-requires
-edge-requires c κs = (c .before .pre .0 .even, read (c .before) .corner (c .if1 .taken))
+edge-requires c κs = (c .before .pre .0 .corners .even, read (c .before) .corner (c .if1 .taken))
 
 returns : tie.Need-returns
 returns c = of-edge (read (c .before .before)) (read (c .before .before) .corner (c .before .if1 .taken)) (c .edge .ensures)

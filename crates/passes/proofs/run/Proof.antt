@@ -37,7 +37,7 @@ abbrev μ-loop : tie.MeasureT-loop
 μ-loop w reach order outline m₀ p₀ rest₀ k₀ m p rest k = 4 - k
 
 load-requires : tie.Need-load-requires Inv-loop μ-loop
-load-requires c κs = let s = c .before in (s .pre .1 .1 .0 .few, omega (arith, s .pre .1 .1 .1 .1))
+load-requires c κs = let s = c .before in (s .pre .1 .1 .0 .corners .few, omega (arith, s .pre .1 .1 .1 .1))
 
 sides-of-requires : tie.Need-sides-of-requires Inv-loop μ-loop
 sides-of-requires c κs = c .before .before .before .pre .1 .0
