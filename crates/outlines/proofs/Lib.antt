@@ -5,6 +5,7 @@ pub mod Widths
 pub mod Memory
 pub mod Downhill
 pub mod Lowest
+pub mod Around
 pub mod Writing
 pub mod Traces
 pub mod Lines

@@ -1,5 +1,5 @@
--- Corners written into an output: one after the other, some behind others, and a whole ring for which there is room or is not.
-use mathlib.Core.Path.{_≡_, refl, sym, ap, _∙_, subst, subst₂}
+-- Corners written into an output: one after the other, round a ring, some behind others, and a whole ring for which there is room or is not.
+use mathlib.Core.Path.{_≡_, sym, ap, _∙_, subst, subst₂}
 use mathlib.Core.List.{List, [], _∷_, _++_, append-assoc, append-nil}
 use Prim.Native.Nat.{ℕ, zero, suc, _+_, _-_, _*_, _≤_, _<_, _^_}
 use native.Mathlib.Omega.{arith}
@@ -16,16 +16,17 @@ use Rattle.fraction.proofs.Computed.{lowestOf, lowestOf-is}
 use Rattle.grid.specs.Calls.{answered, written}
 use Rattle.grid.specs.Refusals.{outputShort}
 use Rattle.grid.proofs.Fill.{Filled, filled-start, filled-put, filled-end}
-use Rattle.rings.specs.Lists.{All, ∅, _◂_, Turned}
+use Rattle.rings.specs.Lists.{Turned}
 use Rattle.rings.specs.Points.{Point, Proper}
 use Rattle.rings.specs.Rings.{Ring, Starts}
 use Rattle.rings.proofs.Lists.{turned-length, turned-all}
 use Rattle.rings.proofs.Theorems.{start}
 use Rattle.corners.specs.Corners.{next}
-use Rattle.passes.specs.Memory.{pointIn, ringFrom}
-use Rattle.passes.proofs.Outlines.{next-on, next-round, next-below}
+use Rattle.passes.specs.Memory.{pointIn}
+use Rattle.passes.proofs.Outlines.{next-below}
 use Rattle.outlines.specs.Outlines.{RingNumbers}
 use Rattle.outlines.specs.Workers.{startedAt, WroteFraction, Wrote, GaveRing}
+use Rattle.outlines.proofs.Around.{around, all-around, around-proper, around-length}
 use Rattle.outlines.proofs.Numbers.{numbersOf, numbers-of, numbers-length, numbers-append}
 
 -- two numbers as they are read
@@ -42,51 +43,13 @@ module _ {p : Point} {k : ℕ} {out out₁ out₂ : List ℤ} (h : Proper p) (x 
       let g : lowestOf (p .Y) (p .W) ≡ y .fraction = lowest-of-unique h (lowestOf-is _ h) (y .lowest) in
       λ t. f t .num ∷ f t .den ∷ g t .num ∷ g t .den ∷ numbersOf r
 
-  pub next-corner : {K out₀ : List ℤ} (r : List Point) → length K ≤ length out₀ → Filled K (numbersOf (p ∷ r)) out out₀ k → Filled K (numbersOf r) out₂ out₀ (k + 4)
+  next-corner : {K out₀ : List ℤ} (r : List Point) → length K ≤ length out₀ → Filled K (numbersOf (p ∷ r)) out out₀ k → Filled K (numbersOf r) out₂ out₀ (k + 4)
   next-corner {K} {out₀} r room s =
       let ys = y .fraction .num ∷ y .fraction .den ∷ [] in
       let one = filled-put (x .fraction .num ∷ x .fraction .den ∷ []) (rw (due r) at s) room in
       let two = filled-put ys (subst (λ (zs : List ℤ). Filled K (ys ++ numbersOf r) zs out₀ (k + 2)) (sym (x .output)) one) room in
       let e : k + 2 + 2 ≡ k + 4 = omega arith in
       rw (y .output, ← e) two
-
--- ---- of the ring of the first n corners in a memory, c corners from the place i on, round the ring
-unfoldable pub around : List ℤ → ℕ → ℕ → ℕ → List Point
-around m n i zero = []
-around m n i (suc c) = pointIn m i ∷ around m n (next n i) c
-
-module _ (m : List ℤ) (n : ℕ) where
-  -- they stand one after the other before the ring's end
-  straight : (i c : ℕ) → i + c ≤ n → around m n i c ≡ ringFrom m i c
-  unfolding around ringFrom
-  straight i zero h = refl
-  straight i (suc zero) h = refl
-  straight i (suc (suc c)) h = ap (λ (r : List Point). pointIn m i ∷ r) (ap (λ (j : ℕ). around m n j (suc c)) (next-on n i (omega arith)) ∙ straight (suc i) (suc c) (omega arith))
-
-  -- after the last the first
-  past-end : (i c d t : ℕ) → i + suc c ≡ n → t ≡ c + d → around m n i (suc t) ≡ ringFrom m i (suc c) ++ around m n 0 d
-  unfolding around ringFrom
-  past-end i zero d t e f = let k : t ≡ d = omega arith in λ s. pointIn m i ∷ around m n (next-round n i (omega arith) s) (k s)
-  past-end i (suc c) d zero e f = absurd (omega arith)
-  past-end i (suc c) d (suc t) e f =
-      ap (λ (r : List Point). pointIn m i ∷ r) (ap (λ (j : ℕ). around m n j (suc t)) (next-on n i (omega arith)) ∙ past-end (suc i) c d t (omega arith) (omega arith))
-
-  pub all-around : (i : ℕ) → i < n → around m n i n ≡ startedAt m n i
-  all-around i h =
-      let c = n - suc i in
-      let one : n - i ≡ suc c = omega arith in
-      let all : suc (n - 1) ≡ n = omega arith in
-      ap (around m n i) (sym all) ∙ past-end i c i (n - 1) (omega arith) (omega arith) ∙ (λ t. ringFrom m i (sym one t) ++ straight 0 i (omega arith) t)
-
-  pub around-proper : ((j : ℕ) → j < n → Proper (pointIn m j)) → (i c : ℕ) → i < n → All Proper (around m n i c)
-  unfolding around
-  around-proper f i zero h = ∅
-  around-proper f i (suc c) h = f i h ◂ around-proper f (next n i) c (next-below n i h)
-
-  pub around-length : (i c : ℕ) → length (around m n i c) ≡ c
-  unfolding around
-  around-length i zero = refl
-  around-length i (suc c) = ap suc (around-length (next n i) c)
 
 -- ---- a ring written from the place start on: k numbers stand at the front of the output, those of the corners from the place i on are still to come
 pub record Rounding (m : List ℤ) (n start : ℕ) (out₀ out : List ℤ) (i k : ℕ) : Type 0 where

@@ -1,5 +1,6 @@
 pub mod Sides
 pub mod Limits
+pub mod Runs
 pub mod Orders
 pub mod Memories
 pub mod Outlines

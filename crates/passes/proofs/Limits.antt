@@ -1,10 +1,10 @@
--- A limit: that of a side is the side's line, its test tells where a corner lies, and corners that lie so, one after the other, are a run.
+-- A limit: that of a side is the side's line, and its tests tell where a corner lies.
 use mathlib.Core.Path.{_≡_, refl, sym, ap, _∙_, subst}
 use mathlib.Core.Bool.{Bool, true, false, not, Bool·beq}
 use mathlib.Core.List.{List, [], _∷_}
-use mathlib.Core.Logic.{⊎-elim, _↔_}
-use Prim.Native.Nat.{ℕ, zero, suc, _+_, _*_, _/_, _%_, _<_, _≤_}
-use native.Mathlib.Nat.{add-zero, eq-or-lt-of-le}
+use mathlib.Core.Logic.{_↔_}
+use Prim.Native.Nat.{ℕ, zero, suc, _+_, _*_, _/_, _%_, _<_}
+use native.Mathlib.Nat.{add-zero}
 use native.Mathlib.Omega.{arith}
 use borrow.Author.Tests.{eqb-true, eqb-false}
 use lib.Dec.{eqb}
@@ -31,7 +31,7 @@ use Rattle.rings.proofs.Plane.{nought}
 use Rattle.passes.specs.Memory.{pointIn, largestNumber, Small}
 use Rattle.passes.specs.Orders.{sideLine}
 use Rattle.passes.specs.Tags.{numberOf}
-use Rattle.passes.specs.Limits.{LimitOnTable, limitLine, LiesSo, RunTo}
+use Rattle.passes.specs.Limits.{LimitOnTable, limitLine, LiesSo}
 use Rattle.passes.specs.declared.limit.Limit.{Limit}
 
 -- ---- the limit of a side
@@ -49,7 +49,7 @@ numbers l m i = getD m (4 * i + l .axis) (pos 0) ∷ l .c ∷ pointIn m i .W ∷
 abbrev pub sizes : List ℕ
 sizes = largestNumber ∷ farthest ∷ 32766 ∷ []
 
-abbrev pub along : Code
+abbrev along : Code
 along = par w32 0
 
 abbrev pub scaled : Code
@@ -67,11 +67,11 @@ pub bounds : (l : Limit) (m : List ℤ) (i : ℕ) → LimitOnTable l → Small (
 bounds l m i t p = (along-small m i (l .axis) (t .axis) p, (t .number, (den-within p, tt)))
 
 -- ---- the value at a corner
-abbrev pub inward : Bool → Expr
+abbrev inward : Bool → Expr
 inward true = var 0 ⊖ var 1 ⊗ var 2
 inward false = var 1 ⊗ var 2 ⊖ var 0
 
-pub limit-value : (l : Limit) (m : List ℤ) (i : ℕ) (b : Bool) → l .low ≡ b → l .axis < 2 → means (numbers l m i) (inward b) ≡ points.value (limitLine l) (pointIn m i)
+limit-value : (l : Limit) (m : List ℤ) (i : ℕ) (b : Bool) → l .low ≡ b → l .axis < 2 → means (numbers l m i) (inward b) ≡ points.value (limitLine l) (pointIn m i)
 unfolding points.value left-side right-side bottom-side top-side
 limit-value l m i b e h = subst (λ (b : Bool). means (numbers l m i) (inward b) ≡ points.value (limitLine l) (pointIn m i)) e (go (l .low) (l .axis) h)
   where
@@ -86,7 +86,7 @@ limit-value l m i b e h = subst (λ (b : Bool). means (numbers l m i) (inward b)
     go b (suc (suc k)) h = absurd (omega arith)
 
 -- ---- the test at a corner, as the loop for that kind of limit has it
-abbrev pub test : Bool → Env → Bool
+abbrev test : Bool → Env → Bool
 test true ρ = ltZ (machine ρ along) (machine ρ scaled)
 test false ρ = ltZ (machine ρ scaled) (machine ρ along)
 
@@ -138,26 +138,3 @@ module _ (l : Limit) (m : List ℤ) (i : ℕ) (t : LimitOnTable l) (p : Small (p
   pub on-limit : {x y : ℤ} → SFits w32 x → SFits w32 y → x ≡ means ρ (var 0) → y ≡ means ρ (var 1 ⊗ var 2) → Decides (eqb (ofZ w32 x) (ofZ w32 y)) (On (limitLine l) (pointIn m i))
   on-limit fx fy ex ey = let k = equal (l .low) refl in
       record { yes = λ q. k .0 (sym ex ∙ bits-eq w32 fx fy (eqb-true _ _ q) ∙ ey); no = λ q h. eqb-false _ _ q (ap (ofZ w32) (ex ∙ k .1 h ∙ sym ey)) }
-
--- ---- a run so far, up to the place i
-pub record RunSo (h : Line) (m : List ℤ) (out : Bool) (from to i : ℕ) : Type 0 where
-  pub above : from ≤ i
-  pub below : i ≤ to
-  pub run : (j : ℕ) → from ≤ j → j < i → LiesSo out h (pointIn m j)
-
-module _ {h : Line} {m : List ℤ} {out : Bool} {from to : ℕ} where
-  pub run-starts : from ≤ to → RunSo h m out from to from
-  run-starts k = record { above = omega arith; below = k; run = λ j a b. absurd (omega arith) }
-
-  pub run-goes-on : {i : ℕ} → RunSo h m out from to i → i < to → LiesSo out h (pointIn m i) → RunSo h m out from to (i + 1)
-  run-goes-on {i} r k s = record {
-    above = omega (arith, r .above);
-    below = omega arith;
-    run = λ j a b. ⊎-elim (λ (e : j ≡ i). subst (λ (k : ℕ). LiesSo out h (pointIn m k)) (sym e) s) (λ c. r .run j a c) (eq-or-lt-of-le (omega arith));
-  }
-
-  pub run-ends : {i : ℕ} → RunSo h m out from to i → LiesSo (not out) h (pointIn m i) → RunTo h m out from to i
-  run-ends r s = record { above = r .above; below = r .below; run = r .run; ends = λ k. s }
-
-  pub run-is-all : {i : ℕ} → RunSo h m out from to i → to ≤ i → RunTo h m out from to to
-  run-is-all r k = record { above = omega (arith, r .above, r .below); below = omega arith; run = λ j a b. r .run j a (omega arith); ends = λ b. absurd (omega arith) }

@@ -23,12 +23,6 @@ use Rattle.passes.proofs.Orders.{packed-from, side-below}
 use Rattle.passes.proofs.Running.{Running, run-begun, passed-over, run-gone, run-more, run-ended}
 use Rattle.passes.proofs.run.Statement.{statement}
 use Rattle.passes.proofs.run.Tie as tie
-use Rattle.passes.proofs.run.Reads as reads
-use Rattle.passes.proofs.run.Lts as lts
-use Rattle.passes.proofs.clear.Reads as clear-reads
-use Rattle.passes.proofs.load.Reads as load-reads
-use Rattle.passes.proofs.pass.Reads as pass-reads
-use Rattle.passes.proofs.sides_of.Reads as sides-of-reads
 
 abbrev Inv-loop : tie.InvT-loop
 Inv-loop w reach order outline m₀ p₀ rest₀ k₀ m p rest k = (k ≤ 4) × (length m ≡ length m₀) × (rest ≡ packed (drop k (sidesIn order))) × Running w reach order outline m p k

@@ -7,7 +7,8 @@ use lib.ListN.{length}
 use Rattle.whole.proofs.Machine.{need}
 use Rattle.passes.specs.Memory.{pointIn, Small}
 use Rattle.passes.specs.Limits.{limitLine}
-use Rattle.passes.proofs.Limits.{numbers, sizes, scaled, bounds, as-asked, else-asked, RunSo, run-starts, run-goes-on, run-ends, run-is-all}
+use Rattle.passes.proofs.Limits.{numbers, sizes, scaled, bounds, as-asked, else-asked}
+use Rattle.passes.proofs.Runs.{RunSo, run-starts, run-goes-on, run-ends, run-is-all}
 use Rattle.passes.proofs.limit.end_low.Statement.{statement}
 use Rattle.passes.proofs.limit.end_low.Tie as tie
 
