@@ -5,28 +5,30 @@ use mathlib.Core.List.{List, [], _∷_}
 use mathlib.Core.Logic.{⊎-elim}
 use Prim.Native.Nat.{ℕ, zero, suc}
 use native.Mathlib.Omega.{arith}
-use lib.Dec.{T, leb}
+use lib.Dec.{T, leb, ltb}
 use lib.IntN.{ℤ, pos, negℤ, _*ℤ_}
 use lib.Signed.{_≤ℤ_, _<ℤ_}
 use Rattle.whole.specs.Within.{Within}
 use Rattle.whole.proofs.Expressions.{Expr, Env, means, var, con, _⊕_, _⊖_, _⊗_, neg}
 use Rattle.whole.proofs.Polynomials.{ring, same}
-use Rattle.whole.proofs.Order.{≤-total, ≤-antisym, <-diff}
+use Rattle.whole.proofs.Order.{zarith, ≤-total, ≤-antisym, <-diff}
 use Rattle.whole.proofs.Certificates.{clash, po, lt, eq, _⊞_, _⊠_, eq-by, eqn, eq-cancel, _⊹_}
-use Rattle.whole.proofs.Ranges.{Bounds, bound, within}
+use Rattle.whole.proofs.Comparisons.{by-test}
+use Rattle.whole.proofs.Ranges.{Bounds, bound, within, within-up}
+use Rattle.grid.specs.declared.Window.{Window}
 use Rattle.grid.specs.declared.Stroke.{Stroke}
-use Rattle.grid.specs.Table.{farthest, StrokeOnTable}
+use Rattle.grid.specs.Table.{farthest, WindowOnTable, StrokeOnTable}
 use Rattle.rings.specs.Points.{Point, Line, value, through, Over, Out, On, Real, Proper}
 use Rattle.rings.specs.Cuts.{Across, leaves, enters}
 use Rattle.rings.specs.Windows.{left-side, bottom-side}
 use Rattle.rings.proofs.Plane.{nought, with-line, value-of, det-of, w-of}
 use Rattle.corners.specs.Corners.{gridPoint}
 use Rattle.passes.specs.Memory.{largestNumber}
-use Rattle.passes.specs.Tags.{stroke, lineOf}
-use Rattle.passes.specs.Limits.{limitLine}
-use Rattle.passes.specs.Steps.{Meets}
+use Rattle.passes.specs.Tags.{stroke, lineOf, numberOf, sideOf}
+use Rattle.passes.specs.Limits.{LimitOnTable, limitLine}
+use Rattle.passes.specs.Steps.{NotAlong, Meets}
 use Rattle.passes.specs.declared.limit.Limit.{Limit}
-use Rattle.passes.proofs.Sides.{Opposite, right-opposite, top-opposite}
+use Rattle.passes.proofs.Sides.{number-within, Opposite, right-opposite, top-opposite}
 
 abbrev one : Expr
 one = con (pos 1)
@@ -70,22 +72,25 @@ module _ (c ax ay bx by : ℤ) (hc : Within farthest c) (on : StrokeOnTable (str
   unfolding left-side value through
   met k l d s t hd hk hl positive = record {
     on-side = ring ρ (at-side k l d) nought s;
-    on-stroke = ring ρ (at-stroke k l d) nought t;
+    on-stroke = λ n. ring ρ (at-stroke k l d) nought t;
     small = λ n. record { positive = positive (λ e. n (upright e)); den = within sizes ρ bounds d hd .high; x = within sizes ρ bounds k hk; y = within sizes ρ bounds l hl };
   }
 
   pub meets-forward : pos 0 ≤ℤ means ρ run → Meets (left-side c) (stroke ax ay bx by) (point (var 0 ⊗ run) height run)
   meets-forward h = met (var 0 ⊗ run) height run tt tt tt tt tt (λ n. ⊎-elim (λ l. absurd (n (≤-antisym l h))) (λ l. l) (≤-total (means ρ run) (pos 0)))
 
-  pub meets-back : means ρ run <ℤ pos 0 → Meets (left-side c) (stroke ax ay bx by) (point (nought ⊖ var 0 ⊗ run) (nought ⊖ height) (nought ⊖ run))
-  meets-back h = met (nought ⊖ var 0 ⊗ run) (nought ⊖ height) (nought ⊖ run) tt tt tt tt tt (λ n. <-diff h)
+  pub meets-back : means ρ run <ℤ pos 0 → Meets (left-side c) (stroke ax ay bx by) (point (var 0 ⊗ (nought ⊖ run)) (nought ⊖ height) (nought ⊖ run))
+  meets-back h = met (var 0 ⊗ (nought ⊖ run)) (nought ⊖ height) (nought ⊖ run) tt tt tt tt tt (λ n. <-diff h)
 
 -- ---- a line of which the value is the opposite; x and y exchanged
+not-opposite : (h k : Line) (e : Stroke) → Opposite h k → NotAlong k e → NotAlong h e
+not-opposite h k e o n q = n (o (gridPoint (e .x1) (e .y1)) ∙ ap negℤ q ∙ sym (o (gridPoint (e .x2) (e .y2))))
+
 opposite : {h k : Line} {e : Stroke} {p : Point} → Opposite h k → Meets h e p → Meets k e p
-opposite {e = e} {p} o m = record {
+opposite {h} {k} {e} {p} o m = record {
   on-side = o p ∙ ap negℤ (m .on-side);
-  on-stroke = m .on-stroke;
-  small = λ n. m .small (λ q. n (o (gridPoint (e .x1) (e .y1)) ∙ ap negℤ q ∙ sym (o (gridPoint (e .x2) (e .y2)))));
+  on-stroke = λ n. m .on-stroke (not-opposite h k e o n);
+  small = λ n. m .small (not-opposite h k e o n);
 }
 
 abbrev exchanged : Point → Point
@@ -103,11 +108,12 @@ stroke-exchanged ax ay bx by p = ring (ax ∷ ay ∷ bx ∷ by ∷ p .X ∷ p .Y
     at a b c d x y = (var b ⊗ one ⊖ one ⊗ var d) ⊗ var x ⊕ (one ⊗ var c ⊖ var a ⊗ one) ⊗ var y ⊕ (var a ⊗ var d ⊖ var b ⊗ var c) ⊗ var 6
 
 bottom-meets : (c ax ay bx by : ℤ) {p : Point} → Meets (left-side c) (stroke ay ax by bx) p → Meets (bottom-side c) (stroke ax ay bx by) (exchanged p)
-bottom-meets c ax ay bx by {p} m = record {
-  on-side = bottom-left c (exchanged p) ∙ m .on-side;
-  on-stroke = stroke-exchanged ax ay bx by p ∙ ap negℤ (m .on-stroke);
-  small = λ n. let s = m .small (λ q. n (bottom-left c (gridPoint ax ay) ∙ q ∙ sym (bottom-left c (gridPoint bx by)))) in record { positive = s .positive; den = s .den; x = s .y; y = s .x };
-}
+bottom-meets c ax ay bx by {p} m =
+    let not : NotAlong (bottom-side c) (stroke ax ay bx by) → NotAlong (left-side c) (stroke ay ax by bx) = λ n q. n (bottom-left c (gridPoint ax ay) ∙ q ∙ sym (bottom-left c (gridPoint bx by))) in record {
+      on-side = bottom-left c (exchanged p) ∙ m .on-side;
+      on-stroke = λ n. stroke-exchanged ax ay bx by p ∙ ap negℤ (m .on-stroke (not n));
+      small = λ n. let s = m .small (not n) in record { positive = s .positive; den = s .den; x = s .y; y = s .x };
+    }
 
 -- ---- a limit's line, by its axis
 pub upright-meets : (l : Limit) {e : Stroke} {p : Point} → l .axis ≡ 0 → Meets (left-side (l .c)) e p → Meets (limitLine l) e p
@@ -128,6 +134,46 @@ level-meets l e {p} n m = go (l .low) (l .axis) n
     go low zero n = absurd (n refl)
     go true (suc k) n = met
     go false (suc k) n = opposite (top-opposite (l .c)) met
+
+-- ---- the line x = c, met by the lines y = n and x = n; that one runs along it
+module _ (c n : ℤ) (hc : Within farthest c) (hn : Within farthest n) where
+  abbrev corner : Point
+  corner = gridPoint c n
+
+  on-upright : On (left-side c) corner
+  unfolding left-side value
+  on-upright = ring (c ∷ n ∷ []) (one ⊗ var 0 ⊕ nought ⊗ var 1 ⊕ neg (var 0) ⊗ one) nought tt
+
+  level-meets-upright : Meets (left-side c) (stroke (pos 0) n (pos 1) n) corner
+  unfolding value through
+  level-meets-upright = record {
+    on-side = on-upright;
+    on-stroke = λ _. ring (c ∷ n ∷ []) ((var 1 ⊗ one ⊖ one ⊗ var 1) ⊗ var 0 ⊕ (one ⊗ one ⊖ nought ⊗ one) ⊗ var 1 ⊕ (nought ⊗ var 1 ⊖ var 1 ⊗ one) ⊗ one) nought tt;
+    small = λ _. record { positive = omega zarith; den = omega zarith; x = within-up (omega arith) hc; y = within-up (omega arith) hn };
+  }
+
+  runs-along : Meets (left-side c) (stroke n (pos 0) n (pos 1)) corner
+  unfolding left-side value
+  runs-along =
+      let along : value (left-side c) (gridPoint n (pos 0)) ≡ value (left-side c) (gridPoint n (pos 1)) = ring (c ∷ n ∷ []) (one ⊗ var 1 ⊕ nought ⊗ nought ⊕ neg (var 0) ⊗ one) (one ⊗ var 1 ⊕ nought ⊗ one ⊕ neg (var 0) ⊗ one) tt in
+      record { on-side = on-upright; on-stroke = λ k. absurd (k along); small = λ k. absurd (k along) }
+
+-- ---- a limit's line, met by that of a window's side
+module _ (w : Window) (l : Limit) (s : ℕ) (t : WindowOnTable w) (k : LimitOnTable l) where
+  abbrev number : ℤ
+  number = numberOf w s
+
+  pub side-meets-upright : l .axis ≡ 0 → Meets (limitLine l) (sideOf w s) (gridPoint (l .c) number)
+  unfolding sideOf
+  side-meets-upright z =
+      by-test (ltb s 2) (λ (e : Stroke). Meets (limitLine l) e (gridPoint (l .c) number)) (λ _. upright-meets l z (runs-along (l .c) number (k .number) (number-within w s t)))
+      (λ _. upright-meets l z (level-meets-upright (l .c) number (k .number) (number-within w s t)))
+
+  pub side-meets-level : (l .axis ≡ 0 → ⊥) → Meets (limitLine l) (sideOf w s) (gridPoint number (l .c))
+  unfolding sideOf
+  side-meets-level n =
+      by-test (ltb s 2) (λ (e : Stroke). Meets (limitLine l) e (gridPoint number (l .c))) (λ _. level-meets l (stroke number (pos 0) number (pos 1)) n (level-meets-upright (l .c) number (k .number) (number-within w s t)))
+      (λ _. level-meets l (stroke (pos 0) number (pos 1) number) n (runs-along (l .c) number (k .number) (number-within w s t)))
 
 -- ---- a stroke whose line has points on both sides of h does not run along h: else h would be h(a)·W on it, a being its start
 module _ (h : Line) (e : Stroke) where
@@ -153,6 +199,6 @@ module _ (h : Line) (e : Stroke) where
       clash (value h u ∷ value h v ∷ value h start ∷ u .W ∷ v .W ∷ [])
       (po (var 0) hu ⊠ po (var 4) pv ⊞ lt (var 1) nought hv ⊠ po (var 3) pu ⊞ eq (neg (var 4)) (var 0) (var 2 ⊗ var 3) eu ⊞ eq (var 3) (var 1) (var 2 ⊗ var 4) ev) tt
 
-  pub not-along : (u v : Point) → Proper u → Proper v → Real (lineOf e) → On (lineOf e) u → On (lineOf e) v → Across h u v → value h start ≡ value h end → ⊥
+  pub not-along : (u v : Point) → Proper u → Proper v → Real (lineOf e) → On (lineOf e) u → On (lineOf e) v → Across h u v → NotAlong h e
   not-along u v pu pv r lu lv (leaves a b) q = no-sign u v pu pv a b (along-value u r lu q) (along-value v r lv q)
   not-along u v pu pv r lu lv (enters a b) q = no-sign v u pv pu b a (along-value v r lv q) (along-value u r lu q)

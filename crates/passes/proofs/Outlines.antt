@@ -14,14 +14,14 @@ use mir.Val.{toZ, ofZ}
 use Rattle.whole.proofs.Comparisons.{back}
 use Rattle.grid.specs.declared.Window.{Window}
 use Rattle.grid.specs.declared.Stroke.{Stroke}
-use Rattle.grid.specs.Table.{WindowOnTable, StrokeOnTable}
+use Rattle.grid.specs.Table.{StrokeOnTable}
 use Rattle.rings.specs.Lists.{All, ∅, _◂_}
 use Rattle.rings.specs.Points.{Point, through, Real, Proper}
 use Rattle.rings.specs.Rings.{at, Edge, along, closing, Ring}
 use Rattle.corners.specs.Corners.{gridPoint, cornersOf, next}
 use Rattle.passes.specs.Outlines.{OutlineOnTable}
 use Rattle.passes.specs.Tags.{stroke, lineOf, edgeOf, Names, edge, side}
-use Rattle.passes.proofs.Sides.{side-real, side-on-table}
+use Rattle.passes.proofs.Sides.{side-real}
 
 -- ---- four numbers as they are read
 pub read-stroke : (a b c d : ℤ) → mag a < 2 ^ 31 → mag b < 2 ^ 31 → mag c < 2 ^ 31 → mag d < 2 ^ 31
@@ -69,7 +69,7 @@ corners-all {P} (x ∷ y ∷ zs) f =
     let g : 2 * suc k + 1 ≡ suc (suc (2 * k + 1)) = omega arith in
     transport (λ i. P (gridPoint (getD (x ∷ y ∷ zs) (e i) (pos 0)) (getD (x ∷ y ∷ zs) (g i) (pos 0)))) (f (suc k) (omega arith)))
 
--- ---- each line that a tag names is that of a stroke on the table, and real
+-- ---- each edge is a stroke on the table, and each line that a tag names is real
 corners-proper : (zs : List ℤ) → All Proper (cornersOf zs)
 unfolding cornersOf
 corners-proper [] = ∅
@@ -120,16 +120,12 @@ module _ {zs : List ℤ} (o : OutlineOnTable zs) where
       let m = third (outline-ring .three) e in
       subst Real (sym (edge-line zs (next-edge h))) (at (cornersOf zs) (m .place), o .convex .left-of k j (m .place) e (m .fits) (m .first) (m .second) .left)
 
-  edge-on-table : (k : ℕ) → k < length zs / 2 → StrokeOnTable (edgeOf zs k)
+  pub edge-on-table : (k : ℕ) → k < length zs / 2 → StrokeOnTable (edgeOf zs k)
   unfolding edgeOf
   edge-on-table k h =
       let l = edge-below (next-edge h) in
       let j = next (length zs / 2) k in
       record { x1 = o .corners .on (2 * k) (omega arith); y1 = o .corners .on (2 * k + 1) (omega arith); x2 = o .corners .on (2 * j) (omega arith); y2 = o .corners .on (2 * j + 1) (omega arith) }
-
-pub named-on-table : {w : Window} {zs : List ℤ} {a : ℤ} {e : Stroke} → WindowOnTable w → OutlineOnTable zs → Names w zs a e → StrokeOnTable e
-named-on-table t o (edge k h) = edge-on-table o k h
-named-on-table {w} t o (side s h) = side-on-table w s t
 
 pub named-real : {w : Window} {zs : List ℤ} {a : ℤ} {e : Stroke} → OutlineOnTable zs → Names w zs a e → Real (lineOf e)
 named-real o (edge k h) = edge-real o k h

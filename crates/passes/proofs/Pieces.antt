@@ -66,8 +66,10 @@ found {w} {s = s} {u = u} {v} {p} g l m pu pv x =
     let e = l .stroke in
     let real = named-real (g .outline) (l .named) in
     let meets = subst (λ (e : Stroke). Meets (sideLine w s) e p) (names-same (g .outline .corners .few) (m .named) (l .named)) (m .meets) in
-    let small = meets .small (not-along (sideLine w s) e u v pu pv real (l .from) (l .to) x) in
-    record { small = small; crossing = line-crossing (lineOf e) real (l .from) (l .to) (meets .on-stroke) pu pv (small .positive) x (meets .on-side); on-stroke = meets .on-stroke }
+    let not = not-along (sideLine w s) e u v pu pv real (l .from) (l .to) x in
+    let on = meets .on-stroke not in
+    let small = meets .small not in
+    record { small = small; crossing = line-crossing (lineOf e) real (l .from) (l .to) on pu pv (small .positive) x (meets .on-side); on-stroke = on }
 
 -- ---- what a line leaves of corners that lead to z
 abbrev pub InC : Line → Tagged → Type 0

@@ -11,11 +11,10 @@ use Rattle.whole.proofs.Expressions.{Expr, var, con, _⊕_, _⊖_, _⊗_, neg}
 use Rattle.whole.proofs.Polynomials.{ring}
 use Rattle.whole.proofs.Naturals.{neg-plus, neg-minus}
 use Rattle.whole.proofs.Order.{zarith}
-use Rattle.whole.proofs.Ranges.{abs-within}
 use Rattle.whole.proofs.Comparisons.{by-test}
 use Rattle.grid.specs.declared.Window.{Window}
 use Rattle.grid.specs.declared.Stroke.{Stroke}
-use Rattle.grid.specs.Table.{farthest, WindowOnTable, StrokeOnTable}
+use Rattle.grid.specs.Table.{farthest, WindowOnTable}
 use Rattle.rings.specs.Points.{Point, Line, value, through, On, Real}
 use Rattle.rings.specs.Windows.{left-side, right-side, bottom-side, top-side}
 use Rattle.rings.proofs.Plane.{nought}
@@ -77,13 +76,6 @@ module _ (w : Window) where
       by-test (ltb s 2) (λ (e : Stroke). Real (lineOf e))
       (λ t. (right-real n .0, subst (λ (z : ℤ). pos 0 <ℤ z) (sym (upright-value n (right-real n .0))) (right-real n .1)))
       (λ t. (bottom-real n .0, subst (λ (z : ℤ). pos 0 <ℤ z) (sym (level-value n (bottom-real n .0))) (bottom-real n .1)))
-
-  pub side-on-table : (s : ℕ) → WindowOnTable w → StrokeOnTable (sideOf w s)
-  unfolding sideOf
-  side-on-table s t =
-      let n = number-within w s t in
-      let small : (k : ℕ) → k < 2 → Within farthest (pos k) = λ k h. abs-within (omega arith) in
-      by-test (ltb s 2) StrokeOnTable (λ b. record { x1 = n; y1 = small 0 (omega arith); x2 = n; y2 = small 1 (omega arith) }) (λ b. record { x1 = small 0 (omega arith); y1 = n; x2 = small 1 (omega arith); y2 = n })
 
 pub side-line-real : (w : Window) (s : ℕ) → Real (sideLine w s)
 side-line-real w zero = left-real (w .left)

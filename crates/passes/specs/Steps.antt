@@ -1,6 +1,7 @@
 -- The ends of a run outside a side: where a stroke meets the side's line, a corner put into a memory, and what was put where the ring comes in and where it goes out.
 --   pointOf c                   a corner of the program as a point
---   Meets h e p                 p is where the stroke e meets the line h, if it does not run along it
+--   NotAlong h e                the stroke e does not run along the line h
+--   Meets h e p                 p lies on the line h, and is where the stroke e meets it, if e does not run along it
 --   Meeting w zs h t p          p is where the line that the tag t names meets the line h
 --   putAt m n p t               the memory m with the point p, tagged t, at place n
 --   Entered w zs h on m o m′ r      between the corner o outside the line h and one inside the crossing took the place of o, unless that one is on the line; what is
@@ -25,10 +26,13 @@ use Rattle.passes.specs.declared.Corner.{Corner}
 abbrev pub pointOf : Corner → Point
 pointOf c = record { X = c .x; Y = c .y; W = c .den }
 
+abbrev pub NotAlong : Line → Stroke → Type 0
+NotAlong h e = value h (gridPoint (e .x1) (e .y1)) ≡ value h (gridPoint (e .x2) (e .y2)) → ⊥
+
 pub record Meets (h : Line) (e : Stroke) (p : Point) : Type 0 where
   pub on-side : On h p
-  pub on-stroke : On (lineOf e) p
-  pub small : (value h (gridPoint (e .x1) (e .y1)) ≡ value h (gridPoint (e .x2) (e .y2)) → ⊥) → Small p
+  pub on-stroke : NotAlong h e → On (lineOf e) p
+  pub small : NotAlong h e → Small p
 
 pub record Meeting (w : Window) (zs : List ℤ) (h : Line) (t : ℤ) (p : Point) : Type 0 where
   pub stroke : Stroke

@@ -16,7 +16,7 @@ ghost use Rattle.corners.specs.Corners.{next};
 ghost use Rattle.passes.specs.Memory.{pointIn};
 ghost use Rattle.passes.specs.Orders.{sideLine, sidesIn, packed};
 ghost use Rattle.passes.specs.Outlines.{OutlineOnTable, Reaches, Clear, Job};
-ghost use Rattle.passes.specs.Tags.{stroke, numberOf, edgeOf, tagIn, Names, Named, Loaded};
+ghost use Rattle.passes.specs.Tags.{stroke, numberOf, edgeOf, sideOf, tagIn, Named, Loaded};
 ghost use Rattle.passes.specs.Limits.{LimitOnTable, limitLine, RunTo};
 ghost use Rattle.passes.specs.Steps.{pointOf, Meets, Meeting, putAt, Entered, Went};
 ghost use Rattle.passes.specs.Runs.{Moved};
@@ -146,33 +146,6 @@ fn edge(outline: &[i32], k: usize) -> Stroke
     }
 }
 
-// A stroke on the line that a tag names.
-fn named(w: Window, outline: &[i32], tag: i32) -> Stroke
-    requires { ⌜ OutlineOnTable (now outline) ⌝ }
-    requires { ⌜ Named w (now outline) tag ⌝ }
-    ensures { λ r. ⌜ Names w (now (outline .entry)) tag r ⌝ }
-{
-    let k = tag as usize;
-    if k < 64 {
-        return edge(outline, k);
-    }
-    let c = number(w, k - 64);
-    if k < 66 {
-        return Stroke {
-            x1: c,
-            y1: 0,
-            x2: c,
-            y2: 1,
-        };
-    }
-    Stroke {
-        x1: 0,
-        y1: c,
-        x2: 1,
-        y2: c,
-    }
-}
-
 // Where the line from (ax, ay) to (bx, by) meets x = c.
 fn meet(c: i32, ax: i32, ay: i32, bx: i32, by: i32) -> Corner
     requires { ⌜ Within farthest c ⌝ }
@@ -182,10 +155,11 @@ fn meet(c: i32, ax: i32, ay: i32, bx: i32, by: i32) -> Corner
     let run = bx - ax;
     let y = ay * run + (c - ax) * (by - ay);
     if run < 0 {
+        let den = -run;
         return Corner {
-            x: -(c * run),
+            x: c * den,
             y: -y,
-            den: -run,
+            den,
         };
     }
     Corner {
@@ -195,15 +169,14 @@ fn meet(c: i32, ax: i32, ay: i32, bx: i32, by: i32) -> Corner
     }
 }
 
-// Where the line that a tag names meets a limit's.
-fn crossing(w: Window, l: Limit, outline: &[i32], tag: i32) -> Corner
-    requires { ⌜ WindowOnTable w ⌝ }
+// Where the outline's edge from its corner k meets a limit's line.
+fn edge_crossing(l: Limit, outline: &[i32], k: usize) -> Corner
     requires { ⌜ OutlineOnTable (now outline) ⌝ }
     requires { ⌜ LimitOnTable l ⌝ }
-    requires { ⌜ Named w (now outline) tag ⌝ }
-    ensures { λ r. ⌜ Meeting w (now (outline .entry)) (limitLine l) tag (pointOf r) ⌝ }
+    requires { ⌜ k < length (now outline) / 2 ⌝ }
+    ensures { λ r. ⌜ Meets (limitLine l) (edgeOf (now (outline .entry)) k) (pointOf r) ⌝ }
 {
-    let e = named(w, outline, tag);
+    let e = edge(outline, k);
     let c = l.c;
     if l.axis == 0 {
         return meet(c, e.x1, e.y1, e.x2, e.y2);
@@ -214,6 +187,35 @@ fn crossing(w: Window, l: Limit, outline: &[i32], tag: i32) -> Corner
         y: p.x,
         den: p.den,
     }
+}
+
+// Where the line of the window's side s meets a limit's: their two numbers are its x and y.
+fn side_crossing(w: Window, l: Limit, s: usize) -> Corner
+    requires { ⌜ WindowOnTable w ⌝ }
+    requires { ⌜ LimitOnTable l ⌝ }
+    ensures { λ r. ⌜ Meets (limitLine l) (sideOf w s) (pointOf r) ⌝ }
+{
+    let c = l.c;
+    let n = number(w, s);
+    if l.axis == 0 {
+        return Corner { x: c, y: n, den: 1 };
+    }
+    Corner { x: n, y: c, den: 1 }
+}
+
+// Where the line that a tag names meets a limit's.
+fn crossing(w: Window, l: Limit, outline: &[i32], tag: i32) -> Corner
+    requires { ⌜ WindowOnTable w ⌝ }
+    requires { ⌜ OutlineOnTable (now outline) ⌝ }
+    requires { ⌜ LimitOnTable l ⌝ }
+    requires { ⌜ Named w (now outline) tag ⌝ }
+    ensures { λ r. ⌜ Meeting w (now (outline .entry)) (limitLine l) tag (pointOf r) ⌝ }
+{
+    let k = tag as usize;
+    if k < 64 {
+        return edge_crossing(l, outline, k);
+    }
+    side_crossing(w, l, k - 64)
 }
 
 // The corner at the place i.

@@ -1,80 +1,58 @@
--- `passes::crossing` meets its contract: an upright limit is a line x = c, and a level one is that with x and y exchanged. Assumes nothing.
-use mathlib.Core.Path.{_≡_, sym, subst, transport}
+-- `passes::crossing` meets its contract: a tag below 64 is the place of an outline's corner, and else a side of the window. Assumes nothing.
+use mathlib.Core.Path.{_≡_, refl, sym, ap, _∙_, subst}
+use mathlib.Core.List.{List}
+use Prim.Native.Nat.{ℕ, _+_, _-_, _/_, _<_, _≤_}
+use native.Mathlib.Omega.{arith}
+use borrow.Author.Needs.{needs}
 use denote.Ref.{now}
-use lib.IntN.{ℤ}
-use mir.Syntax.{w32}
-use mir.Val.{toZ, ofZ}
-use Rattle.whole.specs.Within.{Within}
-use Rattle.whole.proofs.Comparisons.{back, bits, plain}
-use Rattle.grid.specs.Table.{farthest, StrokeOnTable}
-use Rattle.rings.specs.Points.{Point}
-use Rattle.rings.specs.Windows.{left-side}
-use Rattle.passes.specs.Tags.{stroke, Names, Named}
-use Rattle.passes.specs.Limits.{limitLine}
-use Rattle.passes.specs.Steps.{pointOf, Meets, Meeting}
-use Rattle.passes.proofs.Outlines.{read-stroke, named-on-table}
-use Rattle.passes.proofs.Meetings.{upright-meets, level-meets}
+use lib.Dec.{T}
+use lib.IntN.{ℤ, pos, natAbs}
+use lib.ListN.{length}
+use lib.Signed.{nonNeg}
+use mir.Syntax.{w32, w64}
+use mir.Val.{Fits, toZ, ofZ}
+use mir.Facts.{toZ-ofZ}
+use Rattle.grid.specs.declared.Window.{Window}
+use Rattle.grid.specs.declared.Stroke.{Stroke}
+use Rattle.passes.specs.Tags.{sideOf, edgeOf, Names, edge, side}
 use Rattle.passes.proofs.crossing.Statement.{statement}
 use Rattle.passes.proofs.crossing.Tie as tie
 
--- the stroke that the tag names
-is-named : (c : tie.After-named) → Names (c .before .args .w) (now (c .before .args .outline)) (c .before .args .tag) (c .named .result)
-is-named c = plain (λ (t : ℤ). Names (c .before .args .w) (now (c .before .args .outline)) t (c .named .result)) (c .before .fits .tag) (c .named .ensures)
+-- a tag is the place of a corner or, from 64 on, a side
+record Tag (w : Window) (zs : List ℤ) (t : ℤ) (k : ℕ) : Type 0 where
+  is : t ≡ pos k
+  few : k < 68
+  corner : k < 64 → k < length zs / 2
+  own : k < 64 → Names w zs t (edgeOf zs k)
+  side : 64 ≤ k → Names w zs t (sideOf w (k - 64))
 
-stroke-on-table : (c : tie.After-named) → StrokeOnTable (c .named .result)
-stroke-on-table c = named-on-table (c .before .pre .0) (c .before .pre .1 .0) (is-named c)
+tag : {w : Window} {zs : List ℤ} {t : ℤ} {e : Stroke} → length zs ≤ 128 → Names w zs t e → Tag w zs t (natAbs t)
+tag h (edge k l) = record { is = refl; few = omega arith; corner = λ _. l; own = λ _. edge k l; side = λ j. absurd (omega arith) }
+tag {w} {zs} h (side s l) =
+    let e : 64 + s - 64 ≡ s = omega arith in
+    record { is = refl; few = omega arith; corner = λ j. absurd (omega arith); own = λ j. absurd (omega arith); side = λ _. subst (λ (k : ℕ). Names w zs (pos (64 + s)) (sideOf w k)) (sym e) (side s l) }
 
--- the limit's number
-is-number : (c : tie.After-struct-told) → let l = c .before .before .args .l in toZ w32 (ofZ w32 (l .c)) ≡ l .c
-is-number c = back w32 _ (c .struct-told .given .1 .1 .0 .1)
+given : (c : tie.Start) → Tag (c .args .w) (now (c .args .outline)) (c .args .tag) (natAbs (c .args .tag))
+given c = tag (c .pre .1 .0 .corners .few) (c .pre .1 .1 .1 .1)
 
-number-on-table : (c : tie.After-struct-told) → Within farthest (toZ w32 (ofZ w32 (c .before .before .args .l .c)))
-number-on-table c = subst (Within farthest) (sym (is-number c)) (c .before .before .pre .1 .1 .0 .number)
+-- as it is read
+read : (c : tie.Start) → Tag (c .args .w) (now (c .args .outline)) (c .args .tag) (natAbs (toZ w32 (ofZ w32 (c .args .tag))))
+read c = subst (λ (z : ℤ). Tag (c .args .w) (now (c .args .outline)) (c .args .tag) (natAbs z)) (sym (toZ-ofZ (c .fits .tag))) (given c)
 
--- what is found of the limit and the stroke is found of the tag
-meeting : (c : tie.After-named) {p : Point} → Meets (limitLine (c .before .args .l)) (c .named .result) p
-    → Meeting (c .before .args .w) (now (c .before .args .outline)) (limitLine (c .before .args .l)) (c .before .args .tag) p
-meeting c m = record { stroke = c .named .result; named = is-named c; meets = m }
+cast-k : tie.Need-cast-k
+cast-k c = subst (λ (z : ℤ). T (nonNeg z) × Fits w64 (natAbs z)) (sym (toZ-ofZ (c .fits .tag) ∙ given c .is)) (tt, record { fits = omega (arith, given c .few) })
 
-named-requires : tie.Need-named-requires
-named-requires c κs = (c .pre .1 .0, bits (Named (c .args .w) (now (c .args .outline))) (c .fits .tag) (c .pre .1 .1 .1))
-
--- ---- an upright limit
-straight : (c : tie.After-struct-told5) → let e = c .before .before .before .before .before .before .before .named .result in
-    stroke (toZ w32 (ofZ w32 (e .x1))) (toZ w32 (ofZ w32 (e .y1))) (toZ w32 (ofZ w32 (e .x2))) (toZ w32 (ofZ w32 (e .y2))) ≡ e
-straight c = let g = c .struct-told5 .given in read-stroke _ _ _ _ (g .0 .1) (g .1 .0 .1) (g .1 .1 .0 .1) (g .1 .1 .1 .0 .1)
-
-meet-requires : tie.Need-meet-requires
-meet-requires c κs =
-    let n = c .before .before .before .before .before .before in
-    (number-on-table n, subst StrokeOnTable (sym (straight c)) (stroke-on-table (n .before)))
+edge-crossing-requires : tie.Need-edge-crossing-requires
+edge-crossing-requires c κs = (c .before .pre .1 .0, (c .before .pre .1 .1 .0, read (c .before) .corner (c .if1 .taken)))
 
 returns : tie.Need-returns
-returns c =
-    let n = c .before .before .before .before .before .before .before in
-    meeting (n .before) (upright-meets (n .before .before .args .l) (c .before .before .before .before .before .if1 .taken)
-    (transport (λ i. Meets (left-side (is-number n i)) (straight (c .before) i) (pointOf (c .meet .result))) (c .meet .ensures)))
+returns c = let s = c .before .before in record { stroke = _; named = read s .own (c .before .if1 .taken); meets = c .edge-crossing .ensures }
 
--- ---- a level limit
-turned : (c : tie.After-struct-told9) → let e = c .before .before .before .before .before .before .before .named .result in
-    stroke (toZ w32 (ofZ w32 (e .y1))) (toZ w32 (ofZ w32 (e .x1))) (toZ w32 (ofZ w32 (e .y2))) (toZ w32 (ofZ w32 (e .x2))) ≡ stroke (e .y1) (e .x1) (e .y2) (e .x2)
-turned c = let g = c .struct-told9 .given in read-stroke _ _ _ _ (g .1 .0 .1) (g .0 .1) (g .1 .1 .1 .0 .1) (g .1 .1 .0 .1)
-
-meet-requires-2 : tie.Need-meet-requires-2
-meet-requires-2 c κs =
-    let n = c .before .before .before .before .before .before in
-    let t = stroke-on-table (n .before) in
-    (number-on-table n, subst StrokeOnTable (sym (turned c)) (record { x1 = t .y1; y1 = t .x1; x2 = t .y2; y2 = t .x2 }))
+side-crossing-requires : tie.Need-side-crossing-requires
+side-crossing-requires c κs = search needs
 
 returns-2 : tie.Need-returns-2
-returns-2 c =
-    let n = c .before .before .before .before .before .before .before .before in
-    let s = n .before .before in
-    let p = c .before .meet2 .result in
-    let g = c .struct-told10 .given in
-    transport (λ i. Meeting (s .args .w) (now (s .args .outline)) (limitLine (s .args .l)) (s .args .tag) (record { X = sym (back w32 (p .y) (g .1 .0 .1)) i; Y = sym (back w32 (p .x) (g .0 .1)) i; W = sym (back w32 (p .den) (g .1 .1 .0 .1)) i }))
-    (meeting (n .before) (level-meets (s .args .l) (n .before .named .result) (c .before .before .before .before .before .before .if1 .left)
-    (transport (λ i. Meets (left-side (is-number n i)) (turned (c .before .before) i) (pointOf p)) (c .before .meet2 .ensures))))
+returns-2 c = let s = c .before .before in record { stroke = _; named = read s .side (c .before .if1 .left); meets = c .side-crossing .ensures }
 
 pub crossing-spec : {M : Type 1} → statement M
-crossing-spec = tie.close (tie.spec named-requires meet-requires returns meet-requires-2 returns-2)
+crossing-spec = tie.close (tie.spec cast-k edge-crossing-requires returns side-crossing-requires returns-2)

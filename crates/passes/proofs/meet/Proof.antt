@@ -1,4 +1,4 @@
--- `passes::meet` meets its contract: the numbers fit, so the machine has the point of the law; where the run is negative its three numbers change sign. Assumes nothing.
+-- `passes::meet` meets its contract: the numbers fit, so the machine has the point of the law; where the run is negative it and the height change sign. Assumes nothing.
 use mathlib.Core.Path.{refl, sym, transport}
 use mathlib.Core.List.{[], _∷_}
 use lib.Dec.{T}
@@ -18,8 +18,8 @@ use Rattle.passes.proofs.meet.Tie as tie
 abbrev run : Code
 run = sub w32 (par w32 3) (par w32 1)
 
-abbrev across : Code
-across = mul w32 (par w32 0) run
+abbrev across : Code → Code
+across m = mul w32 (par w32 0) m
 
 abbrev rise : Code
 rise = mul w32 (par w32 2) run
@@ -63,17 +63,14 @@ mul-y-2 c = need sizes (env c) (small c) (mul w32 way fall) tt
 add-y : tie.Need-add-y
 add-y c = need sizes (env c) (small c) height tt
 
-mul-t13 : tie.Need-mul-t13
-mul-t13 c = need sizes (env (c .before)) (small (c .before)) across tt
+sub-den : tie.Need-sub-den
+sub-den c = need sizes (env (c .before)) (small (c .before)) (minus run) tt
 
-sub-t14 : tie.Need-sub-t14
-sub-t14 c = need sizes (env (c .before)) (small (c .before)) (minus across) tt
+mul-t14 : tie.Need-mul-t14
+mul-t14 c = need sizes (env (c .before)) (small (c .before)) (across (minus run)) tt
 
 sub-t15 : tie.Need-sub-t15
 sub-t15 c = need sizes (env (c .before)) (small (c .before)) (minus height) tt
-
-sub-t16 : tie.Need-sub-t16
-sub-t16 c = need sizes (env (c .before)) (small (c .before)) (minus run) tt
 
 -- what is so of the numbers meant is so of those that the machine has
 read : (c : tie.Start) (k l d : Code) → T (ok sizes k) → T (ok sizes l) → T (ok sizes d)
@@ -84,15 +81,15 @@ read c k l d p q r m =
 returns : tie.Need-returns
 returns c =
     let s = c .before in
-    read s (minus across) (minus height) (minus run) tt tt tt (meets-back _ _ _ _ _ (s .pre .0) (s .pre .1) (lt-yes (value sizes (env s) (small s) run tt) refl (c .if1 .taken)))
+    read s (across (minus run)) (minus height) (minus run) tt tt tt (meets-back _ _ _ _ _ (s .pre .0) (s .pre .1) (lt-yes (value sizes (env s) (small s) run tt) refl (c .if1 .taken)))
 
-mul-t8 : tie.Need-mul-t8
-mul-t8 c = need sizes (env (c .before)) (small (c .before)) across tt
+mul-t9 : tie.Need-mul-t9
+mul-t9 c = need sizes (env (c .before)) (small (c .before)) (across run) tt
 
 returns-2 : tie.Need-returns-2
 returns-2 c =
     let s = c .before in
-    read s across height run tt tt tt (meets-forward _ _ _ _ _ (s .pre .0) (s .pre .1) (lt-no (value sizes (env s) (small s) run tt) refl (c .if1 .left)))
+    read s (across run) height run tt tt tt (meets-forward _ _ _ _ _ (s .pre .0) (s .pre .1) (lt-no (value sizes (env s) (small s) run tt) refl (c .if1 .left)))
 
 pub meet-spec : {M : Type 1} → statement M
 meet-spec =
@@ -104,10 +101,9 @@ meet-spec =
     sub-y-2
     mul-y-2
     add-y
-    mul-t13
-    sub-t14
+    sub-den
+    mul-t14
     sub-t15
-    sub-t16
     returns
-    mul-t8
+    mul-t9
     returns-2)
