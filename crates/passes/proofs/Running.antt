@@ -1,4 +1,4 @@
--- The outline's own corners are a ring in memory; each pass leaves a ring that ends at most one place later, which the remaining passes go on from, or no area; a side that is clear leaves the ring as it is.
+-- The outline's own corners are a ring in memory; each pass leaves a ring that ends at most one place later, which the remaining passes go on from, or no area; a side with no corner of the outline outside leaves the ring as it is.
 use mathlib.Core.Path.{_≡_, sym, ap, _∙_, subst, transport}
 use mathlib.Core.List.{List, [], _∷_}
 use mathlib.Core.Option.{Option, none, some}
@@ -22,7 +22,7 @@ use Rattle.rings.proofs.Theorems.{one-cut}
 use Rattle.corners.specs.Corners.{cornersOf}
 use Rattle.passes.specs.Memory.{pointIn, ringFrom, Small}
 use Rattle.passes.specs.Orders.{sideLine, sidesIn, linesIn}
-use Rattle.passes.specs.Outlines.{OutlineOnTable, Reaches, Clear}
+use Rattle.passes.specs.Outlines.{OutlineOnTable}
 use Rattle.passes.specs.Tags.{edgeOf, tagIn, Names, edge, Lies, Loaded}
 use Rattle.passes.specs.Runs.{Tagged, cornerIn, cornersFrom}
 use Rattle.passes.specs.Passes.{places, ringAt, Held, Passed, Ran, area}
@@ -31,7 +31,7 @@ use Rattle.passes.proofs.Sides.{side-line-real}
 use Rattle.passes.proofs.Orders.{lines-length, lines-from}
 use Rattle.passes.proofs.Memories.{ring-length, ring-at, ring-all, tagged-all}
 use Rattle.passes.proofs.Outlines.{corner-count, corner-at, edge-from, edge-below, edge-line, outline-ring}
-use Rattle.passes.proofs.Reaches.{clear-in, cut-in}
+use Rattle.passes.proofs.Reaches.{cut-in}
 use Rattle.passes.proofs.Pieces.{cut-nothing}
 use Rattle.passes.proofs.Corners.{small-in}
 
@@ -96,28 +96,28 @@ module _ {zs m : List ℤ} (o : OutlineOnTable zs) (l : Loaded zs m (length zs /
 pub pass-one-cut : {w : Window} {zs : List ℤ} {s : ℕ} {m : List ℤ} {p : Places} {m′ : List ℤ} {p′ : Places} → Held w zs m p → Passed w zs s m p m′ p′ → OneCut (sideLine w s) (ringAt m p) (ringAt m′ p′)
 pass-one-cut {w} {s = s} h c = one-cut (side-line-real w s) (h .ring) (c .cut)
 
--- ---- the passes in turn: k of them have left the ring at p in m, which lies inside each side that is clear, and what the others leave of it, all leave of the outline
-pub record Running (w b : Window) (o : ℕ) (zs m : List ℤ) (p : Places) (k : ℕ) : Type 0 where
+-- ---- the passes in turn: k of them have left the ring at p in m, which lies inside each line that the outline does, and what the others leave of it, all leave of the outline
+pub record Running (w : Window) (o : ℕ) (zs m : List ℤ) (p : Places) (k : ℕ) : Type 0 where
   pub held : Held w zs m p
   pub order : p .from ≤ p .to
   pub room : p .to ≤ length zs / 2 + k
-  pub clear : (s : ℕ) → Clear w b s → All (In (sideLine w s)) (ringAt m p)
+  pub inside : (h : Line) → All (In h) (cornersOf zs) → All (In h) (ringAt m p)
   pub so-far : (r : Option (List Point)) → Cuts (drop k (linesIn o w)) (ringAt m p) r → Cuts (linesIn o w) (cornersOf zs) r
 
-pub run-begun : {w b : Window} {o : ℕ} {zs m : List ℤ} → OutlineOnTable zs → Reaches zs b → Loaded zs m (length zs / 2) → Running w b o zs m (places 0 (length zs / 2)) 0
-run-begun {w} {b} {o} t r l = record {
+pub run-begun : {w : Window} {o : ℕ} {zs m : List ℤ} → OutlineOnTable zs → Loaded zs m (length zs / 2) → Running w o zs m (places 0 (length zs / 2)) 0
+run-begun {w} {o} t l = record {
   held = loaded-held t l w;
   order = omega arith;
   room = omega arith;
-  clear = λ s c. subst (All (In (sideLine w s))) (sym (ring-loaded t l)) (clear-in w s r c);
+  inside = λ h a. subst (All (In h)) (sym (ring-loaded t l)) a;
   so-far = λ r c. subst (λ (q : List Point). Cuts (linesIn o w) q r) (ring-loaded t l) c;
 }
 
--- a side that is clear leaves the ring as it is
-pub passed-over : {w b : Window} {o : ℕ} {zs m : List ℤ} {p : Places} {k : ℕ} (s : ℕ) → Clear w b s → Running w b o zs m p k → Passed w zs s m p m p
-passed-over s c r = record { order = r .order; end = omega arith; cut = cut-nothing (r .clear s c); traced = r .held .traced }
+-- a side with no corner of the outline outside leaves the ring as it is
+pub passed-over : {w : Window} {o : ℕ} {zs m : List ℤ} {p : Places} {k : ℕ} (s : ℕ) → All (In (sideLine w s)) (cornersOf zs) → Running w o zs m p k → Passed w zs s m p m p
+passed-over {w} s a r = record { order = r .order; end = omega arith; cut = cut-nothing (r .inside (sideLine w s) a); traced = r .held .traced }
 
-module _ {w b : Window} {o : ℕ} {zs m m′ : List ℤ} {p p′ : Places} {k s : ℕ} (ho : o ≤ 23) (hk : k < 4) (is : s ≡ getD (sidesIn o) k 0) (c : Passed w zs s m p m′ p′) (r : Running w b o zs m p k) where
+module _ {w : Window} {o : ℕ} {zs m m′ : List ℤ} {p p′ : Places} {k s : ℕ} (ho : o ≤ 23) (hk : k < 4) (is : s ≡ getD (sidesIn o) k 0) (c : Passed w zs s m p m′ p′) (r : Running w o zs m p k) where
   -- the lines from the k-th on
   lines : drop k (linesIn o w) ≡ sideLine w s ∷ drop (suc k) (linesIn o w)
   lines = lines-from o w ho k hk ∙ ap (λ (j : ℕ). sideLine w j ∷ drop (suc k) (linesIn o w)) (sym is)
@@ -131,19 +131,19 @@ module _ {w b : Window} {o : ℕ} {zs m m′ : List ℤ} {p p′ : Places} {k s 
   pub run-gone : p′ .to - p′ .from < 3 → Cuts (linesIn o w) (cornersOf zs) none
   run-gone h = goes-on none (gone (c .cut) (omega (arith, count)))
 
-  pub run-more : 3 ≤ p′ .to - p′ .from → Running w b o zs m′ p′ (k + 1)
+  pub run-more : 3 ≤ p′ .to - p′ .from → Running w o zs m′ p′ (k + 1)
   run-more h =
       let l : 3 ≤ length (ringAt m′ p′) = omega (arith, count) in
       record {
         held = record { ring = pass-one-cut (r .held) c .ring l; traced = c .traced };
         order = c .order;
         room = omega (arith, c .end, r .room);
-        clear = λ j f. cut-in (sideLine w j) (side-line-real w s) (r .held .ring) (c .cut) l (r .clear j f);
+        inside = λ h a. cut-in h (side-line-real w s) (r .held .ring) (c .cut) l (r .inside h a);
         so-far = λ q d. goes-on q (cut (c .cut) l (subst (λ (j : ℕ). Cuts (drop j (linesIn o w)) (ringAt m′ p′) q) (add-one k) d));
       }
 
-pub run-ended : {w reach : Window} {o : ℕ} {zs m : List ℤ} {p : Places} → o ≤ 23 → 2 * length zs + 16 ≤ length m → Running w reach o zs m p 4 → Ran w o zs m p
-run-ended {w} {reach} {o} {zs} {m} {p} h size r =
+pub run-ended : {w : Window} {o : ℕ} {zs m : List ℤ} {p : Places} → o ≤ 23 → 2 * length zs + 16 ≤ length m → Running w o zs m p 4 → Ran w o zs m p
+run-ended {w} {o} {zs} {m} {p} h size r =
     let n = p .to - p .from in
     let end : drop 4 (linesIn o w) ≡ [] = drop-of-length-le (linesIn o w) {i = 4} (omega (arith, lines-length o w h)) in
     area (r .order) (omega (arith, r .room)) (omega (arith, r .held .ring .three, ring-length m (p .from) n)) (omega (arith, r .room, corner-count zs))

@@ -15,7 +15,7 @@ ghost use Rattle.rings.specs.Windows.{«left-side»};
 ghost use Rattle.corners.specs.Corners.{next};
 ghost use Rattle.passes.specs.Memory.{pointIn};
 ghost use Rattle.passes.specs.Orders.{sideLine, sidesIn, packed};
-ghost use Rattle.passes.specs.Outlines.{OutlineOnTable, Reaches, Clear, Job};
+ghost use Rattle.passes.specs.Outlines.{OutlineOnTable, Reaches, AtSides, Job};
 ghost use Rattle.passes.specs.Tags.{stroke, numberOf, edgeOf, sideOf, tagIn, Named, Loaded};
 ghost use Rattle.passes.specs.Limits.{LimitOnTable, limitLine, RunTo};
 ghost use Rattle.passes.specs.Steps.{pointOf, Meets, Meeting, putAt, Entered, Went};
@@ -90,33 +90,17 @@ fn number(w: Window, side: usize) -> i32
     w.top
 }
 
-// Whether a side is clear of a rectangle: none of its points lies outside.
-fn clear(w: Window, side: usize, reach: Window) -> bool
-    ensures { λ r. ⌜ (r ≡ true → Clear w reach side) ⌝ }
-{
-    if side == 0 {
-        return w.left <= reach.left;
-    }
-    if side == 1 {
-        return reach.right <= w.right;
-    }
-    if side == 2 {
-        return w.bottom <= reach.bottom;
-    }
-    reach.top <= w.top
-}
-
-// The limit that a side sets.
-fn limit_of(w: Window, side: usize) -> Limit
-    requires { ⌜ WindowOnTable w ⌝ }
+// The limit that a side sets whose number is c.
+fn limit_of(side: usize, c: i32) -> Limit
     requires { ⌜ side < 4 ⌝ }
-    ensures { λ r. ⌜ limitLine r ≡ sideLine w side ⌝ }
+    requires { ⌜ Within farthest c ⌝ }
+    ensures { λ r. ⌜ ((w : Window) → c ≡ numberOf w side → limitLine r ≡ sideLine w side) ⌝ }
     ensures { λ r. ⌜ LimitOnTable r ⌝ }
 {
     Limit {
         low: side % 2 == 0,
         axis: side / 2,
-        c: number(w, side),
+        c,
     }
 }
 
@@ -400,13 +384,13 @@ fn keep_run(
 }
 
 // One pass: what a side leaves of the ring in a memory.
-fn pass(w: Window, side: usize, outline: &[i32], m: &mut [i32], p: Places) -> Places
+fn pass(w: Window, side: usize, outline: &[i32], l: Limit, m: &mut [i32], p: Places) -> Places
     requires { ⌜ Job w (now outline) side ⌝ }
+    requires { ⌜ (limitLine l ≡ sideLine w side) × LimitOnTable l ⌝ }
     requires { ⌜ 4 * p .to + 4 ≤ length (now m) ⌝ }
     requires { ⌜ Held w (now outline) (now m) p ⌝ }
     ensures { λ r. ⌜ Passed w (now (outline .entry)) side (now (m .entry)) p (now (m .exit)) r ⌝ }
 {
-    let l = limit_of(w, side);
     let from = p.from;
     let to = p.to;
     let a = limit::end_of_run(l, m, from, to, false);
@@ -417,6 +401,44 @@ fn pass(w: Window, side: usize, outline: &[i32], m: &mut [i32], p: Places) -> Pl
         return keep_run(w, side, outline, l, m, from, to);
     }
     cut_out(w, side, outline, l, m, from, a, to)
+}
+
+// The passes in the order given, each along a side that cuts: numbers and cuts have the window's number of a side, and whether it cuts, at the
+// side's place.
+fn cut_along(
+    w: Window,
+    order: u32,
+    numbers: &[i32],
+    cuts: &[bool],
+    outline: &[i32],
+    m: &mut [i32],
+) -> Places
+    requires { ⌜ WindowOnTable w ⌝ }
+    requires { ⌜ order ≤ 23 ⌝ }
+    requires { ⌜ AtSides w (now outline) (now numbers) (now cuts) ⌝ }
+    requires { ⌜ OutlineOnTable (now outline) ⌝ }
+    requires { ⌜ Loaded (now outline) (now m) (length (now outline) / 2) ⌝ }
+    requires { ⌜ 2 * length (now outline) + 16 ≤ length (now m) ⌝ }
+    ensures { λ r. ⌜ Ran w order (now (outline .entry)) (now (m .exit)) r ⌝ }
+{
+    let mut p = Places {
+        from: 0,
+        to: outline.len() / 2,
+    };
+    let mut rest = sides_of(order);
+    let mut k: usize = 0;
+    while k < 4 {
+        let side = (rest % 4) as usize;
+        if cuts[side] {
+            p = pass(w, side, outline, limit_of(side, numbers[side]), m, p);
+            if p.to - p.from < 3 {
+                return Places { from: 0, to: 0 };
+            }
+        }
+        rest /= 4;
+        k += 1;
+    }
+    p
 }
 
 // What a window leaves of an outline, cut along its sides in the order given: the places of a ring in the memory, or none.
@@ -430,22 +452,12 @@ pub fn run(w: Window, reach: Window, order: u32, outline: &[i32], m: &mut [i32])
     ensures { λ r. ⌜ Ran w order (now (outline .entry)) (now (m .exit)) r ⌝ }
 {
     load(outline, m);
-    let mut p = Places {
-        from: 0,
-        to: outline.len() / 2,
-    };
-    let mut rest = sides_of(order);
-    let mut k: usize = 0;
-    while k < 4 {
-        let side = (rest % 4) as usize;
-        if !clear(w, side, reach) {
-            p = pass(w, side, outline, m, p);
-            if p.to - p.from < 3 {
-                return Places { from: 0, to: 0 };
-            }
-        }
-        rest /= 4;
-        k += 1;
-    }
-    p
+    let numbers = [w.left, w.right, w.bottom, w.top];
+    let cuts = [
+        reach.left < w.left,
+        w.right < reach.right,
+        reach.bottom < w.bottom,
+        w.top < reach.top,
+    ];
+    cut_along(w, order, &numbers, &cuts, outline, m)
 }

@@ -18,13 +18,10 @@ use Rattle.passes.proofs.pass.Tie as tie
 
 -- a ring has places
 some : (s : tie.Start) → s .args .p .from < s .args .p .to
-some s = omega (arith, s .pre .1 .1 .ring .three, ring-length (now (s .args .m)) (s .args .p .from) (s .args .p .to - s .args .p .from))
-
-limit-of-requires : tie.Need-limit-of-requires
-limit-of-requires c κs = (c .pre .0 .window, c .pre .0 .side)
+some s = omega (arith, s .pre .1 .1 .1 .ring .three, ring-length (now (s .args .m)) (s .args .p .from) (s .args .p .to - s .args .p .from))
 
 end-of-run-requires : tie.Need-end-of-run-requires
-end-of-run-requires c κs = let s = c .before .before in (c .before .limit-of .ensures .1, (omega (arith, some s), (omega (arith, s .pre .1 .0), small-in (s .pre .1 .1))))
+end-of-run-requires c κs = let s = c .before in (s .pre .1 .0 .1, (omega (arith, some s), (omega (arith, s .pre .1 .1 .0), small-in (s .pre .1 .1 .1))))
 
 same-length : tie.Need-same-length
 same-length c = search needs
@@ -32,15 +29,14 @@ same-length c = search needs
 returns : tie.Need-returns
 returns c =
     let r = c .before in
-    let l = r .before .before in
-    let s = l .before in
-    leaves-all (omega (arith, some s)) (s .pre .1 .1)
-    (λ i a b. subst (λ (h : Line). In h (pointIn (now (s .args .m)) i)) (l .limit-of .ensures .0) (r .end-of-run .ensures .run i a (omega (arith, c .if1 .taken))))
+    let s = r .before .before in
+    leaves-all (omega (arith, some s)) (s .pre .1 .1 .1)
+    (λ i a b. subst (λ (h : Line). In h (pointIn (now (s .args .m)) i)) (s .pre .1 .0 .0) (r .end-of-run .ensures .run i a (omega (arith, c .if1 .taken))))
 
 -- some corner lies outside
 module _ (c : tie.Else1) where
   abbrev s₀ : tie.Start
-  s₀ = c .before .before .before .before
+  s₀ = c .before .before .before
 
   before-to : c .before .end-of-run .result < s₀ .args .p .to
   before-to = ⊎-elim (λ q. absurd (c .if1 .left q)) (λ l. l) (eq-or-lt-of-le (c .before .end-of-run .ensures .below))
@@ -49,9 +45,8 @@ keep-run-requires : tie.Need-keep-run-requires
 keep-run-requires c κs =
     let e = c .before .before in
     let r = e .before in
-    let l = r .before .before in
     let s = s₀ e in
-    (s .pre .0, (l .limit-of .ensures, (s .pre .1 .0, (s .pre .1 .1, (some s, subst (λ (i : ℕ). Out (limitLine (l .limit-of .result)) (pointIn (now (s .args .m)) i)) (c .before .if2 .taken) (r .end-of-run .ensures .ends (before-to e)))))))
+    (s .pre .0, (s .pre .1 .0, (s .pre .1 .1 .0, (s .pre .1 .1 .1, (some s, subst (λ (i : ℕ). Out (limitLine (s .args .l)) (pointIn (now (s .args .m)) i)) (c .before .if2 .taken) (r .end-of-run .ensures .ends (before-to e)))))))
 
 same-length-2 : tie.Need-same-length-2
 same-length-2 c = search needs
@@ -63,10 +58,9 @@ cut-out-requires : tie.Need-cut-out-requires
 cut-out-requires c κs =
     let e = c .before .before in
     let r = e .before in
-    let l = r .before .before in
     let s = s₀ e in
     let first : s .args .p .from < r .end-of-run .result = ⊎-elim (λ q. absurd (c .before .if2 .left (sym q))) (λ l. l) (eq-or-lt-of-le (r .end-of-run .ensures .above)) in
-    (s .pre .0, (l .limit-of .ensures, (s .pre .1 .0, (s .pre .1 .1, (first, before-to e, r .end-of-run .ensures)))))
+    (s .pre .0, (s .pre .1 .0, (s .pre .1 .1 .0, (s .pre .1 .1 .1, (first, before-to e, r .end-of-run .ensures)))))
 
 same-length-3 : tie.Need-same-length-3
 same-length-3 c = search needs
@@ -75,4 +69,4 @@ returns-3 : tie.Need-returns-3
 returns-3 c = search needs
 
 pub pass-spec : {M : Type 1} → statement M
-pass-spec = tie.close (tie.spec limit-of-requires end-of-run-requires same-length returns keep-run-requires same-length-2 returns-2 cut-out-requires same-length-3 returns-3)
+pass-spec = tie.close (tie.spec end-of-run-requires same-length returns keep-run-requires same-length-2 returns-2 cut-out-requires same-length-3 returns-3)
