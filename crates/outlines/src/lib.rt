@@ -153,7 +153,8 @@ fn write_fraction(n: i32, d: i32, out: &mut [i32], k: usize)
     requires { ⌜ k + 2 ≤ length (now out) ⌝ }
     ensures { λ _. ⌜ WroteFraction n d k (now (out .entry)) (now (out .exit)) ⌝ }
 {
-    if d == 1 {
+    // At most 1 is 1; so the compiler knows, too, that no denominator below is 0.
+    if d <= 1 {
         out[k] = n;
         out[k + 1] = d;
         return;
