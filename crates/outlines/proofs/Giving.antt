@@ -9,8 +9,7 @@ use borrow.Author.Tests.{le-leb}
 use lib.IntN.{ℤ, pos}
 use lib.ListN.{length, getD, take, drop, length-drop}
 use lib.Seq.{getD-drop, take-all}
-use Rattle.grid.specs.Calls.{answered, written, Given}
-use Rattle.grid.specs.declared.Answer.{Answer}
+use Rattle.grid.specs.Calls.{written}
 use Rattle.grid.specs.declared.Window.{Window}
 use Rattle.rings.specs.Points.{Point}
 use Rattle.rings.specs.Rings.{Ring}
@@ -24,7 +23,7 @@ use Rattle.passes.specs.Passes as passes
 use Rattle.passes.specs.declared.Places.{Places}
 use Rattle.passes.proofs.Outlines.{outline-ring}
 use Rattle.outlines.specs.Outlines.{Clipped}
-use Rattle.outlines.specs.Workers.{GaveRing}
+use Rattle.outlines.specs.Workers.{GaveNumbers, GaveRing}
 use Rattle.outlines.proofs.Passes.{cuts-ring, ring-passed, none-passed}
 
 -- the passes left a ring at the places p of the memory m
@@ -60,12 +59,12 @@ module _ {w : Window} {o : ℕ} {zs : List ℤ} (h : o ≤ 23) (t : OutlineOnTab
   left-ring (passes.no-area z c) n = absurd (n (omega arith))
   left-ring (passes.area l r three few c small) n = record { cuts = c; ring = cuts-ring w h zs (outline-ring t) c; room = r }
 
-  pub give-ring : {r : List Point} {a : Answer} {before after : List ℤ} → Cuts (linesIn o w) (cornersOf zs) (some r) → GaveRing r a before after → Given (Clipped w o zs) a before after
-  give-ring c g = record { numbers = g .numbers; gives = ring-passed w h zs (outline-ring t) c (g .turned) (g .starts) (g .are); answer = g .answer; output = g .output }
+  pub give-ring : {r : List Point} {n : ℕ} {before after : List ℤ} → Cuts (linesIn o w) (cornersOf zs) (some r) → GaveRing r n before after → GaveNumbers (Clipped w o zs) n before after
+  give-ring c g = record { numbers = g .numbers; gives = ring-passed w h zs (outline-ring t) c (g .gives .turned) (g .gives .starts) (g .gives .are); count = g .count; output = g .output }
 
-  pub give-nothing : {out : List ℤ} → Cuts (linesIn o w) (cornersOf zs) none → Given (Clipped w o zs) (record { number = 0; place = 0; count = 0 }) out out
-  unfolding answered written
-  give-nothing {out} c = record { numbers = []; gives = none-passed w h zs (outline-ring t) c; answer = simp (le-leb 0 (length out) zero-le); output = simp (le-leb 0 (length out) zero-le) }
+  pub give-nothing : {out : List ℤ} → Cuts (linesIn o w) (cornersOf zs) none → GaveNumbers (Clipped w o zs) 0 out out
+  unfolding written
+  give-nothing {out} c = record { numbers = []; gives = none-passed w h zs (outline-ring t) c; count = refl; output = simp (le-leb 0 (length out) zero-le) }
 
   pub none-cuts : {m : List ℤ} {p : Places} → Ran w o zs m p → p .to - p .from ≡ 0 → Cuts (linesIn o w) (cornersOf zs) none
   none-cuts (passes.no-area z c) e = c

@@ -13,8 +13,7 @@ use mir.Val.{toZ, ofZ}
 use Rattle.whole.proofs.Comparisons.{back}
 use Rattle.fraction.proofs.LowestTerms.{lowest-of-unique}
 use Rattle.fraction.proofs.Computed.{lowestOf, lowestOf-is}
-use Rattle.grid.specs.Calls.{answered, written}
-use Rattle.grid.specs.Refusals.{outputShort}
+use Rattle.grid.specs.Calls.{written}
 use Rattle.grid.proofs.Fill.{Filled, filled-start, filled-put, filled-end}
 use Rattle.rings.specs.Lists.{Turned}
 use Rattle.rings.specs.Points.{Point, Proper}
@@ -118,20 +117,17 @@ wrote-rest {r} {s} {out} {out₁} {ys} k e h p q =
     }
 
 -- ---- a ring given into an output: n numbers, wherever it is started
-module _ {r : List Point} {n : ℕ} (g : Ring r) (four : 4 * length r ≡ n) where
-  four-a-corner : {s : List Point} {xs : List ℤ} → Turned r s → RingNumbers s xs → length xs ≡ n
-  four-a-corner t p = numbers-length p ∙ ap (λ (k : ℕ). 4 * k) (turned-length t) ∙ four
+module _ {r : List Point} {n : ℕ} (four : 4 * length r ≡ n) where
+  four-a-corner : {s : List Point} {xs : List ℤ} → Turned r s → RingNumbers s xs → n ≡ length xs
+  four-a-corner t p = sym (numbers-length p ∙ ap (λ (k : ℕ). 4 * k) (turned-length t) ∙ four)
 
-  pub gave-short : {before : List ℤ} → length before < n → GaveRing r (record { number = outputShort; place = n; count = 0 }) before before
-  unfolding answered written
-  gave-short {before} h =
+  pub gave-short : {before : List ℤ} → Ring r → length before < n → GaveRing r n before before
+  unfolding written
+  gave-short {before} g h =
       let s = start r g in
       let p = numbers-of (turned-all (s .1) (g .proper)) in
-      let e : length (numbersOf (s .0)) ≡ n = four-a-corner (s .1) p in
-      record { corners = s .0; turned = s .1; starts = s .2; numbers = numbersOf (s .0); are = p; answer = simp (e, lt-leb _ _ h); output = simp (e, lt-leb _ _ h) }
+      let e : n ≡ length (numbersOf (s .0)) = four-a-corner (s .1) p in
+      record { numbers = numbersOf (s .0); gives = record { corners = s .0; turned = s .1; starts = s .2; are = p }; count = e; output = simp (sym e, lt-leb _ _ h) }
 
-  pub gave-wrote : {s : List Point} {before after : List ℤ} → Turned r s → Starts s → n ≤ length before → Wrote s before after → GaveRing r (record { number = 0; place = 0; count = n }) before after
-  unfolding answered
-  gave-wrote {s} {before} {after} t b h w =
-      let e : length (w .numbers) ≡ n = four-a-corner t (w .are) in
-      record { corners = s; turned = t; starts = b; numbers = w .numbers; are = w .are; answer = simp (e, le-leb _ _ h); output = w .output }
+  pub gave-wrote : {s : List Point} {before after : List ℤ} → Turned r s → Starts s → Wrote s before after → GaveRing r n before after
+  gave-wrote {s} t b w = record { numbers = w .numbers; gives = record { corners = s; turned = t; starts = b; are = w .are }; count = four-a-corner t (w .are); output = w .output }

@@ -6,7 +6,9 @@
 --   startedAt m n k       these corners, started at place k
 --   WroteFraction n d k before after   n/d in lowest terms is written at place k, the numerator before the denominator
 --   Wrote r before after  the numbers of the corners r are written from the front, and the rest is as it was
---   GaveRing r a before after   the ring r, started, is given into an output: the answer a, and the output before and after
+--   StartedNumbers r xs   xs are the numbers of the ring r, started
+--   GaveNumbers Gives n before after   n numbers of which Gives holds are given into an output, before and after: they are written where they have room
+--   GaveRing r n before after   the n numbers of the ring r, started, are given so
 --   cornerIn zs k         of an outline, the corner whose x stands at place k
 --   LowestPlace zs k      no corner of the outline comes before that at place k
 use mathlib.Core.Path.{_≡_}
@@ -18,9 +20,8 @@ use lib.Seq.{sets}
 use lib.Signed.{_≤ℤ_}
 use Rattle.fraction.specs.Fraction.{LowestOf}
 use Rattle.fraction.specs.declared.Fraction.{Fraction}
-use Rattle.grid.specs.Calls.{answered, written}
+use Rattle.grid.specs.Calls.{written}
 use Rattle.grid.specs.Table.{farthest}
-use Rattle.grid.specs.declared.Answer.{Answer}
 use Rattle.grid.specs.declared.Window.{Window}
 use Rattle.rings.specs.Lists.{All, Turned}
 use Rattle.rings.specs.Points.{Point, Before}
@@ -62,14 +63,20 @@ pub record Wrote (r : List Point) (before after : List ℤ) : Type 0 where
   pub are : RingNumbers r numbers
   pub output : after ≡ written numbers before
 
-pub record GaveRing (r : List Point) (a : Answer) (before after : List ℤ) : Type 0 where
+pub record StartedNumbers (r : List Point) (xs : List ℤ) : Type 0 where
   pub corners : List Point
   pub turned : Turned r corners
   pub starts : Starts corners
+  pub are : RingNumbers corners xs
+
+pub record GaveNumbers (Gives : List ℤ → Type 0) (n : ℕ) (before after : List ℤ) : Type 0 where
   pub numbers : List ℤ
-  pub are : RingNumbers corners numbers
-  pub answer : a ≡ answered numbers (length before)
+  pub gives : Gives numbers
+  pub count : n ≡ length numbers
   pub output : after ≡ written numbers before
+
+abbrev pub GaveRing : List Point → ℕ → List ℤ → List ℤ → Type 0
+GaveRing r = GaveNumbers (StartedNumbers r)
 
 -- ---- an outline that lies in the window whole
 abbrev pub cornerIn : List ℤ → ℕ → Point

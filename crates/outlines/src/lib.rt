@@ -4,12 +4,13 @@ use grid::Refusal;
 use grid::Window;
 ghost use mathlib.Core.Path.{_≡_};
 ghost use mathlib.Core.Bool.{true};
+ghost use mathlib.Core.List.{List};
 ghost use Prim.Native.Nat.{_+_, _*_, _<_, _≤_};
-ghost use lib.IntN.{pos};
+ghost use lib.IntN.{ℤ, pos};
 ghost use lib.ListN.{length};
 ghost use lib.Signed.{_<ℤ_};
 ghost use Rattle.whole.specs.Choice.{Decides};
-ghost use Rattle.grid.specs.Calls.{Given};
+ghost use Rattle.grid.specs.Calls.{answered};
 ghost use Rattle.grid.specs.Table.{WindowOnTable, NumbersOnTable};
 ghost use Rattle.rings.specs.Lists.{All};
 ghost use Rattle.rings.specs.Points.{Proper, Before};
@@ -17,7 +18,7 @@ ghost use Rattle.rings.specs.Rings.{Ring};
 ghost use Rattle.passes.specs.Memory.{pointIn, ringIn};
 ghost use Rattle.passes.specs.Outlines.{OutlineOnTable, Reaches};
 ghost use Rattle.outlines.specs.Outlines.{rightCount, outlineRefusal, Clipped, Outline};
-ghost use Rattle.outlines.specs.Workers.{ReachOnTable, LowestIn, Forward, startedAt, WroteFraction, Wrote, GaveRing};
+ghost use Rattle.outlines.specs.Workers.{ReachOnTable, LowestIn, Forward, startedAt, WroteFraction, Wrote, GaveNumbers, GaveRing};
 
 mod reach;
 mod uncut;
@@ -153,7 +154,8 @@ fn write_fraction(n: i32, d: i32, out: &mut [i32], k: usize)
     requires { ⌜ k + 2 ≤ length (now out) ⌝ }
     ensures { λ _. ⌜ WroteFraction n d k (now (out .entry)) (now (out .exit)) ⌝ }
 {
-    if d == 1 {
+    // At most 1 is 1; so the compiler knows, too, that no denominator below is 0.
+    if d <= 1 {
         out[k] = n;
         out[k + 1] = d;
         return;
@@ -185,30 +187,21 @@ fn write_ring(m: &[i32], n: usize, start: usize, out: &mut [i32])
     }
 }
 
-// Gives the ring of the first n corners into a lent output, or refuses where it has no room there.
-fn give_ring(m: &[i32], n: usize, out: &mut [i32]) -> Answer
+// How many numbers the ring of the first n corners has; they are written where they have room.
+fn give_ring(m: &[i32], n: usize, out: &mut [i32]) -> usize
     requires { ⌜ 4 * n ≤ length (now m) ⌝ }
     requires { ⌜ Ring (ringIn (now m) n) ⌝ }
     ensures { λ r. ⌜ GaveRing (ringIn (now (m .entry)) n) r (now (out .entry)) (now (out .exit)) ⌝ }
 {
     let need = 4 * n;
-    if out.len() < need {
-        return Answer {
-            number: grid::OUTPUT_SHORT,
-            place: need,
-            count: 0,
-        };
+    if need <= out.len() {
+        let start = lowest_corner(m, n);
+        write_ring(m, n, start, out);
     }
-    let start = lowest_corner(m, n);
-    write_ring(m, n, start, out);
-    Answer {
-        number: 0,
-        place: 0,
-        count: need,
-    }
+    need
 }
 
-// What the passes leave of an outline in a memory, given into a lent output.
+// How many numbers there are of what the passes leave of an outline in a memory; they are written where they have room.
 fn cut_in(
     w: Window,
     reach: Window,
@@ -216,33 +209,29 @@ fn cut_in(
     outline: &[i32],
     m: &mut [i32],
     out: &mut [i32],
-) -> Answer
+) -> usize
     requires { ⌜ WindowOnTable w ⌝ }
     requires { ⌜ order ≤ 23 ⌝ }
     requires { ⌜ OutlineOnTable (now outline) ⌝ }
     requires { ⌜ Reaches (now outline) reach ⌝ }
     requires { ⌜ 2 * length (now outline) + 16 ≤ length (now m) ⌝ }
-    ensures { λ r. ⌜ Given (Clipped w order (now (outline .entry))) r (now (out .entry)) (now (out .exit)) ⌝ }
+    ensures { λ r. ⌜ GaveNumbers (Clipped w order (now (outline .entry))) r (now (out .entry)) (now (out .exit)) ⌝ }
 {
     let left = passes::run(w, reach, order, outline, m);
     let n = left.to - left.from;
     if n == 0 {
-        return Answer {
-            number: 0,
-            place: 0,
-            count: 0,
-        };
+        return 0;
     }
     give_ring(&m[4 * left.from..], n, out)
 }
 
 // The same with a memory of its own; fewer corners need a smaller one, which is sooner cleared.
-fn cut_by_passes(w: Window, reach: Window, order: u32, outline: &[i32], out: &mut [i32]) -> Answer
+fn cut_by_passes(w: Window, reach: Window, order: u32, outline: &[i32], out: &mut [i32]) -> usize
     requires { ⌜ WindowOnTable w ⌝ }
     requires { ⌜ order ≤ 23 ⌝ }
     requires { ⌜ OutlineOnTable (now outline) ⌝ }
     requires { ⌜ Reaches (now outline) reach ⌝ }
-    ensures { λ r. ⌜ Given (Clipped w order (now (outline .entry))) r (now (out .entry)) (now (out .exit)) ⌝ }
+    ensures { λ r. ⌜ GaveNumbers (Clipped w order (now (outline .entry))) r (now (out .entry)) (now (out .exit)) ⌝ }
 {
     if outline.len() <= 24 {
         let mut few = [0i32; 64];
@@ -256,25 +245,40 @@ fn cut_by_passes(w: Window, reach: Window, order: u32, outline: &[i32], out: &mu
     cut_in(w, reach, order, outline, &mut most, out)
 }
 
-// What the window leaves of an outline in which nothing is refused, the plain cases first: they need no pass.
-fn clipped(w: Window, order: u32, outline: &[i32], reach: Window, out: &mut [i32]) -> Answer
+// How many numbers there are of what the window leaves of an outline in which nothing is refused; they are written where they have room.
+// The plain cases come first: they need no pass.
+fn clipped(w: Window, order: u32, outline: &[i32], reach: Window, out: &mut [i32]) -> usize
     requires { ⌜ WindowOnTable w ⌝ }
     requires { ⌜ order ≤ 23 ⌝ }
     requires { ⌜ OutlineOnTable (now outline) ⌝ }
     requires { ⌜ Reaches (now outline) reach ⌝ }
-    ensures { λ r. ⌜ Given (Clipped w order (now (outline .entry))) r (now (out .entry)) (now (out .exit)) ⌝ }
+    ensures { λ r. ⌜ GaveNumbers (Clipped w order (now (outline .entry))) r (now (out .entry)) (now (out .exit)) ⌝ }
 {
     if reach::inside(w, reach) {
         return uncut::give_whole(outline, out);
     }
     if reach::apart(w, reach) {
+        return 0;
+    }
+    cut_by_passes(w, reach, order, outline, out)
+}
+
+// The answer of a call that gives so many numbers into an output of some room.
+fn given(need: usize, room: usize) -> Answer
+    ensures { λ r. ⌜ ((xs : List ℤ) → need ≡ length xs → r ≡ answered xs room) ⌝ }
+{
+    if room < need {
         return Answer {
-            number: 0,
-            place: 0,
+            number: grid::OUTPUT_SHORT,
+            place: need,
             count: 0,
         };
     }
-    cut_by_passes(w, reach, order, outline, out)
+    Answer {
+        number: 0,
+        place: 0,
+        count: need,
+    }
 }
 
 // What a window keeps of a strictly convex outline, cut along the window's sides in one of the 24 orders. The outline is x y x y ..,
@@ -285,7 +289,8 @@ pub fn clip_outline(w: Window, order: u32, outline: &[i32], out: &mut [i32]) -> 
     if right_count(outline.len()) {
         let reach = reach::reach_of(outline);
         if takes(w, order, outline, reach) {
-            return clipped(w, order, outline, reach, out);
+            let need = clipped(w, order, outline, reach, out);
+            return given(need, out.len());
         }
     }
     let bad = refusal(w, order, outline);

@@ -1,5 +1,4 @@
 // An outline that lies in the window whole: its own corners, four numbers each.
-use grid::Answer;
 ghost use mathlib.Core.Path.{_≡_};
 ghost use Prim.Native.Nat.{_+_, _*_, _%_, _≤_};
 ghost use lib.ListN.{length};
@@ -85,8 +84,8 @@ fn write_corners(c: &[i32], out: &mut [i32])
     }
 }
 
-// Gives an outline's own corners, from the lowest on, into a lent output, or refuses where they have no room there.
-pub fn give_whole(outline: &[i32], out: &mut [i32]) -> Answer
+// How many numbers an outline's own corners have; they are written, from the lowest corner on, where they have room.
+pub fn give_whole(outline: &[i32], out: &mut [i32]) -> usize
     requires { ⌜ length (now outline) % 2 ≡ 0 ⌝ }
     requires { ⌜ length (now outline) ≤ 128 ⌝ }
     requires { ⌜ Ring (cornersOf (now outline)) ⌝ }
@@ -94,20 +93,11 @@ pub fn give_whole(outline: &[i32], out: &mut [i32]) -> Answer
 {
     let n = outline.len();
     let need = 2 * n;
-    if out.len() < need {
-        return Answer {
-            number: grid::OUTPUT_SHORT,
-            place: need,
-            count: 0,
-        };
+    if need <= out.len() {
+        let start = lowest_place(outline);
+        let rest = 2 * (n - start);
+        write_corners(&outline[start..], out);
+        write_corners(&outline[..start], &mut out[rest..]);
     }
-    let start = lowest_place(outline);
-    let rest = 2 * (n - start);
-    write_corners(&outline[start..], out);
-    write_corners(&outline[..start], &mut out[rest..]);
-    Answer {
-        number: 0,
-        place: 0,
-        count: need,
-    }
+    need
 }

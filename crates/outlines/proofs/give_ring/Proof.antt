@@ -20,28 +20,28 @@ four c = ap (λ (k : ℕ). 4 * k) (ring-length (now (c .args .m)) 0 (c .args .n)
 mul-need : tie.Need-mul-need
 mul-need c = search needs
 
-returns : tie.Need-returns
-returns c = gave-short (c .before .pre .1) (four (c .before)) (c .if1 .taken)
-
 lowest-corner-requires : tie.Need-lowest-corner-requires
 lowest-corner-requires c κs = search needs
 
 write-ring-requires : tie.Need-write-ring-requires
 write-ring-requires c κs =
     let a = c .before .before .before in
-    (omega (arith, below (now (a .args .m)) (a .args .n) (c .before .lowest-corner .ensures)), (a .pre .0, (a .pre .1 .proper, omega (arith, c .before .before .if1 .left))))
+    (omega (arith, below (now (a .args .m)) (a .args .n) (c .before .lowest-corner .ensures)), (a .pre .0, (a .pre .1 .proper, omega (arith, c .before .before .if1 .taken))))
 
 same-length : tie.Need-same-length
 same-length c = search needs
 
-returns-2 : tie.Need-returns-2
-returns-2 c =
+returns : tie.Need-returns
+returns c =
     let l = c .before .before .before in
     let a = l .before .before in
     let m = now (a .args .m) in
     let k = l .lowest-corner .ensures in
     let l′ = below m (a .args .n) k in
-    gave-wrote (a .pre .1) (four a) (turned-at m (omega arith)) (lowest-starts m (a .args .n) (a .pre .1) k) (l .before .if1 .left) (c .before .write-ring .ensures)
+    gave-wrote (four a) (turned-at m (omega arith)) (lowest-starts m (a .args .n) (a .pre .1) k) (c .before .write-ring .ensures)
+
+returns-2 : tie.Need-returns-2
+returns-2 c = gave-short (four (c .before)) (c .before .pre .1) (c .if1 .left)
 
 pub give-ring-spec : {M : Type 1} → statement M
-give-ring-spec = tie.close (tie.spec mul-need returns lowest-corner-requires write-ring-requires same-length returns-2)
+give-ring-spec = tie.close (tie.spec mul-need lowest-corner-requires write-ring-requires same-length returns returns-2)

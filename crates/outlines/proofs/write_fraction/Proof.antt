@@ -1,15 +1,16 @@
--- `outlines::write_fraction` meets its contract: over 1 a fraction is in lowest terms; else both numbers are those of `lowest_signed`, which fit 32 bits again. Assumes nothing.
+-- `outlines::write_fraction` meets its contract: a denominator of at most 1 is 1, and over 1 a fraction is in lowest terms; else both numbers are those of `lowest_signed`, which fit 32 bits again. Assumes nothing.
 use mathlib.Core.Path.{_≡_, refl, sym, subst, subst₂}
 use native.Mathlib.Numerals.{towards-suc}
 use native.Mathlib.Omega.{arith}
 use borrow.Author.Needs.{needs}
 use lib.IntN.{ℤ, pos}
 use lib.ListN.{length-set}
-use lib.Signed.{_<ℤ_}
+use lib.Signed.{_≤ℤ_, _<ℤ_}
 use mir.Syntax.{w32}
 use mir.Val.{SFits}
 use mir.Facts.{toZ-ofZ, sfits-lit}
-use Rattle.whole.proofs.Comparisons.{bits-eq}
+use Rattle.whole.proofs.Order.{zarith}
+use Rattle.whole.proofs.Comparisons.{le-yes}
 use Rattle.fraction.specs.Fraction.{LowestOf}
 use Rattle.fraction.proofs.LowestTerms.{lowest-over-one}
 use Rattle.outlines.proofs.Numbers.{num-fits, den-fits}
@@ -39,7 +40,9 @@ returns : tie.Need-returns
 returns c =
     let a = c .before .args in
     let f = c .before .fits in
-    let one : a .d ≡ pos 1 = bits-eq w32 (f .d) (sfits-lit {z = pos 1} tt) (c .if1 .taken) in record {
+    let low : pos 0 <ℤ a .d = c .before .pre .0 in
+    let high : a .d ≤ℤ pos 1 = le-yes (toZ-ofZ (f .d)) (toZ-ofZ {w = w32} (sfits-lit {z = pos 1} tt)) (c .if1 .taken) in
+    let one : a .d ≡ pos 1 = omega zarith in record {
       fraction = record { num = a .n; den = a .d };
       lowest = subst (λ (d : ℤ). LowestOf (a .n) d (record { num = a .n; den = d })) (sym one) (record { lowest = lowest-over-one (a .n); same = refl });
       output = simp (toZ-ofZ (f .n), toZ-ofZ (f .d)) (simp towards-suc);

@@ -18,9 +18,6 @@ below c = let l = c .lowest-place .ensures .inside in omega arith
 mul-need : tie.Need-mul-need
 mul-need c = search needs
 
-returns : tie.Need-returns
-returns c = let a = c .before in gave-short (a .pre .1 .1) (four-a-corner (now (a .args .outline)) (a .pre .0)) (c .if1 .taken)
-
 lowest-place-requires : tie.Need-lowest-place-requires
 lowest-place-requires c κs = search needs
 
@@ -72,8 +69,8 @@ write-corners-requires-2 c κs =
 same-length : tie.Need-same-length
 same-length c = search needs
 
-returns-2 : tie.Need-returns-2
-returns-2 c =
+returns : tie.Need-returns
+returns c =
     let w = c .before .before .before .before .before in
     let l = w .before .before .before in
     let a = l .before .before in
@@ -83,18 +80,19 @@ returns-2 c =
     let b = below l in
     let even = a .pre .0 in
     let e : take (length zs - k) (drop k zs) ≡ drop k zs = take-all (length zs - k) (drop k zs) (omega (arith, length-drop k zs)) in
-    gave-wrote (a .pre .1 .1) (four-a-corner zs even)
+    gave-wrote (four-a-corner zs even)
     (own-turned zs k (s .even) b)
     (own-starts zs even (a .pre .1 .1) s)
-    (l .before .if1 .left)
-    (wrote-rest (2 * (length zs - k)) (four-behind zs k (s .even) b even) (omega (arith, four-before zs k (s .even) b, l .before .if1 .left)) (rw e at (w .write-corners .ensures)) (c .before .write-corners2 .ensures))
+    (wrote-rest (2 * (length zs - k)) (four-behind zs k (s .even) b even) (omega (arith, four-before zs k (s .even) b, l .before .if1 .taken)) (rw e at (w .write-corners .ensures)) (c .before .write-corners2 .ensures))
+
+returns-2 : tie.Need-returns-2
+returns-2 c = let a = c .before in gave-short (four-a-corner (now (a .args .outline)) (a .pre .0)) (a .pre .1 .1) (c .if1 .left)
 
 pub give-whole-spec : {M : Type 1} → statement M
 give-whole-spec =
     tie.close
     (tie.spec
     mul-need
-    returns
     lowest-place-requires
     sub-rest
     mul-rest
@@ -110,4 +108,5 @@ give-whole-spec =
     part-write-corners-end-2
     write-corners-requires-2
     same-length
+    returns
     returns-2)
