@@ -3,7 +3,7 @@ use mathlib.Core.Path.{_≡_, refl, sym, ap, _∙_, subst}
 use mathlib.Core.List.{List, [], _∷_}
 use mathlib.Core.Bool.{Bool}
 use mathlib.Core.Logic.{_⊎_, inl, inr, ⊎-elim}
-use Prim.Native.Nat.{ℕ, _+_, _-_, _*_, _<_, _≤_}
+use Prim.Native.Nat.{ℕ, _+_, _-_, _*_, _/_, _<_, _≤_}
 use native.Mathlib.Nat.{add-zero}
 use native.Mathlib.Numerals.{add-one}
 use native.Mathlib.Omega.{arith}
@@ -15,11 +15,12 @@ use Rattle.grid.specs.declared.Window.{Window}
 use Rattle.rings.specs.Points.{Point, Line, value, In, Over, On}
 use Rattle.passes.specs.Memory.{pointIn}
 use Rattle.passes.specs.Orders.{sideLine}
-use Rattle.passes.specs.Tags.{tagIn}
-use Rattle.passes.specs.Steps.{Meeting, putAt, Entered, Went}
+use Rattle.passes.specs.Tags.{edgeOf, tagIn, Names, edge, loadedOf}
+use Rattle.passes.specs.Steps.{Meets, Meeting, putAt, Entered, EnteredOwn, Went}
 use Rattle.passes.specs.Steps as steps
 use Rattle.passes.specs.Runs.{Tagged, tagged, cornerIn, cornersFrom, Goes, Comes, on-line, crosses}
 use Rattle.passes.proofs.Memories.{put-at}
+use Rattle.passes.proofs.Owned.{loaded-of}
 
 -- ---- what stands where the ring goes out: the corners t from the place i up to the place r
 pub record Gone (w : Window) (zs : List ℤ) (s : ℕ) (m : List ℤ) (i : ℕ) (m′ : List ℤ) (r : ℕ) : Type 0 where
@@ -99,4 +100,31 @@ come {w} {zs} {s} {m = m} {o} {p = z} q h e k (steps.crosses {p = x} l met) =
       start = refl;
       stands = λ j. p .put j ∷ [];
       others = p .others;
+    }
+
+-- ---- the same along the outline's own edge from its corner k: the corners c from the place at up to the place r; g is a memory with the outline's corners
+pub record CameOwn (w : Window) (zs : List ℤ) (s : ℕ) (g : List ℤ) (k : ℕ) (p : Point) (m : List ℤ) (at : ℕ) (m′ : List ℤ) (r : ℕ) : Type 0 where
+  pub c : List Tagged
+  pub comes : Comes w zs s (cornerIn g k) p c
+  pub count : ℕ
+  pub few : count ≤ 1
+  pub end : r ≡ at + count
+  pub stands : cornersFrom m′ at count ≡ c
+  pub before : (j : ℕ) → j < at → cornerIn m′ j ≡ cornerIn m j
+
+pub came-own : {w : Window} {zs : List ℤ} {s : ℕ} {h : Line} {there : Bool} {k : ℕ} {p : Point} {m : List ℤ} {at : ℕ} {m′ : List ℤ} {r : ℕ} → h ≡ sideLine w s → k < length zs / 2 → 4 * at + 4 ≤ length m
+    → Decides there (On (sideLine w s) p) → In (sideLine w s) p → EnteredOwn zs h there k m at m′ r → CameOwn w zs s (loadedOf zs) k p m at m′ r
+unfolding cornersFrom
+came-own {at = at} q l h e i (steps.on-line t) = record { c = []; comes = on-line (e .yes t); count = 0; few = omega arith; end = sym (add-zero at); stands = refl; before = λ j b. refl }
+came-own {w} {zs} {s} {k = k} {p = z} {m} {at} q l h e i (steps.crosses {p = x} t met) =
+    let p = put-at m at x (pos k) h in
+    let tag = loaded-of zs .tag k l in
+    record {
+      c = tagged x (tagIn (loadedOf zs) k) ∷ [];
+      comes = crosses (over (sideLine w s) z i (e .no t)) (record { stroke = edgeOf zs k; named = subst (λ (a : ℤ). Names w zs a (edgeOf zs k)) (sym tag) (edge k l); meets = subst (λ (k′ : Line). Meets k′ (edgeOf zs k) x) q met });
+      count = 1;
+      few = omega arith;
+      end = refl;
+      stands = λ j. (p .put ∙ ap (tagged x) (sym tag)) j ∷ [];
+      before = λ j b. p .others j (inl b);
     }

@@ -7,7 +7,9 @@ pub mod Outlines
 pub mod Reaches
 pub mod Meetings
 pub mod Pieces
+pub mod Owned
 pub mod Ends
 pub mod Passing
+pub mod First
 pub mod Corners
 pub mod Running

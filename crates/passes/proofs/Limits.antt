@@ -71,7 +71,7 @@ abbrev inward : Bool → Expr
 inward true = var 0 ⊖ var 1 ⊗ var 2
 inward false = var 1 ⊗ var 2 ⊖ var 0
 
-limit-value : (l : Limit) (m : List ℤ) (i : ℕ) (b : Bool) → l .low ≡ b → l .axis < 2 → means (numbers l m i) (inward b) ≡ points.value (limitLine l) (pointIn m i)
+pub limit-value : (l : Limit) (m : List ℤ) (i : ℕ) (b : Bool) → l .low ≡ b → l .axis < 2 → means (numbers l m i) (inward b) ≡ points.value (limitLine l) (pointIn m i)
 unfolding points.value left-side right-side bottom-side top-side
 limit-value l m i b e h = subst (λ (b : Bool). means (numbers l m i) (inward b) ≡ points.value (limitLine l) (pointIn m i)) e (go (l .low) (l .axis) h)
   where

@@ -1,7 +1,8 @@
 -- The sides in each order are an arrangement of the four: one after the other is taken out of those that are left.
-use mathlib.Core.Path.{_≡_, refl, ap}
+use mathlib.Core.Path.{_≡_, refl, sym, ap, _∙_}
 use mathlib.Core.List.{List, [], _∷_, map, List·Permᴰ, List·Permᴰ·nil, List·Permᴰ·cons, List·Permᴰ·swap, List·Permᴰ·trans, Permᴰ·refl}
 use Prim.Native.Nat.{ℕ, zero, suc, _+_, _*_, _/_, _%_, _<_, _≤_}
+use native.Mathlib.Numerals.{add-one}
 use native.Mathlib.Omega.{arith}
 use lib.Dec.{ltb, ltb→lt}
 use lib.ListN.{length, getD, drop, length-map, List·getD-map}
@@ -52,6 +53,24 @@ module _ (o : ℕ) (h : o ≤ 23) where
   unfolding sidesIn
   sides-length = omega (arith, three-length, two-length, without-length (o % 2) two (omega (arith, three-length, two-length)))
 
+  pub side-below : (k : ℕ) → k < 4 → getD (sidesIn o) k 0 < 4
+  unfolding sidesIn every
+  side-below k l = ltb→lt (getD (sidesIn o) k 0) 4 (true-T (every-at 4 (λ k. ltb (getD (sidesIn o) k 0) 4) (every-at 24 (λ o. every 4 (λ k. ltb (getD (sidesIn o) k 0) 4)) refl o (omega arith)) k l))
+
+  -- of the sides packed from the k-th on, the first and the others
+  module _ (k : ℕ) (l : k < 4) {rest : ℕ} (e : rest ≡ packed (drop k (sidesIn o))) where
+    in-two : rest ≡ getD (sidesIn o) k 0 + 4 * packed (drop (suc k) (sidesIn o))
+    unfolding packed
+    in-two = e ∙ ap packed (drop-cons (sidesIn o) k 0 (omega (arith, sides-length)))
+
+    pub next-side : rest % 4 ≡ getD (sidesIn o) k 0
+    next-side = omega (arith, in-two, side-below k l)
+
+    pub sides-after : rest / 4 ≡ packed (drop (k + 1) (sidesIn o))
+    sides-after =
+        let d : rest / 4 ≡ packed (drop (suc k) (sidesIn o)) = omega (arith, in-two, side-below k l) in
+        d ∙ ap (λ (j : ℕ). packed (drop j (sidesIn o))) (sym (add-one k))
+
 map-arranged : {A B : Type 0} {xs ys : List A} (f : A → B) → List·Permᴰ xs ys → List·Permᴰ (map f xs) (map f ys)
 map-arranged f List·Permᴰ·nil = List·Permᴰ·nil
 map-arranged f (List·Permᴰ·cons e d) = List·Permᴰ·cons (ap f e) (map-arranged f d)
@@ -71,12 +90,3 @@ module _ (o : ℕ) (w : Window) (h : o ≤ 23) where
   pub lines-from : (k : ℕ) → k < 4 → drop k (linesIn o w) ≡ sideLine w (getD (sidesIn o) k 0) ∷ drop (suc k) (linesIn o w)
   unfolding linesIn
   lines-from k l = rw (drop-cons (linesIn o w) k (sideLine w 0) (omega (arith, lines-length)), List·getD-map (sideLine w) (sidesIn o) k 0)
-
-  -- and the sides packed
-  pub packed-from : (k : ℕ) → k < 4 → packed (drop k (sidesIn o)) ≡ getD (sidesIn o) k 0 + 4 * packed (drop (suc k) (sidesIn o))
-  unfolding packed
-  packed-from k l = ap packed (drop-cons (sidesIn o) k 0 (omega (arith, sides-length o h)))
-
-  pub side-below : (k : ℕ) → k < 4 → getD (sidesIn o) k 0 < 4
-  unfolding sidesIn every
-  side-below k l = ltb→lt (getD (sidesIn o) k 0) 4 (true-T (every-at 4 (λ k. ltb (getD (sidesIn o) k 0) 4) (every-at 24 (λ o. every 4 (λ k. ltb (getD (sidesIn o) k 0) 4)) refl o (omega arith)) k l))

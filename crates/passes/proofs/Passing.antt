@@ -26,14 +26,10 @@ use Rattle.passes.proofs.Ends.{Gone, Come}
 use Rattle.passes.proofs.Pieces.{next-of, cut-nothing, keep-none, cut-middle, keep-middle}
 
 -- ---- a run that stays, and its last corner
-goes-from : {w : Window} {zs : List ℤ} {s : ℕ} {t : List Tagged} (m m′ : List ℤ) (i x : ℕ) → ((k : ℕ) → k < x → cornerIn m′ (i + k) ≡ cornerIn m (i + k)) → Goes w zs s (cornerIn m (i + x)) [] t
-    → Goes w zs s (cornerIn m i) (cornersFrom m (suc i) x) (cornersFrom m′ i x ++ t)
+goes-from : {w : Window} {zs : List ℤ} {s : ℕ} {t : List Tagged} (m : List ℤ) (i x : ℕ) → Goes w zs s (cornerIn m (i + x)) [] t → Goes w zs s (cornerIn m i) (cornersFrom m (suc i) x) (cornersFrom m i x ++ t)
 unfolding cornersFrom
-goes-from {w} {zs} {s} {t} m m′ i zero f g = subst (λ (k : ℕ). Goes w zs s (cornerIn m k) [] t) (add-zero i) g
-goes-from {w} {zs} {s} {t} m m′ i (suc x) f g =
-    let first : cornerIn m i ≡ cornerIn m′ i = ap (cornerIn m) (sym (add-zero i)) ∙ sym (f 0 (omega arith)) ∙ ap (cornerIn m′) (add-zero i) in
-    subst (λ (c : Tagged). Goes w zs s (cornerIn m i) (cornersFrom m (suc i) (suc x)) (c ∷ (cornersFrom m′ (suc i) x ++ t))) first
-    (more (goes-from m m′ (suc i) x (λ k h. ap (cornerIn m′) (omega arith) ∙ f (suc k) (omega arith) ∙ ap (cornerIn m) (omega arith)) (subst (λ (k : ℕ). Goes w zs s (cornerIn m k) [] t) (omega arith) g)))
+goes-from {w} {zs} {s} {t} m i zero g = subst (λ (k : ℕ). Goes w zs s (cornerIn m k) [] t) (add-zero i) g
+goes-from {w} {zs} {s} {t} m i (suc x) g = more (goes-from m (suc i) x (subst (λ (k : ℕ). Goes w zs s (cornerIn m k) [] t) (omega arith) g))
 
 -- ---- a ring in three runs
 three : (m : List ℤ) (i x y z : ℕ) → cornersFrom m i (suc x + (suc y + z)) ≡ cornerIn m i ∷ (cornersFrom m (suc i) x ++ (cornerIn m (i + suc x) ∷ (cornersFrom m (suc (i + suc x)) y ++ cornersFrom m (i + suc x + suc y) z)))
@@ -49,6 +45,11 @@ all-corners : {P : Point → Type 0} (m : List ℤ) (i n : ℕ) → All P (ringF
 unfolding ringFrom cornersFrom
 all-corners m i zero ∅ = ∅
 all-corners m i (suc n) (p ◂ a) = p ◂ all-corners m (suc i) n a
+
+-- four parts of a memory, one after the other
+pub in-four : (m : List ℤ) (i x gc cc z : ℕ) {p t r : List Tagged} → cornersFrom m i x ≡ p → cornersFrom m (i + x) gc ≡ t → cornersFrom m (i + x + gc) (cc + z) ≡ r → cornersFrom m i (x + (gc + (cc + z))) ≡ (p ++ t) ++ r
+in-four m i x gc cc z {p} {t} {r} first second rest =
+    corners-split m i x (gc + (cc + z)) ∙ ap (λ (q : List Tagged). cornersFrom m i x ++ q) (corners-split m (i + x) gc (cc + z)) ∙ (λ j. first j ++ (second j ++ rest j)) ∙ sym (append-assoc p t r)
 
 -- what a pass promises, of corners
 passed : {w : Window} {zs : List ℤ} {s : ℕ} (m m′ : List ℤ) (i n i′ n′ : ℕ) {cs ls : List Tagged} → cornersFrom m i n ≡ cs → cornersFrom m′ i′ n′ ≡ ls → n′ + i′ ≤ suc (n + i)
@@ -91,26 +92,39 @@ module _ {w : Window} {zs : List ℤ} {s : ℕ} (g : Job w zs s) where
     next-point zero = simp (eq-eqb b (b + 0) (sym (add-zero b)))
     next-point (suc z) = simp (ne-eqb b (b + suc z) (λ (e : b ≡ b + suc z). absurd (omega arith)))
 
-    cut-runs : (z : ℕ) → CutOut m from a b (b + z)
+    -- what is left stands in a memory m′ from the place at on: the first run up to its last corner, the corners t and c at the ends of the second, and the third
+    pub cut-stands : (z : ℕ) → Held w zs m (places from (b + z)) → ((i : ℕ) → from ≤ i → i < a → In h (pointIn m i)) → ((i : ℕ) → a ≤ i → i < b → Out h (pointIn m i)) → (b < b + z → In h (pointIn m b))
+        → {t c : List Tagged} → Goes w zs s (cornerIn m (from + x)) [] t → Comes w zs s (cornerIn m (a + y)) (pointIn m (if eqb b (b + z) then from else b)) c
+        → (m′ : List ℤ) (at n′ : ℕ) → cornersFrom m′ at n′ ≡ (cornersFrom m from x ++ t) ++ (c ++ cornersFrom m b z) → n′ + at ≤ suc (b + z) → Passed w zs s m (places from (b + z)) m′ (places at (at + n′))
     unfolding cornersFrom
+    cut-stands z held inside outside back {t} {c} goes comes m′ at n′ stands few =
+        let n = suc x + (suc y + z) in
+        let size : b + z - from ≡ n = omega arith in
+        let whole : from + n ≡ b + z = omega arith in
+        let comes′ = transport (λ j. Comes w zs s (sym (corners-final m a y) j) (next-point z j) c) comes in
+        let all-in = all-corners m b z (third-in z (subst (λ (n : ℕ). Ring (ringFrom m from n)) size (held .ring)) (inside from (omega arith) (omega arith)) (outside a (omega arith) (omega arith)) back) in
+        let traced = subst (Traced w zs) (ap (cornersFrom m from) size ∙ three m from x y z) (held .traced) in
+        subst (λ (k : ℕ). Passed w zs s m (places from k) m′ (places at (at + n′))) whole
+        (passed m m′ from n at n′ (three m from x y z) stands (omega arith)
+        (cut-middle g traced (tagged-all m from (suc x) inside) (tagged-all m a (suc y) outside) all-in (goes-from m from x goes) comes′))
+
+    cut-runs : (z : ℕ) → CutOut m from a b (b + z)
     cut-runs z held inside outside back m₁ m₂ m₃ m₄ k second first two up c g′ down =
         let bs = cornersFrom m b z in
         let gc = g′ .count in
         let cc = c .count in
-        let n = suc x + (suc y + z) in
-        let size : b + z - from ≡ n = omega arith in
-        let whole : from + n ≡ b + z = omega arith in
         let low : first ≤ second = omega (arith, g′ .end, g′ .few, c .start, c .few) in
         let n′ = x + (gc + (cc + z)) in
         let end : from + n′ ≡ first + (b + z + k - second) = omega (arith, g′ .end, c .start) in
         let i₀ : a - 1 ≡ from + x = omega arith in
-        let stays : (i : ℕ) → i < x → cornerIn m₄ (from + i) ≡ cornerIn m (from + i) =
-        λ i l. down .before (from + i) (omega (arith, g′ .end)) (omega (arith, g′ .end)) ∙ g′ .before (from + i) (omega arith) ∙ c .others (from + i) (inl (omega arith)) ∙ up .before (from + i) (omega arith) (omega arith) in
+        let stays : cornersFrom m₄ from x ≡ cornersFrom m from x =
+        corners-same m m₄ from from x
+        (λ i l. down .before (from + i) (omega (arith, g′ .end)) (omega (arith, g′ .end)) ∙ g′ .before (from + i) (omega arith) ∙ c .others (from + i) (inl (omega arith)) ∙ up .before (from + i) (omega arith) (omega arith)) in
         let last : cornerIn m₂ (a - 1) ≡ cornerIn m (from + x) = c .others (a - 1) (inl (omega arith)) ∙ up .before (a - 1) (omega arith) (omega arith) ∙ ap (cornerIn m) i₀ in
-        let goes = goes-from m m₄ from x stays (subst (λ (c : Tagged). Goes w zs s c [] (g′ .t)) last (g′ .goes)) in
+        let goes = subst (λ (c : Tagged). Goes w zs s c [] (g′ .t)) last (g′ .goes) in
         let o : b - 1 + k ≡ a + k + y = omega arith in
-        let outer : cornerIn m₁ (b - 1 + k) ≡ final (cornerIn m a) (cornersFrom m (suc a) y) = ap (cornerIn m₁) o ∙ up .moved y (omega arith) ∙ sym (corners-final m a y) in
-        let comes = transport (λ j. Comes w zs s (outer j) (next-point z j) (c .c)) (c .comes) in
+        let outer : cornerIn m₁ (b - 1 + k) ≡ cornerIn m (a + y) = ap (cornerIn m₁) o ∙ up .moved y (omega arith) in
+        let comes = subst (λ (q : Tagged). Comes w zs s q (pointIn m (if eqb b (b + z) then from else b)) (c .c)) outer (c .comes) in
         let tail : cornersFrom m₂ (second + cc) z ≡ bs =
         corners-same m m₂ b (second + cc) z
         (λ j l. let i : second + cc + j ≡ a + k + (suc y + j) = omega (arith, c .start) in let i′ : a + (suc y + j) ≡ b + j = omega arith in
@@ -121,14 +135,8 @@ module _ {w : Window} {zs : List ℤ} {s : ℕ} (g : Job w zs s) where
         ∙ corners-split m₂ second cc z ∙ (λ j. c .stands j ++ tail j) in
         let kept : cornersFrom m₄ (from + x) gc ≡ g′ .t =
         corners-same m₃ m₄ (a - 1) (from + x) gc (λ j l. down .before (from + x + j) (omega (arith, g′ .end)) (omega (arith, g′ .end)) ∙ ap (λ (i : ℕ). cornerIn m₃ (i + j)) (sym i₀)) ∙ g′ .stands in
-        let stands : cornersFrom m₄ from n′ ≡ (cornersFrom m₄ from x ++ g′ .t) ++ (c .c ++ bs) =
-        corners-split m₄ from x (gc + (cc + z)) ∙ ap (λ (r : List Tagged). cornersFrom m₄ from x ++ r) (corners-split m₄ (from + x) gc (cc + z) ∙ (λ j. kept j ++ moved j))
-        ∙ sym (append-assoc (cornersFrom m₄ from x) (g′ .t) (c .c ++ bs)) in
-        let all-in = all-corners m b z (third-in z (subst (λ (n : ℕ). Ring (ringFrom m from n)) size (held .ring)) (inside from (omega arith) (omega arith)) (outside a (omega arith) (omega arith)) back) in
-        let traced = subst (Traced w zs) (ap (cornersFrom m from) size ∙ three m from x y z) (held .traced) in
-        transport (λ j. Passed w zs s m (places from (whole j)) m₄ (places from (end j)))
-        (passed m m₄ from n from n′ (three m from x y z) stands (omega (arith, g′ .few, c .few))
-        (cut-middle g traced (tagged-all m from (suc x) inside) (tagged-all m a (suc y) outside) all-in goes comes))
+        subst (λ (k : ℕ). Passed w zs s m (places from (b + z)) m₄ (places from k)) end
+        (cut-stands z held inside outside back goes comes m₄ from n′ (in-four m₄ from x gc cc z stays kept moved) (omega (arith, g′ .few, c .few)))
 
   pub cut-out : (m : List ℤ) {from a b to : ℕ} → from < a → a < b → b ≤ to → CutOut m from a b to
   cut-out m {from} {a} {b} {to} l h k =
@@ -157,32 +165,40 @@ module _ {w : Window} {zs : List ℤ} {s : ℕ} (g : Job w zs s) where
     third-out zero r n u k = ∅
     third-out (suc z) r n u k = rest-outside h (pointIn m f) (ringFrom m (suc from) y) (ringFrom m (suc f) x) (subst Ring (three-points m from y x z) r) n u (k (omega arith))
 
-    keep-runs : (z : ℕ) → KeepRun m from f e (e + z)
+    -- what is left stands in a memory m′ from the place at on: the corners c at the beginning of the second run, that run up to its last corner, and the corners t there
+    pub keep-stands : (z : ℕ) → Held w zs m (places from (e + z)) → ((i : ℕ) → from ≤ i → i < f → Out h (pointIn m i)) → ((i : ℕ) → f ≤ i → i < e → In h (pointIn m i)) → (e < e + z → Out h (pointIn m e))
+        → {c t : List Tagged} → Comes w zs s (cornerIn m (from + y)) (pointIn m f) c → Goes w zs s (cornerIn m (f + x)) [] t
+        → (m′ : List ℤ) (at n′ : ℕ) → cornersFrom m′ at n′ ≡ c ++ (cornersFrom m f x ++ t) → n′ + at ≤ suc (e + z) → Passed w zs s m (places from (e + z)) m′ (places at (at + n′))
     unfolding cornersFrom
-    keep-runs z held outside inside back m₁ m₂ start end c g′ =
-        let gc = g′ .count in
-        let cc = c .count in
+    keep-stands z held outside inside back {c} comes goes m′ at n′ stands few =
         let n = suc y + (suc x + z) in
         let size : e + z - from ≡ n = omega arith in
         let whole : from + n ≡ e + z = omega arith in
+        let comes′ = subst (λ (q : Tagged). Comes w zs s q (pointIn m f) c) (sym (corners-final m from y)) comes in
+        let all-out = all-corners m e z (third-out z (subst (λ (n : ℕ). Ring (ringFrom m from n)) size (held .ring)) (outside from (omega arith) (omega arith)) (inside f (omega arith) (omega arith)) back) in
+        let traced = subst (Traced w zs) (ap (cornersFrom m from) size ∙ three m from y x z) (held .traced) in
+        subst (λ (k : ℕ). Passed w zs s m (places from k) m′ (places at (at + n′))) whole
+        (passed m m′ from n at n′ (three m from y x z) stands (omega arith)
+        (keep-middle g traced (tagged-all m from (suc y) outside) (tagged-all m f (suc x) inside) all-out comes′ (goes-from m f x goes)))
+
+    keep-runs : (z : ℕ) → KeepRun m from f e (e + z)
+    keep-runs z held outside inside back m₁ m₂ start end c g′ =
+        let gc = g′ .count in
+        let cc = c .count in
         let n′ = cc + (x + gc) in
         let is : start + n′ ≡ end = omega (arith, g′ .end, c .start) in
         let i₀ : e - 1 ≡ f + x = omega arith in
         let o : f - 1 ≡ from + y = omega arith in
-        let stays : (i : ℕ) → i < x → cornerIn m₂ (f + i) ≡ cornerIn m (f + i) = λ i l. g′ .before (f + i) (omega arith) ∙ c .others (f + i) (inr (omega arith)) in
+        let stays : cornersFrom m₂ f x ≡ cornersFrom m f x = corners-same m m₂ f f x (λ i l. g′ .before (f + i) (omega arith) ∙ c .others (f + i) (inr (omega arith))) in
         let last : cornerIn m₁ (e - 1) ≡ cornerIn m (f + x) = c .others (e - 1) (inr (omega arith)) ∙ ap (cornerIn m) i₀ in
-        let goes = goes-from m m₂ f x stays (subst (λ (c : Tagged). Goes w zs s c [] (g′ .t)) last (g′ .goes)) in
-        let comes = subst (λ (q : Tagged). Comes w zs s q (pointIn m f) (c .c)) (ap (cornerIn m) o ∙ sym (corners-final m from y)) (c .comes) in
+        let goes = subst (λ (c : Tagged). Goes w zs s c [] (g′ .t)) last (g′ .goes) in
+        let comes = subst (λ (q : Tagged). Comes w zs s q (pointIn m f) (c .c)) (ap (cornerIn m) o) (c .comes) in
         let came : cornersFrom m₂ start cc ≡ c .c = corners-same m₁ m₂ start start cc (λ j l. g′ .before (start + j) (omega (arith, c .start))) ∙ c .stands in
         let next : start + cc ≡ f = omega (arith, c .start) in
         let kept : cornersFrom m₂ (f + x) gc ≡ g′ .t = ap (λ (i : ℕ). cornersFrom m₂ i gc) (sym i₀) ∙ g′ .stands in
-        let stands : cornersFrom m₂ start n′ ≡ c .c ++ (cornersFrom m₂ f x ++ g′ .t) =
-        corners-split m₂ start cc (x + gc) ∙ (λ j. came j ++ (ap (λ (i : ℕ). cornersFrom m₂ i (x + gc)) next ∙ corners-split m₂ f x gc ∙ ap (λ (r : List Tagged). cornersFrom m₂ f x ++ r) kept) j) in
-        let all-out = all-corners m e z (third-out z (subst (λ (n : ℕ). Ring (ringFrom m from n)) size (held .ring)) (outside from (omega arith) (omega arith)) (inside f (omega arith) (omega arith)) back) in
-        let traced = subst (Traced w zs) (ap (cornersFrom m from) size ∙ three m from y x z) (held .traced) in
-        transport (λ j. Passed w zs s m (places from (whole j)) m₂ (places start (is j)))
-        (passed m m₂ from n start n′ (three m from y x z) stands (omega (arith, g′ .few, c .start))
-        (keep-middle g traced (tagged-all m from (suc y) outside) (tagged-all m f (suc x) inside) all-out comes goes))
+        let stands : cornersFrom m₂ start n′ ≡ c .c ++ (cornersFrom m f x ++ g′ .t) =
+        corners-split m₂ start cc (x + gc) ∙ (λ j. came j ++ (ap (λ (i : ℕ). cornersFrom m₂ i (x + gc)) next ∙ corners-split m₂ f x gc ∙ (λ j. stays j ++ kept j)) j) in
+        subst (λ (k : ℕ). Passed w zs s m (places from (e + z)) m₂ (places start k)) is (keep-stands z held outside inside back comes goes m₂ start n′ stands (omega (arith, g′ .few, c .start)))
 
   pub keep-run : (m : List ℤ) {from f e to : ℕ} → from < f → f < e → e ≤ to → KeepRun m from f e to
   keep-run m {from} {f} {e} {to} l h k =
@@ -198,10 +214,10 @@ module _ {w : Window} {zs : List ℤ} {s : ℕ} {m : List ℤ} {i k : ℕ} (l : 
   pub leaves-all : Held w zs m (places i k) → ((j : ℕ) → i ≤ j → j < k → In (sideLine w s) (pointIn m j)) → Passed w zs s m (places i k) m (places i k)
   leaves-all held f = record { order = l; end = omega arith; cut = cut-nothing (ring-all m i (k - i) (λ j a b. f j a (omega arith))); traced = held .traced }
 
-  pub leaves-none : ((j : ℕ) → i ≤ j → j < k → Out (sideLine w s) (pointIn m j)) → Passed w zs s m (places i k) m (places i i)
+  pub leaves-none : (m′ : List ℤ) → ((j : ℕ) → i ≤ j → j < k → Out (sideLine w s) (pointIn m j)) → Passed w zs s m (places i k) m′ (places i i)
   unfolding cornersFrom pointsOf
-  leaves-none f =
+  leaves-none m′ f =
       let e : i + (k - i) ≡ k = omega arith in
       let z : i + 0 ≡ i = add-zero i in
-      transport (λ j. Passed w zs s m (places i (e j)) m (places i (z j)))
-      (passed m m i (k - i) i 0 refl refl (omega arith) (keep-none (tagged-all m i (k - i) (λ j a b. f j a (omega arith))), record { small = ∅; lies = nothing }))
+      transport (λ j. Passed w zs s m (places i (e j)) m′ (places i (z j)))
+      (passed m m′ i (k - i) i 0 refl refl (omega arith) (keep-none (tagged-all m i (k - i) (λ j a b. f j a (omega arith))), record { small = ∅; lies = nothing }))

@@ -1,5 +1,5 @@
 -- The outline's own corners are a ring in memory; each pass leaves a ring that ends at most one place later, which the remaining passes go on from, or no area; a side with no corner of the outline outside leaves the ring as it is.
-use mathlib.Core.Path.{_≡_, sym, ap, _∙_, subst, transport}
+use mathlib.Core.Path.{_≡_, refl, sym, ap, _∙_, subst, transport}
 use mathlib.Core.List.{List, [], _∷_}
 use mathlib.Core.Option.{Option, none, some}
 use Prim.Native.Nat.{ℕ, zero, suc, _+_, _-_, _*_, _/_, _<_, _≤_}
@@ -23,9 +23,9 @@ use Rattle.corners.specs.Corners.{cornersOf}
 use Rattle.passes.specs.Memory.{pointIn, ringFrom, Small}
 use Rattle.passes.specs.Orders.{sideLine, sidesIn, linesIn}
 use Rattle.passes.specs.Outlines.{OutlineOnTable}
-use Rattle.passes.specs.Tags.{edgeOf, tagIn, Names, edge, Lies, Loaded}
+use Rattle.passes.specs.Tags.{edgeOf, tagIn, Names, edge, Lies, Loaded, loadedOf}
 use Rattle.passes.specs.Runs.{Tagged, cornerIn, cornersFrom}
-use Rattle.passes.specs.Passes.{places, ringAt, Held, Passed, Ran, area}
+use Rattle.passes.specs.Passes.{places, ringAt, Held, Passed, Running, Ran, area}
 use Rattle.passes.specs.declared.Places.{Places}
 use Rattle.passes.proofs.Sides.{side-line-real}
 use Rattle.passes.proofs.Orders.{lines-length, lines-from}
@@ -34,6 +34,7 @@ use Rattle.passes.proofs.Outlines.{corner-count, corner-at, edge-from, 
 use Rattle.passes.proofs.Reaches.{cut-in}
 use Rattle.passes.proofs.Pieces.{cut-nothing}
 use Rattle.passes.proofs.Corners.{small-in}
+use Rattle.passes.proofs.Owned.{loaded-of}
 
 -- ---- a line holds the two points that it joins
 joins-start : (a b : Point) → On (through a b) a
@@ -80,7 +81,7 @@ module _ {zs m : List ℤ} (o : OutlineOnTable zs) (l : Loaded zs m (length zs /
         to = transport (λ j. On (line j) (sym (corner-in k (edge-below e)) j)) (joins-end (at (cornersOf zs) i) (at (cornersOf zs) k));
       }
 
-  loaded-held : (w : Window) → Held w zs m (places 0 (length zs / 2))
+  pub loaded-held : (w : Window) → Held w zs m (places 0 (length zs / 2))
   loaded-held w =
       let n = length zs / 2 in
       let e = sym (sub-zero n) in
@@ -96,14 +97,7 @@ module _ {zs m : List ℤ} (o : OutlineOnTable zs) (l : Loaded zs m (length zs /
 pub pass-one-cut : {w : Window} {zs : List ℤ} {s : ℕ} {m : List ℤ} {p : Places} {m′ : List ℤ} {p′ : Places} → Held w zs m p → Passed w zs s m p m′ p′ → OneCut (sideLine w s) (ringAt m p) (ringAt m′ p′)
 pass-one-cut {w} {s = s} h c = one-cut (side-line-real w s) (h .ring) (c .cut)
 
--- ---- the passes in turn: k of them have left the ring at p in m, which lies inside each line that the outline does, and what the others leave of it, all leave of the outline
-pub record Running (w : Window) (o : ℕ) (zs m : List ℤ) (p : Places) (k : ℕ) : Type 0 where
-  pub held : Held w zs m p
-  pub order : p .from ≤ p .to
-  pub room : p .to ≤ length zs / 2 + k
-  pub inside : (h : Line) → All (In h) (cornersOf zs) → All (In h) (ringAt m p)
-  pub so-far : (r : Option (List Point)) → Cuts (drop k (linesIn o w)) (ringAt m p) r → Cuts (linesIn o w) (cornersOf zs) r
-
+-- ---- the passes in turn
 pub run-begun : {w : Window} {o : ℕ} {zs m : List ℤ} → OutlineOnTable zs → Loaded zs m (length zs / 2) → Running w o zs m (places 0 (length zs / 2)) 0
 run-begun {w} {o} t l = record {
   held = loaded-held t l w;
@@ -141,6 +135,15 @@ module _ {w : Window} {o : ℕ} {zs m m′ : List ℤ} {p p′ : Places} {k s : 
         inside = λ h a. cut-in h (side-line-real w s) (r .held .ring) (c .cut) l (r .inside h a);
         so-far = λ q d. goes-on q (cut (c .cut) l (subst (λ (j : ℕ). Cuts (drop j (linesIn o w)) (ringAt m′ p′) q) (add-one k) d));
       }
+
+-- the first k sides in an order, of which none cuts
+pub run-skipped : {w : Window} {o : ℕ} {zs : List ℤ} → OutlineOnTable zs → o ≤ 23 → (k : ℕ) → k ≤ 4 → ((j : ℕ) → j < k → All (In (sideLine w (getD (sidesIn o) j 0))) (cornersOf zs))
+    → Running w o zs (loadedOf zs) (places 0 (length zs / 2)) k
+run-skipped {zs = zs} t h zero l f = run-begun t (loaded-of zs)
+run-skipped {w} {o} {zs} t h (suc k) l f =
+    let r = run-skipped t h k (omega arith) (λ j b. f j (omega arith)) in
+    subst (Running w o zs (loadedOf zs) (places 0 (length zs / 2))) (add-one k)
+    (run-more h (omega arith) refl (passed-over (getD (sidesIn o) k 0) (f k (omega arith)) r) r (omega (arith, t .corners .three)))
 
 pub run-ended : {w : Window} {o : ℕ} {zs m : List ℤ} {p : Places} → o ≤ 23 → 2 * length zs + 16 ≤ length m → Running w o zs m p 4 → Ran w o zs m p
 run-ended {w} {o} {zs} {m} {p} h size r =

@@ -1,6 +1,7 @@
 -- A side as a limit on x or on y, and a run of corners inside it or outside it.
 --   LimitOnTable l        the axis and the number of the limit l are a side's
---   limitLine l           the line of the limit l: in it X, or Y where its axis is 1, is at least its number times W where it is low, else at most
+--   lineBy low a c        the line in which X, or Y where the axis a is 1, is at least c times W where low, else at most
+--   limitLine l           the line of the limit l
 --   SmallIn m i k         the corners in the memory m from the place i up to the place k are small
 --   LiesSo out h p        p lies strictly outside h, or, where out is false, inside it or on it
 --   RunTo h m out from to r   of the corners in the memory m those from one place on, up to the place r, lie so; the one at r does not, unless r is the place to
@@ -19,7 +20,7 @@ pub record LimitOnTable (l : Limit) : Type 0 where
   pub axis : l .axis < 2
   pub number : Within farthest (l .c)
 
-abbrev lineBy : Bool → ℕ → ℤ → Line
+abbrev pub lineBy : Bool → ℕ → ℤ → Line
 lineBy true zero c = left-side c
 lineBy false zero c = right-side c
 lineBy true (suc k) c = bottom-side c

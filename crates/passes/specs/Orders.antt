@@ -2,12 +2,16 @@
 --   sideLine w k      the line of side k: 0 left, 1 right, 2 bottom, 3 top; what is in it is where the window lies
 --   sidesIn o         the four sides in the order o: of their arrangements in dictionary order that at place o, from 0 to 23
 --   packed ss         sides in one number, two bits each
+--   InOrder t         the turn t is a place in one of the orders, and has the sides from there on packed
 --   linesIn o w       the lines of a window's sides in the order o
+use mathlib.Core.Path.{_≡_}
 use mathlib.Core.List.{List, [], _∷_, map}
-use Prim.Native.Nat.{ℕ, zero, suc, _+_, _*_, _/_, _%_}
+use Prim.Native.Nat.{ℕ, zero, suc, _+_, _*_, _/_, _%_, _≤_}
+use lib.ListN.{drop}
 use Rattle.grid.specs.declared.Window.{Window}
 use Rattle.rings.specs.Points.{Line}
 use Rattle.rings.specs.Windows.{left-side, right-side, bottom-side, top-side}
+use Rattle.passes.specs.declared.Turn.{Turn}
 
 abbrev pub sideLine : Window → ℕ → Line
 sideLine w zero = left-side (w .left)
@@ -41,3 +45,8 @@ linesIn o w = map (sideLine w) (sidesIn o)
 unfoldable pub packed : List ℕ → ℕ
 packed [] = 0
 packed (s ∷ ss) = s + 4 * packed ss
+
+pub record InOrder (t : Turn) : Type 0 where
+  pub order : t .order ≤ 23
+  pub place : t .k ≤ 3
+  pub sides : t .rest ≡ packed (drop (t .k) (sidesIn (t .order)))

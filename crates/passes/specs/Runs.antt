@@ -5,6 +5,7 @@
 --   pointsOf cs       the corners without their tags
 --   Traced w zs cs    each corner is small, and lies with the next on the line that its tag names, the last with the first
 --   Moved m m′ from to at  the corners in m from one place up to another stand in m′ from the place at on, and those before both places are as they were
+--   Brought g m m′ from to at  the corners in g from one place up to another stand in m′ from the place at on, and those before it are as they were in m
 --   Goes w zs s u r t     t is what the side s leaves of u and the corners r, all inside, where the next one lies outside: their last corner, if it lies on the side's
 --                         line, has its next edge on that line, and else the crossing comes after it
 --   Comes w zs s o p t    t is what the side s leaves between the corner o outside and the next at p inside: the crossing on the line of o, unless p is on the side's
@@ -45,6 +46,10 @@ pub record Traced (w : Window) (zs : List ℤ) (cs : List Tagged) : Type 0 where
 pub record Moved (m m′ : List ℤ) (from to at : ℕ) : Type 0 where
   pub moved : (i : ℕ) → from + i < to → cornerIn m′ (at + i) ≡ cornerIn m (from + i)
   pub before : (i : ℕ) → i < from → i < at → cornerIn m′ i ≡ cornerIn m i
+
+pub record Brought (g m m′ : List ℤ) (from to at : ℕ) : Type 0 where
+  pub brought : (i : ℕ) → from + i < to → cornerIn m′ (at + i) ≡ cornerIn g (from + i)
+  pub before : (i : ℕ) → i < at → cornerIn m′ i ≡ cornerIn m i
 
 pub data Goes (w : Window) (zs : List ℤ) (s : ℕ) : Tagged → List Tagged → List Tagged → Type 0 where
   on-line : {u : Tagged} → On (sideLine w s) (u .point) → Goes w zs s u [] (tagged (u .point) (pos (64 + s)) ∷ [])

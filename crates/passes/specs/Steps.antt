@@ -6,6 +6,8 @@
 --   putAt m n p t               the memory m with the point p, tagged t, at place n
 --   Entered w zs h on m o m′ r      between the corner o outside the line h and one inside the crossing took the place of o, unless that one is on the line; what is
 --                               left begins at the place r
+--   EnteredOwn zs h on k m at m′ r  between the outline's corner k outside the line h and the next one inside the crossing was put at the place at, unless that one is on
+--                               the line; what comes next has the place r
 --   Went w zs s on m i m′ r     after the corner i the crossing was put or, where it is on the line, its next edge lies along the side; what is left ends before the
 --                               place r
 use mathlib.Core.Path.{_≡_}
@@ -20,7 +22,7 @@ use Rattle.rings.specs.Points.{Point, Line, value, On}
 use Rattle.corners.specs.Corners.{gridPoint}
 use Rattle.passes.specs.Memory.{pointIn, Small}
 use Rattle.passes.specs.Orders.{sideLine}
-use Rattle.passes.specs.Tags.{tagIn, lineOf, Names}
+use Rattle.passes.specs.Tags.{tagIn, lineOf, edgeOf, Names}
 use Rattle.passes.specs.declared.Corner.{Corner}
 
 abbrev pub pointOf : Corner → Point
@@ -45,6 +47,10 @@ putAt m n p t = sets m (4 * n) (p .X ∷ p .Y ∷ p .W ∷ t ∷ [])
 pub data Entered (w : Window) (zs : List ℤ) (h : Line) (on : Bool) (m : List ℤ) (o : ℕ) : List ℤ → ℕ → Type 0 where
   on-line : on ≡ true → Entered w zs h on m o m (o + 1)
   crosses : {p : Point} → on ≡ false → Meeting w zs h (tagIn m o) p → Entered w zs h on m o (putAt m o p (tagIn m o)) o
+
+pub data EnteredOwn (zs : List ℤ) (h : Line) (on : Bool) (k : ℕ) (m : List ℤ) (at : ℕ) : List ℤ → ℕ → Type 0 where
+  on-line : on ≡ true → EnteredOwn zs h on k m at m at
+  crosses : {p : Point} → on ≡ false → Meets h (edgeOf zs k) p → EnteredOwn zs h on k m at (putAt m at p (pos k)) (at + 1)
 
 pub data Went (w : Window) (zs : List ℤ) (s : ℕ) (on : Bool) (m : List ℤ) (i : ℕ) : List ℤ → ℕ → Type 0 where
   on-line : on ≡ true → Went w zs s on m i (putAt m i (pointIn m i) (pos (64 + s))) (i + 1)

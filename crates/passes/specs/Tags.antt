@@ -9,8 +9,9 @@
 --   Lies w zs t p q     p and q lie on the line that t names
 --   tagIn m i           the tag of the corner at place i of the memory m: it names the line of the edge from this corner to the next
 --   Loaded zs m n       the first n corners of the outline zs stand in the memory m, each tagged with its own edge
+--   loadedOf zs         a memory with all of them
 use mathlib.Core.Path.{_≡_}
-use mathlib.Core.List.{List}
+use mathlib.Core.List.{List, [], _∷_}
 use Prim.Native.Nat.{ℕ, zero, suc, _+_, _*_, _/_, _<_}
 use lib.Dec.{ltb}
 use lib.IntN.{ℤ, pos}
@@ -61,3 +62,11 @@ tagIn m i = getD m (4 * i + 3) (pos 0)
 pub record Loaded (zs m : List ℤ) (n : ℕ) : Type 0 where
   pub corner : (k : ℕ) → k < n → pointIn m k ≡ gridPoint (getD zs (2 * k) (pos 0)) (getD zs (2 * k + 1) (pos 0))
   pub tag : (k : ℕ) → k < n → tagIn m k ≡ pos k
+
+unfoldable pub loadedFrom : ℕ → List ℤ → List ℤ
+loadedFrom k [] = []
+loadedFrom k (x ∷ []) = []
+loadedFrom k (x ∷ y ∷ zs) = x ∷ y ∷ pos 1 ∷ pos k ∷ loadedFrom (suc k) zs
+
+abbrev pub loadedOf : List ℤ → List ℤ
+loadedOf zs = loadedFrom 0 zs

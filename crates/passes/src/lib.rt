@@ -3,10 +3,10 @@ use grid::Stroke;
 use grid::Window;
 use limit::Limit;
 ghost use mathlib.Core.Path.{_≡_};
-ghost use mathlib.Core.Bool.{true, false};
-ghost use Prim.Native.Nat.{_+_, _*_, _/_, _%_, _<_, _≤_};
+ghost use mathlib.Core.Bool.{false};
+ghost use Prim.Native.Nat.{ℕ, _+_, _-_, _*_, _/_, _%_, _<_, _≤_};
 ghost use lib.Dec.{eqb};
-ghost use lib.ListN.{length};
+ghost use lib.ListN.{length, getD};
 ghost use Rattle.whole.specs.Choice.{if_then_else_};
 ghost use Rattle.whole.specs.Within.{Within};
 ghost use Rattle.grid.specs.Table.{farthest, WindowOnTable, StrokeOnTable};
@@ -14,16 +14,17 @@ ghost use Rattle.rings.specs.Points.{Out};
 ghost use Rattle.rings.specs.Windows.{«left-side»};
 ghost use Rattle.corners.specs.Corners.{next};
 ghost use Rattle.passes.specs.Memory.{pointIn};
-ghost use Rattle.passes.specs.Orders.{sideLine, sidesIn, packed};
+ghost use Rattle.passes.specs.Orders.{sideLine, sidesIn, packed, InOrder};
 ghost use Rattle.passes.specs.Outlines.{OutlineOnTable, Reaches, AtSides, Job};
-ghost use Rattle.passes.specs.Tags.{stroke, numberOf, edgeOf, sideOf, tagIn, Named, Loaded};
+ghost use Rattle.passes.specs.Tags.{stroke, numberOf, edgeOf, sideOf, tagIn, Named, loadedOf};
 ghost use Rattle.passes.specs.Limits.{LimitOnTable, limitLine, RunTo};
-ghost use Rattle.passes.specs.Steps.{pointOf, Meets, Meeting, putAt, Entered, Went};
-ghost use Rattle.passes.specs.Runs.{Moved};
-ghost use Rattle.passes.specs.Passes.{places, Held, Passed, Ran};
+ghost use Rattle.passes.specs.Steps.{pointOf, Meets, Meeting, putAt, Entered, EnteredOwn, Went};
+ghost use Rattle.passes.specs.Runs.{Moved, Brought};
+ghost use Rattle.passes.specs.Passes.{places, Held, Passed, FirstPassed, Running, Ran};
 
 mod limit;
 mod moves;
+mod own;
 
 // A corner at (x/den, y/den).
 struct Corner {
@@ -275,23 +276,41 @@ fn leave(
     i + 2
 }
 
-// The outline's own corners, each tagged with its own edge.
-fn load(outline: &[i32], m: &mut [i32])
+// Brings the outline's corners from one up to another into a memory, to begin at the place `at`, each tagged with its own edge.
+fn load(outline: &[i32], from: usize, to: usize, m: &mut [i32], at: usize)
     requires { ⌜ length (now outline) ≤ 128 ⌝ }
-    requires { ⌜ 2 * length (now outline) ≤ length (now m) ⌝ }
-    ensures { λ _. ⌜ Loaded (now (outline .entry)) (now (m .exit)) (length (now (outline .entry)) / 2) ⌝ }
+    requires { ⌜ (from ≤ to) × (to ≤ length (now outline) / 2) ⌝ }
+    requires { ⌜ 4 * (at + (to - from)) ≤ length (now m) ⌝ }
+    ensures { λ _. ⌜ Brought (loadedOf (now (outline .entry))) (now (m .entry)) (now (m .exit)) from to at ⌝ }
 {
-    let n = outline.len() / 2;
-    let mut k: usize = 0;
-    while k < n {
+    let mut k = from;
+    let mut i = at;
+    while k < to {
         let p = Corner {
             x: outline[2 * k],
             y: outline[2 * k + 1],
             den: 1,
         };
-        put(m, k, p, k as i32);
+        put(m, i, p, k as i32);
         k += 1;
+        i += 1;
     }
+}
+
+// Where the ring comes in along the outline's edge from its corner k outside: the crossing is put at the place `at`, unless the corner there,
+// the next one, lies on the limit. What comes after it has the place answered.
+fn enter_own(l: Limit, outline: &[i32], k: usize, m: &mut [i32], at: usize, there: bool) -> usize
+    requires { ⌜ OutlineOnTable (now outline) ⌝ }
+    requires { ⌜ LimitOnTable l ⌝ }
+    requires { ⌜ k < length (now outline) / 2 ⌝ }
+    requires { ⌜ 4 * at + 4 ≤ length (now m) ⌝ }
+    ensures { λ r. ⌜ EnteredOwn (now (outline .entry)) (limitLine l) there k (now (m .entry)) at (now (m .exit)) r ⌝ }
+{
+    if there {
+        return at;
+    }
+    put(m, at, edge_crossing(l, outline, k), k as i32);
+    at + 1
 }
 
 // Where the run outside, from the place a to the place last, is only one corner, all from it on move up by one place, so that two crossings have
@@ -383,6 +402,69 @@ fn keep_run(
     }
 }
 
+// The first pass, over an outline of which the corners before a lie inside and a outside: these, the crossings, and what comes after the run outside.
+fn first_cut(w: Window, side: usize, outline: &[i32], l: Limit, m: &mut [i32], a: usize) -> Places
+    requires { ⌜ Job w (now outline) side ⌝ }
+    requires { ⌜ (limitLine l ≡ sideLine w side) × LimitOnTable l ⌝ }
+    requires { ⌜ 2 * length (now outline) + 4 ≤ length (now m) ⌝ }
+    requires { ⌜ (0 < a) × (a < length (now outline) / 2) × RunTo (limitLine l) (loadedOf (now outline)) false 0 (length (now outline) / 2) a ⌝ }
+    ensures { λ r. ⌜ FirstPassed w (now (outline .entry)) side (now (m .exit)) r ⌝ }
+{
+    let n = outline.len() / 2;
+    let b = own::end_of_run(l, outline, a + 1, n, true);
+    let here = own::touches(l, outline, a - 1);
+    let there = own::touches(l, outline, after(b, 0, n));
+    load(outline, 0, a, m, 0);
+    let first = leave(w, side, l, outline, m, a - 1, here);
+    let second = enter_own(l, outline, b - 1, m, first, there);
+    load(outline, b, n, m, second);
+    Places {
+        from: 0,
+        to: second + (n - b),
+    }
+}
+
+// The first pass, over an outline of which the first corner lies outside: the run inside, between the crossings.
+fn first_keep(w: Window, side: usize, outline: &[i32], l: Limit, m: &mut [i32]) -> Places
+    requires { ⌜ Job w (now outline) side ⌝ }
+    requires { ⌜ (limitLine l ≡ sideLine w side) × LimitOnTable l ⌝ }
+    requires { ⌜ 2 * length (now outline) + 4 ≤ length (now m) ⌝ }
+    requires { ⌜ Out (limitLine l) (pointIn (loadedOf (now outline)) 0) ⌝ }
+    ensures { λ r. ⌜ FirstPassed w (now (outline .entry)) side (now (m .exit)) r ⌝ }
+{
+    let n = outline.len() / 2;
+    let s = own::end_of_run(l, outline, 1, n, true);
+    if s == n {
+        return Places { from: 0, to: 0 };
+    }
+    let e = own::end_of_run(l, outline, s + 1, n, false);
+    let there = own::touches(l, outline, s);
+    let here = own::touches(l, outline, e - 1);
+    let start = enter_own(l, outline, s - 1, m, 0, there);
+    load(outline, s, e, m, start);
+    let end = leave(w, side, l, outline, m, start + (e - s) - 1, here);
+    Places { from: 0, to: end }
+}
+
+// The first pass: what a side leaves of the outline, of which a memory then has only that.
+fn first_pass(w: Window, side: usize, outline: &[i32], l: Limit, m: &mut [i32]) -> Places
+    requires { ⌜ Job w (now outline) side ⌝ }
+    requires { ⌜ (limitLine l ≡ sideLine w side) × LimitOnTable l ⌝ }
+    requires { ⌜ 2 * length (now outline) + 4 ≤ length (now m) ⌝ }
+    ensures { λ r. ⌜ FirstPassed w (now (outline .entry)) side (now (m .exit)) r ⌝ }
+{
+    let n = outline.len() / 2;
+    let a = own::end_of_run(l, outline, 0, n, false);
+    if a == n {
+        load(outline, 0, n, m, 0);
+        return Places { from: 0, to: n };
+    }
+    if a == 0 {
+        return first_keep(w, side, outline, l, m);
+    }
+    first_cut(w, side, outline, l, m, a)
+}
+
 // One pass: what a side leaves of the ring in a memory.
 fn pass(w: Window, side: usize, outline: &[i32], l: Limit, m: &mut [i32], p: Places) -> Places
     requires { ⌜ Job w (now outline) side ⌝ }
@@ -403,30 +485,51 @@ fn pass(w: Window, side: usize, outline: &[i32], l: Limit, m: &mut [i32], p: Pla
     cut_out(w, side, outline, l, m, from, a, to)
 }
 
-// The passes in the order given, each along a side that cuts: numbers and cuts have the window's number of a side, and whether it cuts, at the
-// side's place.
-fn cut_along(
-    w: Window,
+// A place in an order of the sides: the side that is the k-th, and those after it, are packed in rest.
+struct Turn {
     order: u32,
+    k: usize,
+    rest: u8,
+}
+
+// The first side of an order that cuts, or else its last side; cuts has whether a side cuts, at the side's place.
+fn first_turn(order: u32, cuts: &[bool]) -> Turn
+    requires { ⌜ order ≤ 23 ⌝ }
+    requires { ⌜ length (now cuts) ≡ 4 ⌝ }
+    ensures { λ r. ⌜ (r .order ≡ order) × InOrder r ⌝ }
+    ensures { λ r. ⌜ ((j : ℕ) → j < r .k → getD (now (cuts .entry)) (getD (sidesIn order) j 0) false ≡ false) ⌝ }
+{
+    let mut rest = sides_of(order);
+    let mut k: usize = 0;
+    while k < 3 && !cuts[(rest % 4) as usize] {
+        rest /= 4;
+        k += 1;
+    }
+    Turn { order, k, rest }
+}
+
+// The passes after that of a turn, which left the ring at the places q, each along a side that cuts: numbers and cuts have the window's number of a
+// side, and whether it cuts, at the side's place.
+fn go_on(
+    w: Window,
+    t: Turn,
     numbers: &[i32],
     cuts: &[bool],
     outline: &[i32],
     m: &mut [i32],
+    q: Places,
 ) -> Places
     requires { ⌜ WindowOnTable w ⌝ }
-    requires { ⌜ order ≤ 23 ⌝ }
+    requires { ⌜ InOrder t ⌝ }
     requires { ⌜ AtSides w (now outline) (now numbers) (now cuts) ⌝ }
     requires { ⌜ OutlineOnTable (now outline) ⌝ }
-    requires { ⌜ Loaded (now outline) (now m) (length (now outline) / 2) ⌝ }
     requires { ⌜ 2 * length (now outline) + 16 ≤ length (now m) ⌝ }
-    ensures { λ r. ⌜ Ran w order (now (outline .entry)) (now (m .exit)) r ⌝ }
+    requires { ⌜ Running w (t .order) (now outline) (now m) q (t .k + 1) ⌝ }
+    ensures { λ r. ⌜ Ran w (t .order) (now (outline .entry)) (now (m .exit)) r ⌝ }
 {
-    let mut p = Places {
-        from: 0,
-        to: outline.len() / 2,
-    };
-    let mut rest = sides_of(order);
-    let mut k: usize = 0;
+    let mut p = q;
+    let mut rest = t.rest / 4;
+    let mut k = t.k + 1;
     while k < 4 {
         let side = (rest % 4) as usize;
         if cuts[side] {
@@ -441,6 +544,31 @@ fn cut_along(
     p
 }
 
+// The passes in the order given, the first over the outline itself.
+fn cut_along(
+    w: Window,
+    order: u32,
+    numbers: &[i32],
+    cuts: &[bool],
+    outline: &[i32],
+    m: &mut [i32],
+) -> Places
+    requires { ⌜ WindowOnTable w ⌝ }
+    requires { ⌜ order ≤ 23 ⌝ }
+    requires { ⌜ AtSides w (now outline) (now numbers) (now cuts) ⌝ }
+    requires { ⌜ OutlineOnTable (now outline) ⌝ }
+    requires { ⌜ 2 * length (now outline) + 16 ≤ length (now m) ⌝ }
+    ensures { λ r. ⌜ Ran w order (now (outline .entry)) (now (m .exit)) r ⌝ }
+{
+    let t = first_turn(order, cuts);
+    let side = (t.rest % 4) as usize;
+    let p = first_pass(w, side, outline, limit_of(side, numbers[side]), m);
+    if p.to - p.from < 3 {
+        return Places { from: 0, to: 0 };
+    }
+    go_on(w, t, numbers, cuts, outline, m, p)
+}
+
 // What a window leaves of an outline, cut along its sides in the order given: the places of a ring in the memory, or none.
 // A side clear of the rectangle that the outline lies in cuts nothing off.
 pub fn run(w: Window, reach: Window, order: u32, outline: &[i32], m: &mut [i32]) -> Places
@@ -451,7 +579,6 @@ pub fn run(w: Window, reach: Window, order: u32, outline: &[i32], m: &mut [i32])
     requires { ⌜ 2 * length (now outline) + 16 ≤ length (now m) ⌝ }
     ensures { λ r. ⌜ Ran w order (now (outline .entry)) (now (m .exit)) r ⌝ }
 {
-    load(outline, m);
     let numbers = [w.left, w.right, w.bottom, w.top];
     let cuts = [
         reach.left < w.left,

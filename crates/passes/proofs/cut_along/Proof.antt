@@ -1,15 +1,13 @@
--- `passes::cut_along` meets its contract: the passes so far have left a ring from which the others go on, or no area, and the sides still to come are packed in the rest. Assumes nothing.
-use mathlib.Core.Path.{_≡_, refl, sym, ap, _∙_, subst}
+-- `passes::cut_along` meets its contract: the sides before the first turn cut nothing off the outline, and the first pass leaves what the others go on from. Assumes nothing.
+use mathlib.Core.Path.{_≡_, refl, sym, _∙_, subst}
 use mathlib.Core.Bool.{false}
 use mathlib.Core.List.{List}
 use mathlib.Core.Option.{none}
-use mathlib.Core.Logic.{⊎-elim}
-use Prim.Native.Nat.{ℕ, suc, _+_, _-_, _*_, _/_, _%_, _<_, _≤_}
-use native.Mathlib.Numerals.{add-one}
+use Prim.Native.Nat.{ℕ, _/_, _%_, _≤_}
 use native.Mathlib.Omega.{arith}
 use denote.Ref.{now}
 use lib.IntN.{ℤ, pos}
-use lib.ListN.{length, getD, drop}
+use lib.ListN.{length, getD}
 use mir.Syntax.{w32}
 use mir.Val.{toZ, ofZ}
 use Rattle.whole.specs.Within.{Within}
@@ -17,164 +15,144 @@ use Rattle.whole.proofs.Comparisons.{back}
 use Rattle.grid.specs.Table.{farthest}
 use Rattle.rings.specs.Cuts.{Cuts}
 use Rattle.corners.specs.Corners.{cornersOf}
-use Rattle.passes.specs.Orders.{linesIn, sidesIn, packed}
+use Rattle.passes.specs.Orders.{linesIn, sidesIn}
 use Rattle.passes.specs.Outlines.{AtSides, Job}
-use Rattle.passes.specs.Tags.{numberOf}
-use Rattle.passes.specs.Passes.{Passed, no-area}
-use Rattle.passes.specs.declared.Places.{Places}
+use Rattle.passes.specs.Tags.{numberOf, loadedOf}
+use Rattle.passes.specs.Passes.{places, Running, Ran, no-area}
+use Rattle.passes.specs.declared.Turn.{Turn}
 use Rattle.passes.proofs.Sides.{number-within}
-use Rattle.passes.proofs.Memories.{ring-length}
-use Rattle.passes.proofs.Orders.{packed-from, side-below}
-use Rattle.passes.proofs.Running.{Running, run-begun, passed-over, run-gone, run-more, run-ended}
+use Rattle.passes.proofs.Orders.{side-below, next-side}
+use Rattle.passes.proofs.Running.{run-skipped, run-gone, run-more}
 use Rattle.passes.proofs.cut_along.Statement.{statement}
 use Rattle.passes.proofs.cut_along.Tie as tie
 
-abbrev Inv-loop : tie.InvT-loop
-Inv-loop w order numbers cuts outline m₀ p₀ rest₀ k₀ m p rest k = (k ≤ 4) × (length m ≡ length m₀) × (rest ≡ packed (drop k (sidesIn order))) × Running w order outline m p k
+-- ---- the first turn
+module _ (c : tie.After-first-turn) where
+  abbrev start : tie.Start
+  start = c .before .before
 
-abbrev μ-loop : tie.MeasureT-loop
-μ-loop w order numbers cuts outline m₀ p₀ rest₀ k₀ m p rest k = 4 - k
+  abbrev t : Turn
+  t = c .first-turn .result
 
-sides-of-requires : tie.Need-sides-of-requires Inv-loop μ-loop
-sides-of-requires c κs = c .before .pre .1 .0
-
-loop-holds : tie.Need-loop-holds Inv-loop μ-loop
-loop-holds c =
-    let p = c .before .before .pre .1 .1 in
-    (omega arith, refl, c .sides-of .ensures, run-begun (p .1 .0) (p .1 .1 .0))
-
--- ---- the side that comes next
-module _ (c : tie.In-loop Inv-loop μ-loop) where
-  abbrev at : tie.At-loop Inv-loop μ-loop
-  at = c .before
-
-  abbrev start : tie.Start Inv-loop μ-loop
-  start = at .before .before .before
+  abbrev zs : List ℤ
+  zs = now (start .args .outline)
 
   abbrev side : ℕ
-  side = at .loop .rest % 4
+  side = t .rest % 4
 
-  sides : AtSides (start .args .w) (now (start .args .outline)) (now (start .args .numbers)) (now (start .args .cuts))
+  sides : AtSides (start .args .w) zs (now (start .args .numbers)) (now (start .args .cuts))
   sides = start .pre .1 .1 .0
 
-  next-packed : at .loop .rest ≡ getD (sidesIn (start .args .order)) (at .loop .k) 0 + 4 * packed (drop (suc (at .loop .k)) (sidesIn (start .args .order)))
-  next-packed = at .loop .inv .2 ∙ packed-from (start .args .order) (start .args .w) (start .pre .1 .0) (at .loop .k) (c .loop-test .taken)
+  is-order : t .order ≡ start .args .order
+  is-order = c .first-turn .ensures .0 .0
 
-  is-next : side ≡ getD (sidesIn (start .args .order)) (at .loop .k) 0
-  is-next = omega (arith, next-packed, side-below (start .args .order) (start .args .w) (start .pre .1 .0) (at .loop .k) (c .loop-test .taken))
+  place : t .k ≤ 3
+  place = c .first-turn .ensures .0 .1 .place
 
-  rest-packed : at .loop .rest / 4 ≡ packed (drop (at .loop .k + 1) (sidesIn (start .args .order)))
-  rest-packed =
-      let e : at .loop .rest / 4 ≡ packed (drop (suc (at .loop .k)) (sidesIn (start .args .order))) = omega (arith, next-packed, side-below (start .args .order) (start .args .w) (start .pre .1 .0) (at .loop .k) (c .loop-test .taken)) in
-      e ∙ ap (λ (k : ℕ). packed (drop k (sidesIn (start .args .order)))) (sym (add-one (at .loop .k)))
+  order : t .order ≤ 23
+  order = c .first-turn .ensures .0 .1 .order
 
-  abbrev Left-by : Places → List ℤ → Type 0
-  Left-by p m = Running (start .args .w) (start .args .order) (now (start .args .outline)) m p (at .loop .k + 1)
+  is-next : side ≡ getD (sidesIn (t .order)) (t .k) 0
+  is-next = next-side (t .order) order (t .k) (omega (arith, place)) (c .first-turn .ensures .0 .1 .sides)
 
-  -- what a pass along it leaves
-  left : (p : Places) (m : List ℤ) → Passed (start .args .w) (now (start .args .outline)) side (at .loop .m) (at .loop .p) m p → 3 ≤ p .to - p .from → Left-by p m
-  left p m d h = run-more (start .pre .1 .0) (c .loop-test .taken) is-next d (at .loop .inv .3) h
+  skipped : Running (start .args .w) (t .order) zs (loadedOf zs) (places 0 (length zs / 2)) (t .k)
+  skipped =
+      run-skipped (start .pre .1 .1 .1 .0) order (t .k) (omega (arith, place))
+      (λ j l. sides .uncut (getD (sidesIn (t .order)) j 0) (side-below (t .order) order j (omega (arith, place))) (subst (λ (o : ℕ). getD (now (start .args .cuts)) (getD (sidesIn o) j 0) false ≡ false) (sym is-order) (c .first-turn .ensures .1 j l)))
 
-cast-side : tie.Need-cast-side Inv-loop μ-loop
+first-turn-requires : tie.Need-first-turn-requires
+first-turn-requires c κs = let s = c .before in (s .pre .1 .0, s .pre .1 .1 .0 .cuts-count)
+
+cast-side : tie.Need-cast-side
 cast-side c = omega arith
 
-shared-slice-read-if1 : tie.Need-shared-slice-read-if1 Inv-loop μ-loop
-shared-slice-read-if1 c = omega (arith, sides (c .before) .cuts-count)
-
-mul-limit-of : tie.Need-mul-limit-of Inv-loop μ-loop
+mul-limit-of : tie.Need-mul-limit-of
 mul-limit-of c = omega arith
 
-shared-slice-copy-out-limit-of : tie.Need-shared-slice-copy-out-limit-of Inv-loop μ-loop
-shared-slice-copy-out-limit-of c = omega (arith, sides (c .before .before) .numbers-count)
+shared-slice-copy-out-limit-of : tie.Need-shared-slice-copy-out-limit-of
+shared-slice-copy-out-limit-of c = omega (arith, sides (c .before) .numbers-count)
 
 -- the side's number, as it is read
-is-number : (c : tie.After-limit-of-arg Inv-loop μ-loop) → let i = c .before .before .before in toZ w32 (ofZ w32 (getD (now (start i .args .numbers)) (side i) (pos 0))) ≡ numberOf (start i .args .w) (side i)
-is-number c = let i = c .before .before .before in back w32 _ (c .limit-of-arg .given) ∙ sides i .number (side i) (omega arith)
+is-number : (c : tie.After-limit-of-arg) → let f = c .before .before in toZ w32 (ofZ w32 (getD (now (start f .args .numbers)) (side f) (pos 0))) ≡ numberOf (start f .args .w) (side f)
+is-number c = let f = c .before .before in back w32 _ (c .limit-of-arg .given) ∙ sides f .number (side f) (omega arith)
 
-limit-of-requires : tie.Need-limit-of-requires Inv-loop μ-loop
+limit-of-requires : tie.Need-limit-of-requires
 limit-of-requires c κs =
-    let i = c .before .before .before in
-    (omega arith, subst (Within farthest) (sym (is-number c)) (number-within (start i .args .w) (side i) (start i .pre .0)))
+    let f = c .before .before in
+    (omega arith, subst (Within farthest) (sym (is-number c)) (number-within (start f .args .w) (side f) (start f .pre .0)))
 
-pass-requires : tie.Need-pass-requires Inv-loop μ-loop
-pass-requires c κs =
+first-pass-requires : tie.Need-first-pass-requires
+first-pass-requires c κs =
     let n = c .before .before in
-    let i = n .before .before .before in
-    let s = start i in
+    let f = n .before .before in
+    let s = start f in
     let p = s .pre .1 .1 .1 in
-    let r = at i .loop .inv .3 in
-    let job : Job (s .args .w) (now (s .args .outline)) (side i) = record { window = s .pre .0; outline = p .0; side = omega arith } in
+    let job : Job (s .args .w) (zs f) (side f) = record { window = s .pre .0; outline = p .0; side = omega arith } in
     let l = c .before .limit-of .ensures in
-    (job, ((l .0 (s .args .w) (is-number n), l .1), (omega (arith, r .room, p .1 .1, at i .loop .inv .1, i .loop-test .taken), r .held)))
+    (job, ((l .0 (s .args .w) (is-number n), l .1), omega (arith, p .1)))
 
--- ---- after a pass
-module _ (c : tie.After-pass Inv-loop μ-loop) where
-  abbrev within : tie.In-loop Inv-loop μ-loop
-  within = c .before .before .before .before .before .before
+-- ---- after the first pass
+module _ (c : tie.After-first-pass) where
+  abbrev turn : tie.After-first-turn
+  turn = c .before .before .before .before .before
 
-  none-left : c .pass .result .to - c .pass .result .from < 3 → Cuts (linesIn (start within .args .order) (start within .args .w)) (cornersOf (now (start within .args .outline))) none
-  none-left h = run-gone (start within .pre .1 .0) (within .loop-test .taken) (is-next within) (c .pass .ensures) (at within .loop .inv .3) h
+  size : length (c .first-pass .last .1 .1 .1 .1 .0) ≡ length (now (start turn .args .m))
+  size = c .first-pass .kept .1 .1 .1 .1 .0
 
--- ---- after a side that cuts nothing off
-over : (c : tie.In-loop Inv-loop μ-loop) → getD (now (start c .args .cuts)) (side c) false ≡ false → Left-by c (at c .loop .p) (at c .loop .m)
-over c e =
-    let l = at c .loop in
-    let r = l .inv .3 in
-    left c (l .p) (l .m) (passed-over (side c) (sides c .uncut (side c) (omega arith) e) r) (omega (arith, r .held .ring .three, ring-length (l .m) (l .p .from) (l .p .to - l .p .from)))
+sub-if1 : tie.Need-sub-if1
+sub-if1 c = c .before .before .first-pass .ensures .order
 
-sub-if2 : tie.Need-sub-if2 Inv-loop μ-loop
-sub-if2 c = c .before .before .pass .ensures .order
+same-length : tie.Need-same-length
+same-length c = size (c .before .before .before)
 
-same-length : tie.Need-same-length Inv-loop μ-loop
-same-length c = let p = c .before .before .before in p .pass .kept .1 .1 .1 .1 .0 ∙ at (within p) .loop .inv .1
+returns : tie.Need-returns
+returns c =
+    let p = c .before .before .before in
+    let f = turn p in
+    no-area refl (subst (λ (o : ℕ). Cuts (linesIn o (start f .args .w)) (cornersOf (zs f)) none) (is-order f) (run-gone (order f) (omega (arith, place f)) (is-next f) (p .first-pass .ensures) (skipped f) (c .if1 .taken)))
 
-returns : tie.Need-returns Inv-loop μ-loop
-returns c = no-area refl (none-left (c .before .before .before) (c .if2 .taken))
+go-on-requires : tie.Need-go-on-requires
+go-on-requires c κs =
+    let p = c .before .before .before .before in
+    let f = turn p in
+    let s = start f in (
+      s .pre .0,
+      (
+        f .first-turn .ensures .0 .1,
+        (
+          sides f,
+          (
+            s .pre .1 .1 .1 .0,
+            (
+              omega (arith, s .pre .1 .1 .1 .1, size p),
+              run-more (order f) (omega (arith, place f)) (is-next f) (p .first-pass .ensures) (skipped f) (c .before .if1 .left),
+            ),
+          ),
+        ),
+      ),
+    )
 
-add-k : tie.Need-add-k Inv-loop μ-loop
-add-k c = omega arith
+same-length-2 : tie.Need-same-length-2
+same-length-2 c = c .before .go-on .kept .1 .1 .1 .1 .1 .0 ∙ size (c .before .before .before .before .before .before)
 
-loop-less : tie.Need-loop-less Inv-loop μ-loop
-loop-less c = omega arith
-
-loop-again : tie.Need-loop-again Inv-loop μ-loop
-loop-again c =
-    let i = c .before .before in
-    let k : at i .loop .k + 1 ≤ 4 = omega (arith, i .loop-test .taken) in
-    ⊎-elim
-    (λ o. rw (o .8, o .9) (k, o .4 .kept .1 .1 .1 .1 .0 ∙ at i .loop .inv .1, rest-packed i, left i (o .4 .result) (o .4 .last .1 .1 .1 .1 .0) (o .4 .ensures) (o .7 .left)))
-    (λ o. rw (o .1, o .2) (k, at i .loop .inv .1, rest-packed i, over i (o .0 .left)))
-    (c .if1 .came)
-
-same-length-2 : tie.Need-same-length-2 Inv-loop μ-loop
-same-length-2 c = c .before .loop .inv .1
-
-returns-2 : tie.Need-returns-2 Inv-loop μ-loop
+returns-2 : tie.Need-returns-2
 returns-2 c =
-    let l = c .before .loop in
-    let s = c .before .before .before .before in
-    let e : l .k ≡ 4 = omega arith in
-    run-ended (s .pre .1 .0) (omega (arith, s .pre .1 .1 .1 .1 .1, l .inv .1)) (subst (Running (s .args .w) (s .args .order) (now (s .args .outline)) (l .m) (l .p)) e (l .inv .3))
+    let f = turn (c .before .before .before .before .before .before) in
+    subst (λ (o : ℕ). Ran (start f .args .w) o (zs f) (c .before .go-on .last .1 .1 .1 .1 .1 .0) (c .before .go-on .result)) (is-order f) (c .before .go-on .ensures)
 
 pub cut-along-spec : {M : Type 1} → statement M
 cut-along-spec =
     tie.close
     (tie.spec
-    Inv-loop
-    μ-loop
-    sides-of-requires
-    loop-holds
+    first-turn-requires
     cast-side
-    shared-slice-read-if1
     mul-limit-of
     shared-slice-copy-out-limit-of
     limit-of-requires
-    pass-requires
-    sub-if2
+    first-pass-requires
+    sub-if1
     same-length
     returns
-    add-k
-    loop-less
-    loop-again
+    go-on-requires
     same-length-2
     returns-2)

@@ -74,7 +74,7 @@ returns : tie.Need-returns
 returns c =
     let e = c .before in
     let s = start e in
-    leaves-none (omega (arith, some s)) (λ i l k. all-out e i l (omega (arith, c .if1 .taken)))
+    leaves-none (omega (arith, some s)) (m s) (λ i l k. all-out e i l (omega (arith, c .if1 .taken)))
 
 -- ---- the run inside, up to e
 module _ (c : tie.Else1) where

@@ -43,9 +43,6 @@ number w (suc (suc (suc (suc s)))) h = absurd (omega arith)
 at-sides : (w b : Window) {zs : List ℤ} → Reaches zs b → AtSides w zs (numbers w) (cuts w b)
 at-sides w b r = record { numbers-count = refl; cuts-count = refl; number = number w; uncut = λ s h e. clear-in w s r (clear w b s h e) }
 
-load-requires : tie.Need-load-requires
-load-requires c κs = search needs
-
 slice-aggregate-cut-along : tie.Need-slice-aggregate-cut-along
 slice-aggregate-cut-along c = search needs
 
@@ -67,7 +64,7 @@ module _ (c : tie.After-cut-along-arg) where
   told = reach-told .before .before .before .before .before .before .before .before
 
   abbrev start : tie.Start
-  start = told .before .before .before .before
+  start = told .before
 
   is-w : start .args .w ≡ read (start .args .w)
   is-w = let g = told .struct-told .given in is-read _ (g .0 .1) (g .1 .0 .1) (g .1 .1 .0 .1) (g .1 .1 .1 .0 .1)
@@ -78,23 +75,22 @@ module _ (c : tie.After-cut-along-arg) where
 cut-along-requires : tie.Need-cut-along-requires
 cut-along-requires c κs =
     let s = start c in
-    let p = s .pre .1 .1 in
-    let l = told c .before .before .load in (
+    let p = s .pre .1 .1 in (
       s .pre .0,
       (
         s .pre .1 .0,
         (
           transport (λ i. AtSides (s .args .w) (now (s .args .outline)) (numbers (is-w c i)) (cuts (is-w c i) (is-reach c i))) (at-sides (s .args .w) (s .args .reach) (p .1 .0)),
-          (p .0, (l .ensures, omega (arith, p .1 .1, l .kept .1 .0))),
+          (p .0, p .1 .1),
         ),
       ),
     )
 
 same-length : tie.Need-same-length
-same-length c = c .before .cut-along .kept .1 .1 .1 .1 .1 .0 ∙ told (c .before .before) .before .before .load .kept .1 .0
+same-length c = c .before .cut-along .kept .1 .1 .1 .1 .1 .0
 
 returns : tie.Need-returns
 returns c = search needs
 
 pub run-spec : {M : Type 1} → statement M
-run-spec = tie.close (tie.spec load-requires slice-aggregate-cut-along slice-aggregate-cut-along-2 cut-along-requires same-length returns)
+run-spec = tie.close (tie.spec slice-aggregate-cut-along slice-aggregate-cut-along-2 cut-along-requires same-length returns)

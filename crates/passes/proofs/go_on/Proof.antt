@@ -1,0 +1,191 @@
+-- `passes::go_on` meets its contract: the passes so far have left a ring from which the others go on, or no area, and the sides still to come are packed in the rest. Assumes nothing.
+use mathlib.Core.Path.{_≡_, refl, sym, ap, _∙_, subst}
+use mathlib.Core.Bool.{false}
+use mathlib.Core.List.{List}
+use mathlib.Core.Option.{none}
+use mathlib.Core.Logic.{⊎-elim}
+use Prim.Native.Nat.{ℕ, suc, _+_, _-_, _*_, _/_, _%_, _<_, _≤_}
+use native.Mathlib.Numerals.{add-one}
+use native.Mathlib.Omega.{arith}
+use denote.Ref.{now}
+use lib.IntN.{ℤ, pos}
+use lib.ListN.{length, getD, drop}
+use mir.Syntax.{w32}
+use mir.Val.{toZ, ofZ}
+use Rattle.whole.specs.Within.{Within}
+use Rattle.whole.proofs.Comparisons.{back}
+use Rattle.grid.specs.Table.{farthest}
+use Rattle.grid.specs.declared.Window.{Window}
+use Rattle.rings.specs.Cuts.{Cuts}
+use Rattle.corners.specs.Corners.{cornersOf}
+use Rattle.passes.specs.Orders.{linesIn, sidesIn, packed}
+use Rattle.passes.specs.Outlines.{AtSides, Job}
+use Rattle.passes.specs.Tags.{numberOf}
+use Rattle.passes.specs.Passes.{Passed, Running, no-area}
+use Rattle.passes.specs.declared.Places.{Places}
+use Rattle.passes.proofs.Sides.{number-within}
+use Rattle.passes.proofs.Memories.{ring-length}
+use Rattle.passes.proofs.Orders.{next-side, sides-after}
+use Rattle.passes.proofs.Running.{passed-over, run-gone, run-more, run-ended}
+use Rattle.passes.proofs.go_on.Statement.{statement}
+use Rattle.passes.proofs.go_on.Tie as tie
+
+-- in the order of the turn and in each other one that comes to the same: the sides still to come, and what those before them have left
+abbrev Followed : Window → List ℤ → List ℤ → Places → ℕ → ℕ → List ℤ → Places → ℕ → ℕ → Type 0
+Followed w zs m₀ p₀ rest₀ k₀ m p rest k =
+    (o : ℕ) → o ≤ 23 → rest₀ ≡ packed (drop k₀ (sidesIn o)) → Running w o zs m₀ p₀ k₀ → (rest ≡ packed (drop k (sidesIn o))) × Running w o zs m p k
+
+abbrev Inv-loop : tie.InvT-loop
+Inv-loop w numbers cuts outline m₀ p₀ rest₀ k₀ m p rest k = (k ≤ 4) × (length m ≡ length m₀) × Followed w outline m₀ p₀ rest₀ k₀ m p rest k
+
+abbrev μ-loop : tie.MeasureT-loop
+μ-loop w numbers cuts outline m₀ p₀ rest₀ k₀ m p rest k = 4 - k
+
+add-k : tie.Need-add-k Inv-loop μ-loop
+add-k c = omega arith
+
+loop-holds : tie.Need-loop-holds Inv-loop μ-loop
+loop-holds c = (omega (arith, c .before .before .before .pre .1 .0 .place), refl, λ o h e r. (e, r))
+
+-- ---- the order of the turn
+module _ (c : tie.At-loop Inv-loop μ-loop) where
+  abbrev start : tie.Start Inv-loop μ-loop
+  start = c .before .before .before .before
+
+  abbrev order : ℕ
+  order = start .args .t .order
+
+  is-order : order ≤ 23
+  is-order = start .pre .1 .0 .order
+
+  so-far : (c .loop .rest ≡ packed (drop (c .loop .k) (sidesIn order))) × Running (start .args .w) order (now (start .args .outline)) (c .loop .m) (c .loop .p) (c .loop .k)
+  so-far =
+      let t = start .pre .1 .0 in
+      c .loop .inv .2 order is-order (sides-after order is-order (start .args .t .k) (omega (arith, t .place)) (t .sides)) (start .pre .1 .1 .1 .1 .1)
+
+-- ---- the side that comes next
+module _ (c : tie.In-loop Inv-loop μ-loop) where
+  abbrev at : tie.At-loop Inv-loop μ-loop
+  at = c .before
+
+  abbrev side : ℕ
+  side = at .loop .rest % 4
+
+  sides : AtSides (start at .args .w) (now (start at .args .outline)) (now (start at .args .numbers)) (now (start at .args .cuts))
+  sides = start at .pre .1 .1 .0
+
+  abbrev Left-by : Places → List ℤ → Type 0
+  Left-by p m =
+      Followed (start at .args .w) (now (start at .args .outline)) (now (start at .args .m)) (start at .args .q) (start at .args .t .rest / 4) (start at .args .t .k + 1) m p (at .loop .rest / 4) (at .loop .k + 1)
+
+  -- what a pass along it leaves
+  left : (p : Places) (m : List ℤ) → Passed (start at .args .w) (now (start at .args .outline)) side (at .loop .m) (at .loop .p) m p → 3 ≤ p .to - p .from → Left-by p m
+  left p m d h o ho e₀ r₀ =
+      let f = at .loop .inv .2 o ho e₀ r₀ in
+      (sides-after o ho (at .loop .k) (c .loop-test .taken) (f .0), run-more ho (c .loop-test .taken) (next-side o ho (at .loop .k) (c .loop-test .taken) (f .0)) d (f .1) h)
+
+cast-side : tie.Need-cast-side Inv-loop μ-loop
+cast-side c = omega arith
+
+shared-slice-read-if1 : tie.Need-shared-slice-read-if1 Inv-loop μ-loop
+shared-slice-read-if1 c = omega (arith, sides (c .before) .cuts-count)
+
+mul-limit-of : tie.Need-mul-limit-of Inv-loop μ-loop
+mul-limit-of c = omega arith
+
+shared-slice-copy-out-limit-of : tie.Need-shared-slice-copy-out-limit-of Inv-loop μ-loop
+shared-slice-copy-out-limit-of c = omega (arith, sides (c .before .before) .numbers-count)
+
+-- the side's number, as it is read
+is-number : (c : tie.After-limit-of-arg Inv-loop μ-loop) → let i = c .before .before .before in toZ w32 (ofZ w32 (getD (now (start (at i) .args .numbers)) (side i) (pos 0))) ≡ numberOf (start (at i) .args .w) (side i)
+is-number c = let i = c .before .before .before in back w32 _ (c .limit-of-arg .given) ∙ sides i .number (side i) (omega arith)
+
+limit-of-requires : tie.Need-limit-of-requires Inv-loop μ-loop
+limit-of-requires c κs =
+    let i = c .before .before .before in
+    (omega arith, subst (Within farthest) (sym (is-number c)) (number-within (start (at i) .args .w) (side i) (start (at i) .pre .0)))
+
+pass-requires : tie.Need-pass-requires Inv-loop μ-loop
+pass-requires c κs =
+    let n = c .before .before in
+    let i = n .before .before .before in
+    let s = start (at i) in
+    let p = s .pre .1 .1 .1 in
+    let r = so-far (at i) .1 in
+    let job : Job (s .args .w) (now (s .args .outline)) (side i) = record { window = s .pre .0; outline = p .0; side = omega arith } in
+    let l = c .before .limit-of .ensures in
+    (job, ((l .0 (s .args .w) (is-number n), l .1), (omega (arith, r .room, p .1 .0, at i .loop .inv .1, i .loop-test .taken), r .held)))
+
+-- ---- after a pass
+module _ (c : tie.After-pass Inv-loop μ-loop) where
+  abbrev within : tie.In-loop Inv-loop μ-loop
+  within = c .before .before .before .before .before .before
+
+  none-left : c .pass .result .to - c .pass .result .from < 3 → Cuts (linesIn (order (at within)) (start (at within) .args .w)) (cornersOf (now (start (at within) .args .outline))) none
+  none-left h =
+      let f = so-far (at within) in
+      run-gone (is-order (at within)) (within .loop-test .taken) (next-side (order (at within)) (is-order (at within)) (at within .loop .k) (within .loop-test .taken) (f .0)) (c .pass .ensures) (f .1) h
+
+-- ---- after a side that cuts nothing off
+over : (c : tie.In-loop Inv-loop μ-loop) → getD (now (start (at c) .args .cuts)) (side c) false ≡ false → Left-by c (at c .loop .p) (at c .loop .m)
+over c e =
+    let l = at c .loop in
+    let r = so-far (at c) .1 in
+    left c (l .p) (l .m) (passed-over (side c) (sides c .uncut (side c) (omega arith) e) r) (omega (arith, r .held .ring .three, ring-length (l .m) (l .p .from) (l .p .to - l .p .from)))
+
+sub-if2 : tie.Need-sub-if2 Inv-loop μ-loop
+sub-if2 c = c .before .before .pass .ensures .order
+
+same-length : tie.Need-same-length Inv-loop μ-loop
+same-length c = let p = c .before .before .before in p .pass .kept .1 .1 .1 .1 .0 ∙ at (within p) .loop .inv .1
+
+returns : tie.Need-returns Inv-loop μ-loop
+returns c = no-area refl (none-left (c .before .before .before) (c .if2 .taken))
+
+add-k-2 : tie.Need-add-k-2 Inv-loop μ-loop
+add-k-2 c = omega arith
+
+loop-less : tie.Need-loop-less Inv-loop μ-loop
+loop-less c = omega arith
+
+loop-again : tie.Need-loop-again Inv-loop μ-loop
+loop-again c =
+    let i = c .before .before in
+    let k : at i .loop .k + 1 ≤ 4 = omega (arith, i .loop-test .taken) in
+    ⊎-elim
+    (λ o. rw (o .8, o .9) (k, o .4 .kept .1 .1 .1 .1 .0 ∙ at i .loop .inv .1, left i (o .4 .result) (o .4 .last .1 .1 .1 .1 .0) (o .4 .ensures) (o .7 .left)))
+    (λ o. rw (o .1, o .2) (k, at i .loop .inv .1, over i (o .0 .left)))
+    (c .if1 .came)
+
+same-length-2 : tie.Need-same-length-2 Inv-loop μ-loop
+same-length-2 c = c .before .loop .inv .1
+
+returns-2 : tie.Need-returns-2 Inv-loop μ-loop
+returns-2 c =
+    let a = c .before in
+    let s = start a in
+    let e : a .loop .k ≡ 4 = omega arith in
+    run-ended (is-order a) (omega (arith, s .pre .1 .1 .1 .1 .0, a .loop .inv .1)) (subst (Running (s .args .w) (order a) (now (s .args .outline)) (a .loop .m) (a .loop .p)) e (so-far a .1))
+
+pub go-on-spec : {M : Type 1} → statement M
+go-on-spec =
+    tie.close
+    (tie.spec
+    Inv-loop
+    μ-loop
+    add-k
+    loop-holds
+    cast-side
+    shared-slice-read-if1
+    mul-limit-of
+    shared-slice-copy-out-limit-of
+    limit-of-requires
+    pass-requires
+    sub-if2
+    same-length
+    returns
+    add-k-2
+    loop-less
+    loop-again
+    same-length-2
+    returns-2)
