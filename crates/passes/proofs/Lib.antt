@@ -10,6 +10,6 @@ pub mod Pieces
 pub mod Owned
 pub mod Ends
 pub mod Passing
-pub mod First
+pub mod FirstPass
 pub mod Corners
 pub mod Running

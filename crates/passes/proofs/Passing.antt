@@ -19,7 +19,7 @@ use Rattle.rings.proofs.Theorems.{rest-inside, rest-outside}
 use Rattle.passes.specs.Memory.{pointIn, ringFrom}
 use Rattle.passes.specs.Orders.{sideLine}
 use Rattle.passes.specs.Outlines.{Job}
-use Rattle.passes.specs.Runs.{Tagged, cornerIn, cornersFrom, pointsOf, Traced, Moved, Goes, Comes, more}
+use Rattle.passes.specs.Runs.{Tagged, cornerIn, cornersFrom, pointsOf, Traced, Brought, Goes, Comes, more}
 use Rattle.passes.specs.Passes.{places, Held, Passed}
 use Rattle.passes.proofs.Memories.{corners-points, corners-split, corners-same, tagged-all, corners-final, ring-split, ring-all}
 use Rattle.passes.proofs.Ends.{Gone, Come}
@@ -72,8 +72,8 @@ module _ {w : Window} {zs : List ℤ} {s : ℕ} (g : Job w zs s) where
   abbrev pub CutOut : List ℤ → ℕ → ℕ → ℕ → ℕ → Type 0
   CutOut m from a b to =
       Held w zs m (places from to) → ((i : ℕ) → from ≤ i → i < a → In h (pointIn m i)) → ((i : ℕ) → a ≤ i → i < b → Out h (pointIn m i)) → (b < to → In h (pointIn m b))
-      → (m₁ m₂ m₃ m₄ : List ℤ) (k second first : ℕ) → a < b - 1 + k → Moved m m₁ a to (a + k) → Come w zs s m₁ (b - 1 + k) (pointIn m (if eqb b to then from else b)) m₂ second
-      → Gone w zs s m₂ (a - 1) m₃ first → Moved m₃ m₄ second (to + k) first → Passed w zs s m (places from to) m₄ (places from (first + (to + k - second)))
+      → (m₁ m₂ m₃ m₄ : List ℤ) (k second first : ℕ) → a < b - 1 + k → Brought m m m₁ a to (a + k) → Come w zs s m₁ (b - 1 + k) (pointIn m (if eqb b to then from else b)) m₂ second
+      → Gone w zs s m₂ (a - 1) m₃ first → Brought m₃ m₃ m₄ second (to + k) first → Passed w zs s m (places from to) m₄ (places from (first + (to + k - second)))
 
   module _ (m : List ℤ) (from x y : ℕ) where
     abbrev a : ℕ
@@ -119,22 +119,22 @@ module _ {w : Window} {zs : List ℤ} {s : ℕ} (g : Job w zs s) where
         let i₀ : a - 1 ≡ from + x = omega arith in
         let stays : cornersFrom m₄ from x ≡ cornersFrom m from x =
         corners-same m m₄ from from x
-        (λ i l. down .before (from + i) (omega (arith, g′ .end)) (omega (arith, g′ .end)) ∙ g′ .before (from + i) (omega arith) ∙ c .others (from + i) (inl (omega arith)) ∙ up .before (from + i) (omega arith) (omega arith)) in
-        let last : cornerIn m₂ (a - 1) ≡ cornerIn m (from + x) = c .others (a - 1) (inl (omega arith)) ∙ up .before (a - 1) (omega arith) (omega arith) ∙ ap (cornerIn m) i₀ in
+        (λ i l. down .before (from + i) (omega (arith, g′ .end)) ∙ g′ .before (from + i) (omega arith) ∙ c .others (from + i) (inl (omega arith)) ∙ up .before (from + i) (omega arith)) in
+        let last : cornerIn m₂ (a - 1) ≡ cornerIn m (from + x) = c .others (a - 1) (inl (omega arith)) ∙ up .before (a - 1) (omega arith) ∙ ap (cornerIn m) i₀ in
         let goes = subst (λ (c : Tagged). Goes w zs s c [] (g′ .t)) last (g′ .goes) in
         let o : b - 1 + k ≡ a + k + y = omega arith in
-        let outer : cornerIn m₁ (b - 1 + k) ≡ cornerIn m (a + y) = ap (cornerIn m₁) o ∙ up .moved y (omega arith) in
+        let outer : cornerIn m₁ (b - 1 + k) ≡ cornerIn m (a + y) = ap (cornerIn m₁) o ∙ up .brought y (omega arith) in
         let comes = subst (λ (q : Tagged). Comes w zs s q (pointIn m (if eqb b (b + z) then from else b)) (c .c)) outer (c .comes) in
         let tail : cornersFrom m₂ (second + cc) z ≡ bs =
         corners-same m m₂ b (second + cc) z
         (λ j l. let i : second + cc + j ≡ a + k + (suc y + j) = omega (arith, c .start) in let i′ : a + (suc y + j) ≡ b + j = omega arith in
-        c .others (second + cc + j) (inr (omega (arith, c .start))) ∙ ap (cornerIn m₁) i ∙ up .moved (suc y + j) (omega arith) ∙ ap (cornerIn m) i′) in
+        c .others (second + cc + j) (inr (omega (arith, c .start))) ∙ ap (cornerIn m₁) i ∙ up .brought (suc y + j) (omega arith) ∙ ap (cornerIn m) i′) in
         let i₁ : first ≡ from + x + gc = omega (arith, g′ .end) in
         let moved : cornersFrom m₄ (from + x + gc) (cc + z) ≡ c .c ++ bs =
-        corners-same m₂ m₄ second (from + x + gc) (cc + z) (λ j l. ap (λ (i : ℕ). cornerIn m₄ (i + j)) (sym i₁) ∙ down .moved j (omega (arith, c .start)) ∙ g′ .after (second + j) (omega arith))
+        corners-same m₂ m₄ second (from + x + gc) (cc + z) (λ j l. ap (λ (i : ℕ). cornerIn m₄ (i + j)) (sym i₁) ∙ down .brought j (omega (arith, c .start)) ∙ g′ .after (second + j) (omega arith))
         ∙ corners-split m₂ second cc z ∙ (λ j. c .stands j ++ tail j) in
         let kept : cornersFrom m₄ (from + x) gc ≡ g′ .t =
-        corners-same m₃ m₄ (a - 1) (from + x) gc (λ j l. down .before (from + x + j) (omega (arith, g′ .end)) (omega (arith, g′ .end)) ∙ ap (λ (i : ℕ). cornerIn m₃ (i + j)) (sym i₀)) ∙ g′ .stands in
+        corners-same m₃ m₄ (a - 1) (from + x) gc (λ j l. down .before (from + x + j) (omega (arith, g′ .end)) ∙ ap (λ (i : ℕ). cornerIn m₃ (i + j)) (sym i₀)) ∙ g′ .stands in
         subst (λ (k : ℕ). Passed w zs s m (places from (b + z)) m₄ (places from k)) end
         (cut-stands z held inside outside back goes comes m₄ from n′ (in-four m₄ from x gc cc z stays kept moved) (omega (arith, g′ .few, c .few)))
 

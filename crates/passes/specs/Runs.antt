@@ -4,7 +4,6 @@
 --   cornersFrom m i n n corners from place i on
 --   pointsOf cs       the corners without their tags
 --   Traced w zs cs    each corner is small, and lies with the next on the line that its tag names, the last with the first
---   Moved m m′ from to at  the corners in m from one place up to another stand in m′ from the place at on, and those before both places are as they were
 --   Brought g m m′ from to at  the corners in g from one place up to another stand in m′ from the place at on, and those before it are as they were in m
 --   Goes w zs s u r t     t is what the side s leaves of u and the corners r, all inside, where the next one lies outside: their last corner, if it lies on the side's
 --                         line, has its next edge on that line, and else the crossing comes after it
@@ -42,10 +41,6 @@ pointsOf (c ∷ cs) = c .point ∷ pointsOf cs
 pub record Traced (w : Window) (zs : List ℤ) (cs : List Tagged) : Type 0 where
   pub small : All (λ c. Small (c .point)) cs
   pub lies : Edges (λ a b. Lies w zs (a .tag) (a .point) (b .point)) cs
-
-pub record Moved (m m′ : List ℤ) (from to at : ℕ) : Type 0 where
-  pub moved : (i : ℕ) → from + i < to → cornerIn m′ (at + i) ≡ cornerIn m (from + i)
-  pub before : (i : ℕ) → i < from → i < at → cornerIn m′ i ≡ cornerIn m i
 
 pub record Brought (g m m′ : List ℤ) (from to at : ℕ) : Type 0 where
   pub brought : (i : ℕ) → from + i < to → cornerIn m′ (at + i) ≡ cornerIn g (from + i)

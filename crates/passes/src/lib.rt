@@ -4,7 +4,7 @@ use grid::Window;
 use limit::Limit;
 ghost use mathlib.Core.Path.{_≡_};
 ghost use mathlib.Core.Bool.{false};
-ghost use Prim.Native.Nat.{ℕ, _+_, _-_, _*_, _/_, _%_, _<_, _≤_};
+ghost use Prim.Native.Nat.{ℕ, _+_, _*_, _/_, _%_, _<_, _≤_};
 ghost use lib.Dec.{eqb};
 ghost use lib.ListN.{length, getD};
 ghost use Rattle.whole.specs.Choice.{if_then_else_};
@@ -16,12 +16,13 @@ ghost use Rattle.corners.specs.Corners.{next};
 ghost use Rattle.passes.specs.Memory.{pointIn};
 ghost use Rattle.passes.specs.Orders.{sideLine, sidesIn, packed, InOrder};
 ghost use Rattle.passes.specs.Outlines.{OutlineOnTable, Reaches, AtSides, Job};
-ghost use Rattle.passes.specs.Tags.{stroke, numberOf, edgeOf, sideOf, tagIn, Named, loadedOf};
+ghost use Rattle.passes.specs.Tags.{stroke, numberOf, edgeOf, sideOf, tagIn, Named};
 ghost use Rattle.passes.specs.Limits.{LimitOnTable, limitLine, RunTo};
-ghost use Rattle.passes.specs.Steps.{pointOf, Meets, Meeting, putAt, Entered, EnteredOwn, Went};
-ghost use Rattle.passes.specs.Runs.{Moved, Brought};
-ghost use Rattle.passes.specs.Passes.{places, Held, Passed, FirstPassed, Running, Ran};
+ghost use Rattle.passes.specs.Steps.{pointOf, Meets, Meeting, putAt, Entered, Went};
+ghost use Rattle.passes.specs.Runs.{Brought};
+ghost use Rattle.passes.specs.Passes.{places, Held, Passed, Running, Ran};
 
+mod first;
 mod limit;
 mod moves;
 mod own;
@@ -276,50 +277,13 @@ fn leave(
     i + 2
 }
 
-// Brings the outline's corners from one up to another into a memory, to begin at the place `at`, each tagged with its own edge.
-fn load(outline: &[i32], from: usize, to: usize, m: &mut [i32], at: usize)
-    requires { ⌜ length (now outline) ≤ 128 ⌝ }
-    requires { ⌜ (from ≤ to) × (to ≤ length (now outline) / 2) ⌝ }
-    requires { ⌜ 4 * (at + (to - from)) ≤ length (now m) ⌝ }
-    ensures { λ _. ⌜ Brought (loadedOf (now (outline .entry))) (now (m .entry)) (now (m .exit)) from to at ⌝ }
-{
-    let mut k = from;
-    let mut i = at;
-    while k < to {
-        let p = Corner {
-            x: outline[2 * k],
-            y: outline[2 * k + 1],
-            den: 1,
-        };
-        put(m, i, p, k as i32);
-        k += 1;
-        i += 1;
-    }
-}
-
-// Where the ring comes in along the outline's edge from its corner k outside: the crossing is put at the place `at`, unless the corner there,
-// the next one, lies on the limit. What comes after it has the place answered.
-fn enter_own(l: Limit, outline: &[i32], k: usize, m: &mut [i32], at: usize, there: bool) -> usize
-    requires { ⌜ OutlineOnTable (now outline) ⌝ }
-    requires { ⌜ LimitOnTable l ⌝ }
-    requires { ⌜ k < length (now outline) / 2 ⌝ }
-    requires { ⌜ 4 * at + 4 ≤ length (now m) ⌝ }
-    ensures { λ r. ⌜ EnteredOwn (now (outline .entry)) (limitLine l) there k (now (m .entry)) at (now (m .exit)) r ⌝ }
-{
-    if there {
-        return at;
-    }
-    put(m, at, edge_crossing(l, outline, k), k as i32);
-    at + 1
-}
-
 // Where the run outside, from the place a to the place last, is only one corner, all from it on move up by one place, so that two crossings have
 // room. By so many places they have moved.
 fn make_room(m: &mut [i32], a: usize, last: usize, to: usize) -> usize
     requires { ⌜ (a ≤ last) × (last < to) ⌝ }
     requires { ⌜ 4 * to + 4 ≤ length (now m) ⌝ }
     ensures { λ r. ⌜ (r ≤ 1) × (a < last + r) ⌝ }
-    ensures { λ r. ⌜ Moved (now (m .entry)) (now (m .exit)) a to (a + r) ⌝ }
+    ensures { λ r. ⌜ Brought (now (m .entry)) (now (m .entry)) (now (m .exit)) a to (a + r) ⌝ }
 {
     if a < last {
         return 0;
@@ -400,69 +364,6 @@ fn keep_run(
         from: start,
         to: end,
     }
-}
-
-// The first pass, over an outline of which the corners before a lie inside and a outside: these, the crossings, and what comes after the run outside.
-fn first_cut(w: Window, side: usize, outline: &[i32], l: Limit, m: &mut [i32], a: usize) -> Places
-    requires { ⌜ Job w (now outline) side ⌝ }
-    requires { ⌜ (limitLine l ≡ sideLine w side) × LimitOnTable l ⌝ }
-    requires { ⌜ 2 * length (now outline) + 4 ≤ length (now m) ⌝ }
-    requires { ⌜ (0 < a) × (a < length (now outline) / 2) × RunTo (limitLine l) (loadedOf (now outline)) false 0 (length (now outline) / 2) a ⌝ }
-    ensures { λ r. ⌜ FirstPassed w (now (outline .entry)) side (now (m .exit)) r ⌝ }
-{
-    let n = outline.len() / 2;
-    let b = own::end_of_run(l, outline, a + 1, n, true);
-    let here = own::touches(l, outline, a - 1);
-    let there = own::touches(l, outline, after(b, 0, n));
-    load(outline, 0, a, m, 0);
-    let first = leave(w, side, l, outline, m, a - 1, here);
-    let second = enter_own(l, outline, b - 1, m, first, there);
-    load(outline, b, n, m, second);
-    Places {
-        from: 0,
-        to: second + (n - b),
-    }
-}
-
-// The first pass, over an outline of which the first corner lies outside: the run inside, between the crossings.
-fn first_keep(w: Window, side: usize, outline: &[i32], l: Limit, m: &mut [i32]) -> Places
-    requires { ⌜ Job w (now outline) side ⌝ }
-    requires { ⌜ (limitLine l ≡ sideLine w side) × LimitOnTable l ⌝ }
-    requires { ⌜ 2 * length (now outline) + 4 ≤ length (now m) ⌝ }
-    requires { ⌜ Out (limitLine l) (pointIn (loadedOf (now outline)) 0) ⌝ }
-    ensures { λ r. ⌜ FirstPassed w (now (outline .entry)) side (now (m .exit)) r ⌝ }
-{
-    let n = outline.len() / 2;
-    let s = own::end_of_run(l, outline, 1, n, true);
-    if s == n {
-        return Places { from: 0, to: 0 };
-    }
-    let e = own::end_of_run(l, outline, s + 1, n, false);
-    let there = own::touches(l, outline, s);
-    let here = own::touches(l, outline, e - 1);
-    let start = enter_own(l, outline, s - 1, m, 0, there);
-    load(outline, s, e, m, start);
-    let end = leave(w, side, l, outline, m, start + (e - s) - 1, here);
-    Places { from: 0, to: end }
-}
-
-// The first pass: what a side leaves of the outline, of which a memory then has only that.
-fn first_pass(w: Window, side: usize, outline: &[i32], l: Limit, m: &mut [i32]) -> Places
-    requires { ⌜ Job w (now outline) side ⌝ }
-    requires { ⌜ (limitLine l ≡ sideLine w side) × LimitOnTable l ⌝ }
-    requires { ⌜ 2 * length (now outline) + 4 ≤ length (now m) ⌝ }
-    ensures { λ r. ⌜ FirstPassed w (now (outline .entry)) side (now (m .exit)) r ⌝ }
-{
-    let n = outline.len() / 2;
-    let a = own::end_of_run(l, outline, 0, n, false);
-    if a == n {
-        load(outline, 0, n, m, 0);
-        return Places { from: 0, to: n };
-    }
-    if a == 0 {
-        return first_keep(w, side, outline, l, m);
-    }
-    first_cut(w, side, outline, l, m, a)
 }
 
 // One pass: what a side leaves of the ring in a memory.
@@ -562,7 +463,7 @@ fn cut_along(
 {
     let t = first_turn(order, cuts);
     let side = (t.rest % 4) as usize;
-    let p = first_pass(w, side, outline, limit_of(side, numbers[side]), m);
+    let p = first::pass(w, side, outline, limit_of(side, numbers[side]), m);
     if p.to - p.from < 3 {
         return Places { from: 0, to: 0 };
     }

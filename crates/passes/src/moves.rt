@@ -5,7 +5,7 @@ ghost use lib.ListN.{length};
 ghost use Rattle.passes.specs.Memory.{pointIn};
 ghost use Rattle.passes.specs.Tags.{tagIn};
 ghost use Rattle.passes.specs.Steps.{putAt};
-ghost use Rattle.passes.specs.Runs.{Moved};
+ghost use Rattle.passes.specs.Runs.{Brought};
 
 // Copies the corner at the place i to the place k.
 fn copy(m: &mut [i32], i: usize, k: usize)
@@ -30,7 +30,7 @@ pub fn move_down(m: &mut [i32], from: usize, to: usize, at: usize)
     requires { ⌜ at ≤ from ⌝ }
     requires { ⌜ from ≤ to ⌝ }
     requires { ⌜ 4 * to ≤ length (now m) ⌝ }
-    ensures { λ _. ⌜ Moved (now (m .entry)) (now (m .exit)) from to at ⌝ }
+    ensures { λ _. ⌜ Brought (now (m .entry)) (now (m .entry)) (now (m .exit)) from to at ⌝ }
 {
     if at == from {
         return;
@@ -48,7 +48,7 @@ pub fn move_down(m: &mut [i32], from: usize, to: usize, at: usize)
 pub fn move_up(m: &mut [i32], from: usize, to: usize)
     requires { ⌜ from ≤ to ⌝ }
     requires { ⌜ 4 * to + 4 ≤ length (now m) ⌝ }
-    ensures { λ _. ⌜ Moved (now (m .entry)) (now (m .exit)) from to (from + 1) ⌝ }
+    ensures { λ _. ⌜ Brought (now (m .entry)) (now (m .entry)) (now (m .exit)) from to (from + 1) ⌝ }
 {
     let mut i = to;
     while from < i {

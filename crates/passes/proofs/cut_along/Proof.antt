@@ -81,8 +81,8 @@ limit-of-requires c κs =
     let f = c .before .before in
     (omega arith, subst (Within farthest) (sym (is-number c)) (number-within (start f .args .w) (side f) (start f .pre .0)))
 
-first-pass-requires : tie.Need-first-pass-requires
-first-pass-requires c κs =
+pass-requires : tie.Need-pass-requires
+pass-requires c κs =
     let n = c .before .before in
     let f = n .before .before in
     let s = start f in
@@ -92,15 +92,15 @@ first-pass-requires c κs =
     (job, ((l .0 (s .args .w) (is-number n), l .1), omega (arith, p .1)))
 
 -- ---- after the first pass
-module _ (c : tie.After-first-pass) where
+module _ (c : tie.After-pass) where
   abbrev turn : tie.After-first-turn
   turn = c .before .before .before .before .before
 
-  size : length (c .first-pass .last .1 .1 .1 .1 .0) ≡ length (now (start turn .args .m))
-  size = c .first-pass .kept .1 .1 .1 .1 .0
+  size : length (c .pass .last .1 .1 .1 .1 .0) ≡ length (now (start turn .args .m))
+  size = c .pass .kept .1 .1 .1 .1 .0
 
 sub-if1 : tie.Need-sub-if1
-sub-if1 c = c .before .before .first-pass .ensures .order
+sub-if1 c = c .before .before .pass .ensures .order
 
 same-length : tie.Need-same-length
 same-length c = size (c .before .before .before)
@@ -109,7 +109,7 @@ returns : tie.Need-returns
 returns c =
     let p = c .before .before .before in
     let f = turn p in
-    no-area refl (subst (λ (o : ℕ). Cuts (linesIn o (start f .args .w)) (cornersOf (zs f)) none) (is-order f) (run-gone (order f) (omega (arith, place f)) (is-next f) (p .first-pass .ensures) (skipped f) (c .if1 .taken)))
+    no-area refl (subst (λ (o : ℕ). Cuts (linesIn o (start f .args .w)) (cornersOf (zs f)) none) (is-order f) (run-gone (order f) (omega (arith, place f)) (is-next f) (p .pass .ensures) (skipped f) (c .if1 .taken)))
 
 go-on-requires : tie.Need-go-on-requires
 go-on-requires c κs =
@@ -125,7 +125,7 @@ go-on-requires c κs =
             s .pre .1 .1 .1 .0,
             (
               omega (arith, s .pre .1 .1 .1 .1, size p),
-              run-more (order f) (omega (arith, place f)) (is-next f) (p .first-pass .ensures) (skipped f) (c .before .if1 .left),
+              run-more (order f) (omega (arith, place f)) (is-next f) (p .pass .ensures) (skipped f) (c .before .if1 .left),
             ),
           ),
         ),
@@ -149,7 +149,7 @@ cut-along-spec =
     mul-limit-of
     shared-slice-copy-out-limit-of
     limit-of-requires
-    first-pass-requires
+    pass-requires
     sub-if1
     same-length
     returns

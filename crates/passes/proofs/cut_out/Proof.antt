@@ -18,7 +18,7 @@ use Rattle.passes.specs.Memory.{pointIn, Small}
 use Rattle.passes.specs.Orders.{sideLine}
 use Rattle.passes.specs.Tags.{tagIn, Named}
 use Rattle.passes.specs.Limits.{LimitOnTable}
-use Rattle.passes.specs.Runs.{Tagged, cornerIn, Moved}
+use Rattle.passes.specs.Runs.{Tagged, cornerIn, Brought}
 use Rattle.passes.specs.Passes.{places, Held}
 use Rattle.passes.proofs.Corners.{small-in, named-in}
 use Rattle.passes.proofs.Ends.{Gone, Come, gone, come}
@@ -145,7 +145,7 @@ module _ (c : tie.After-make-room) where
   size₁ : length m₁ ≡ length (m s₁)
   size₁ = c .make-room .kept .0
 
-  up : Moved (m s₁) m₁ (s₁ .args .a) (s₁ .args .to) (s₁ .args .a + k)
+  up : Brought (m s₁) (m s₁) m₁ (s₁ .args .a) (s₁ .args .to) (s₁ .args .a + k)
   up = c .make-room .ensures .1
 
   on-there : Decides (there .touches2 .result) (On (h s₁) (pointIn (m s₁) (next found)))
@@ -159,7 +159,7 @@ module _ (c : tie.After-make-room) where
   last-out =
       let i : o ≡ s₁ .args .a + k + (b found - 1 - s₁ .args .a) = omega (arith, after-a found) in
       let j : s₁ .args .a + (b found - 1 - s₁ .args .a) ≡ b found - 1 = omega (arith, after-a found) in
-      ap (cornerIn m₁) i ∙ up .moved (b found - 1 - s₁ .args .a) (omega (arith, after-a found, to-end found)) ∙ ap (cornerIn (m s₁)) j
+      ap (cornerIn m₁) i ∙ up .brought (b found - 1 - s₁ .args .a) (omega (arith, after-a found, to-end found)) ∙ ap (cornerIn (m s₁)) j
 
   last-named : Named (s₁ .args .w) (now (s₁ .args .outline)) (tagIn m₁ o)
   last-named =
@@ -196,7 +196,7 @@ module _ (c : tie.After-enter) where
   last-in =
       let l = after-from (s₁ room) in
       let two = c .before .before .before .make-room .ensures .0 .1 in
-      came .others (s₁ room .args .a - 1) (inl (omega arith)) ∙ up room .before (s₁ room .args .a - 1) (omega arith) (omega arith)
+      came .others (s₁ room .args .a - 1) (inl (omega arith)) ∙ up room .before (s₁ room .args .a - 1) (omega arith)
 
 sub-leave : tie.Need-sub-leave
 sub-leave c = omega (arith, after-from (s₁ (room (c .before .before))))

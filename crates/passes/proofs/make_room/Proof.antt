@@ -8,7 +8,7 @@ use Rattle.passes.proofs.make_room.Statement.{statement}
 use Rattle.passes.proofs.make_room.Tie as tie
 
 returns : tie.Need-returns
-returns c = ((omega arith, omega (arith, c .if1 .taken)), record { moved = λ i h. ap (cornerIn (now (c .before .args .m))) (omega arith); before = λ i h l. refl })
+returns c = ((omega arith, omega (arith, c .if1 .taken)), record { brought = λ i h. ap (cornerIn (now (c .before .args .m))) (omega arith); before = λ i h. refl })
 
 move-up-requires : tie.Need-move-up-requires
 move-up-requires c κs = search needs

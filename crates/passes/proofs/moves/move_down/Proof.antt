@@ -24,7 +24,7 @@ abbrev μ-loop : tie.MeasureT-loop
 μ-loop m₀ from to at i₀ k₀ m i k = to - i
 
 returns : tie.Need-returns Inv-loop μ-loop
-returns c = let a = c .before .args in record { moved = λ j h. ap (λ (k : ℕ). cornerIn (now (a .m)) (k + j)) (c .if1 .taken); before = λ j h l. refl }
+returns c = let a = c .before .args in record { brought = λ j h. ap (λ (k : ℕ). cornerIn (now (a .m)) (k + j)) (c .if1 .taken); before = λ j h. refl }
 
 loop-holds : tie.Need-loop-holds Inv-loop μ-loop
 loop-holds c = (omega arith, c .before .pre .1 .0, omega arith, refl, λ j h. refl, λ j h. absurd (omega arith), λ j h. refl)
@@ -77,7 +77,7 @@ same-length c = c .before .loop .inv .3
 returns-2 : tie.Need-returns-2 Inv-loop μ-loop
 returns-2 c =
     let v = c .before .loop in
-    record { moved = λ j h. v .inv .5 j (omega (arith, c .loop-test .left)); before = λ j h l. v .inv .4 j l }
+    record { brought = λ j h. v .inv .5 j (omega (arith, c .loop-test .left)); before = λ j h. v .inv .4 j h }
 
 pub move-down-spec : {M : Type 1} → statement M
 move-down-spec = tie.close (tie.spec Inv-loop μ-loop returns loop-holds copy-requires add-i add-k loop-less loop-again same-length returns-2)

@@ -1,4 +1,4 @@
--- `passes::moves::move_up` meets its contract: the corners from i on have moved, and those before i are as they were. Assumes nothing.
+-- `passes::moves::move_up` meets its contract: the corners from i on have moved, and those up to i are as they were. Assumes nothing.
 use mathlib.Core.Path.{_≡_, refl, ap, _∙_}
 use mathlib.Core.Logic.{_⊎_, inl, inr, ⊎-elim}
 use Prim.Native.Nat.{ℕ, suc, _+_, _-_, _<_, _≤_}
@@ -17,7 +17,7 @@ first-or-later k i l h = ⊎-elim (λ e. inl (omega arith)) (λ b. inr (omega ar
 
 abbrev Inv-loop : tie.InvT-loop
 Inv-loop m₀ from to i₀ m i =
-    (from ≤ i) × (i ≤ to) × (length m ≡ length m₀) × ((k : ℕ) → k < i → cornerIn m k ≡ cornerIn m₀ k) × ((k : ℕ) → i ≤ k → k < to → cornerIn m (suc k) ≡ cornerIn m₀ k)
+    (from ≤ i) × (i ≤ to) × (length m ≡ length m₀) × ((k : ℕ) → k ≤ i → cornerIn m k ≡ cornerIn m₀ k) × ((k : ℕ) → i ≤ k → k < to → cornerIn m (suc k) ≡ cornerIn m₀ k)
 
 abbrev μ-loop : tie.MeasureT-loop
 μ-loop m₀ from to i₀ m i = i
@@ -64,8 +64,8 @@ returns c =
     let v = c .before .loop in
     let a = c .before .before .args in
     record {
-      moved = λ k h. ap (cornerIn (v .m)) (omega arith) ∙ v .inv .4 (a .from + k) (omega (arith, c .loop-test .left)) h;
-      before = λ k h l. v .inv .3 k (omega (arith, v .inv .0));
+      brought = λ k h. ap (cornerIn (v .m)) (omega arith) ∙ v .inv .4 (a .from + k) (omega (arith, c .loop-test .left)) h;
+      before = λ k h. v .inv .3 k (omega (arith, v .inv .0));
     }
 
 pub move-up-spec : {M : Type 1} → statement M

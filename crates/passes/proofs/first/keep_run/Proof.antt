@@ -1,4 +1,4 @@
--- `passes::first_keep` meets its contract: what each worker tells of the outline and of its memory makes the pass. Assumes nothing.
+-- `passes::first::keep_run` meets its contract: what each worker tells of the outline and of its memory makes the pass. Assumes nothing.
 use mathlib.Core.Path.{_≡_, sym, ap, _∙_, subst}
 use mathlib.Core.List.{List}
 use mathlib.Core.Logic.{⊎-elim}
@@ -20,10 +20,10 @@ use Rattle.passes.proofs.Corners.{named-in}
 use Rattle.passes.proofs.Owned.{loaded-of}
 use Rattle.passes.proofs.Ends.{Gone, CameOwn, gone, came-own}
 use Rattle.passes.proofs.Passing.{leaves-none}
-use Rattle.passes.proofs.First.{first-keep}
+use Rattle.passes.proofs.FirstPass.{first-keep}
 use Rattle.passes.proofs.Running.{loaded-held}
-use Rattle.passes.proofs.first_keep.Statement.{statement}
-use Rattle.passes.proofs.first_keep.Tie as tie
+use Rattle.passes.proofs.first.keep_run.Statement.{statement}
+use Rattle.passes.proofs.first.keep_run.Tie as tie
 
 -- ---- what the call is given
 module _ (s : tie.Start) where
@@ -130,17 +130,17 @@ sub-touches c = omega (arith, after-f (c .before))
 touches-requires-2 : tie.Need-touches-requires-2
 touches-requires-2 c κs = let k = c .before in (s₁ k .pre .1 .0 .1, omega (arith, after-f k, to-end k))
 
-sub-enter-own : tie.Need-sub-enter-own
-sub-enter-own c = after-first (first (some-in (c .before .before)))
+sub-enter : tie.Need-sub-enter
+sub-enter c = after-first (first (some-in (c .before .before)))
 
-enter-own-requires : tie.Need-enter-own-requires
-enter-own-requires c κs =
+enter-requires : tie.Need-enter-requires
+enter-requires c κs =
     let k = c .before .before .before in
     let s = s₁ k in
     (s .pre .0 .outline, (s .pre .1 .0 .1, (omega (arith, before-end (some-in k)), omega (arith, fits s))))
 
 -- ---- the memories
-module _ (c : tie.After-enter-own) where
+module _ (c : tie.After-enter) where
   abbrev here : tie.After-touches2
   here = c .before .before
 
@@ -154,18 +154,18 @@ module _ (c : tie.After-enter-own) where
   s₂ = s₁ found
 
   abbrev m₁ : List ℤ
-  m₁ = c .enter-own .last .1 .1 .1 .0
+  m₁ = c .enter .last .1 .1 .1 .0
 
   abbrev begin : ℕ
-  begin = c .enter-own .result
+  begin = c .enter .result
 
   size₁ : length m₁ ≡ length (now (s₂ .args .m))
-  size₁ = c .enter-own .kept .1 .1 .1 .0
+  size₁ = c .enter .kept .1 .1 .1 .0
 
   came : CameOwn (s₂ .args .w) (zs s₂) (s₂ .args .side) (g s₂) (f₁ found - 1) (pointIn (g s₂) (f₁ found)) (now (s₂ .args .m)) 0 m₁ begin
   came =
       came-own (s₂ .pre .1 .0 .0) (omega (arith, before-end (some-in found))) (omega (arith, fits s₂))
-      (subst (λ (h : Line). Decides (there .touches .result) (On h (pointIn (g s₂) (f₁ found)))) (s₂ .pre .1 .0 .0) (there .touches .ensures)) (comes-in (some-in found)) (c .enter-own .ensures)
+      (subst (λ (h : Line). Decides (there .touches .result) (On h (pointIn (g s₂) (f₁ found)))) (s₂ .pre .1 .0 .0) (there .touches .ensures)) (comes-in (some-in found)) (c .enter .ensures)
 
   begin-low : begin ≤ 1
   begin-low = omega (arith, came .end, came .few)
@@ -178,7 +178,7 @@ load-requires c κs =
     (few s, ((omega (arith, after-f k), to-end k), omega (arith, begin-low e₁, size₁ e₁, fits s, after-f k, to-end k)))
 
 module _ (c : tie.After-load) where
-  abbrev entered : tie.After-enter-own
+  abbrev entered : tie.After-enter
   entered = c .before .before .before
 
   abbrev s₃ : tie.Start
@@ -255,8 +255,8 @@ returns-2 c =
     gone (leave-fits l) on (subst (In (h s)) (sym p) (all-in k (e k - 1) (omega (arith, after-f k)) (omega (arith, after-f k)))) (c .before .leave .ensures) in
     first-keep (s .pre .0) (g s) (after-first (first (some-in k))) (after-f k) (to-end k) (held s) (all-out (first (some-in k))) (all-in k) (out-again k) (now (s .args .m)) (m₁ d) (m₂ l) (c .before .leave .last .1 .1 .1 .1 .0) (begin d) (c .before .leave .result) (came d) (l .load .ensures) went
 
-pub first-keep-spec : {M : Type 1} → statement M
-first-keep-spec =
+pub keep-run-spec : {M : Type 1} → statement M
+keep-run-spec =
     tie.close
     (tie.spec
     end-of-run-requires
@@ -266,8 +266,8 @@ first-keep-spec =
     touches-requires
     sub-touches
     touches-requires-2
-    sub-enter-own
-    enter-own-requires
+    sub-enter
+    enter-requires
     load-requires
     sub-leave
     add-leave

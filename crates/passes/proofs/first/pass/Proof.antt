@@ -1,4 +1,4 @@
--- `passes::first_pass` meets its contract: the first run of corners inside is all of them, none, or some, and each has its worker. Assumes nothing.
+-- `passes::first::pass` meets its contract: the first run of corners inside is all of them, none, or some, and each has its worker. Assumes nothing.
 use mathlib.Core.Path.{_≡_, sym, subst}
 use mathlib.Core.List.{List}
 use mathlib.Core.Logic.{⊎-elim}
@@ -15,10 +15,10 @@ use Rattle.passes.specs.Tags.{loadedOf}
 use Rattle.passes.specs.Limits.{limitLine}
 use Rattle.passes.specs.Runs.{Brought}
 use Rattle.passes.proofs.Owned.{loaded-of}
-use Rattle.passes.proofs.First.{first-all}
+use Rattle.passes.proofs.FirstPass.{first-all}
 use Rattle.passes.proofs.Running.{loaded-held}
-use Rattle.passes.proofs.first_pass.Statement.{statement}
-use Rattle.passes.proofs.first_pass.Tie as tie
+use Rattle.passes.proofs.first.pass.Statement.{statement}
+use Rattle.passes.proofs.first.pass.Tie as tie
 
 end-of-run-requires : tie.Need-end-of-run-requires
 end-of-run-requires c κs = (c .pre .1 .0 .1, (omega arith, omega arith))
@@ -41,8 +41,8 @@ returns c =
 before-end : (c : tie.Else1) → c .before .end-of-run .result < length (now (c .before .before .args .outline)) / 2
 before-end c = ⊎-elim (λ q. absurd (c .if1 .left q)) (λ l. l) (eq-or-lt-of-le (c .before .end-of-run .ensures .below))
 
-first-keep-requires : tie.Need-first-keep-requires
-first-keep-requires c κs =
+keep-run-requires : tie.Need-keep-run-requires
+keep-run-requires c κs =
     let e = c .before .before in
     let s = e .before .before in
     (s .pre .0, (s .pre .1 .0, (s .pre .1 .1, subst (λ (i : ℕ). Out (limitLine (s .args .l)) (pointIn (loadedOf (now (s .args .outline))) i)) (c .before .if2 .taken) (e .before .end-of-run .ensures .ends (before-end e)))))
@@ -53,8 +53,8 @@ same-length-2 c = search needs
 returns-2 : tie.Need-returns-2
 returns-2 c = search needs
 
-first-cut-requires : tie.Need-first-cut-requires
-first-cut-requires c κs =
+cut-out-requires : tie.Need-cut-out-requires
+cut-out-requires c κs =
     let e = c .before .before in
     let r = e .before in
     let s = r .before in
@@ -67,5 +67,5 @@ same-length-3 c = search needs
 returns-3 : tie.Need-returns-3
 returns-3 c = search needs
 
-pub first-pass-spec : {M : Type 1} → statement M
-first-pass-spec = tie.close (tie.spec end-of-run-requires load-requires same-length returns first-keep-requires same-length-2 returns-2 first-cut-requires same-length-3 returns-3)
+pub pass-spec : {M : Type 1} → statement M
+pass-spec = tie.close (tie.spec end-of-run-requires load-requires same-length returns keep-run-requires same-length-2 returns-2 cut-out-requires same-length-3 returns-3)

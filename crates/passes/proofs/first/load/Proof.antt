@@ -1,4 +1,4 @@
--- `passes::load` meets its contract: the corners before k stand in the memory, and what stood before them still does. Assumes nothing.
+-- `passes::first::load` meets its contract: the corners before k stand in the memory, and what stood before them still does. Assumes nothing.
 use mathlib.Core.Path.{_≡_, refl, sym, ap, _∙_, subst}
 use mathlib.Core.List.{List}
 use mathlib.Core.Logic.{inl, ⊎-elim}
@@ -17,8 +17,8 @@ use Rattle.passes.specs.Steps.{putAt}
 use Rattle.passes.specs.Runs.{Tagged, tagged, cornerIn, Brought}
 use Rattle.passes.proofs.Memories.{Put, put-at}
 use Rattle.passes.proofs.Owned.{loaded-of}
-use Rattle.passes.proofs.load.Statement.{statement}
-use Rattle.passes.proofs.load.Tie as tie
+use Rattle.passes.proofs.first.load.Statement.{statement}
+use Rattle.passes.proofs.first.load.Tie as tie
 
 abbrev Inv-loop : tie.InvT-loop
 Inv-loop outline from to m₀ at k₀ i₀ m k i = (from ≤ k) × (k ≤ to) × (i + from ≡ at + k) × (length m ≡ length m₀) × Brought (loadedOf outline) m₀ m from k at

@@ -1,4 +1,4 @@
--- `passes::enter_own` meets its contract: each return is one case, by the test that led there. Assumes nothing.
+-- `passes::first::enter` meets its contract: each return is one case, by the test that led there. Assumes nothing.
 use mathlib.Core.Path.{_≡_, sym, ap, _∙_, subst}
 use mathlib.Core.List.{List}
 use Prim.Native.Nat.{_+_}
@@ -10,8 +10,8 @@ use mir.Syntax.{w32}
 use mir.Facts.{toZ-pos}
 use Rattle.passes.specs.Limits.{limitLine}
 use Rattle.passes.specs.Steps.{pointOf, putAt, EnteredOwn, on-line, crosses}
-use Rattle.passes.proofs.enter_own.Statement.{statement}
-use Rattle.passes.proofs.enter_own.Tie as tie
+use Rattle.passes.proofs.first.enter.Statement.{statement}
+use Rattle.passes.proofs.first.enter.Tie as tie
 
 returns : tie.Need-returns
 returns c = on-line (c .if1 .taken)
@@ -41,5 +41,5 @@ returns-2 c =
     c .before .put .ensures ∙ ap (putAt m (s .args .at) p) (toZ-pos w32 {n = s .args .k} (omega (arith, s .pre .1 .1 .0, s .pre .0 .corners .few))) in
     subst (λ (m′ : List ℤ). EnteredOwn (now (s .args .outline)) (limitLine (s .args .l)) (s .args .there) (s .args .k) m (s .args .at) m′ (s .args .at + 1)) (sym wrote) (crosses (e .before .before .if1 .left) (e .edge-crossing .ensures))
 
-pub enter-own-spec : {M : Type 1} → statement M
-enter-own-spec = tie.close (tie.spec returns edge-crossing-requires cast-put put-requires add-result same-length returns-2)
+pub enter-spec : {M : Type 1} → statement M
+enter-spec = tie.close (tie.spec returns edge-crossing-requires cast-put put-requires add-result same-length returns-2)

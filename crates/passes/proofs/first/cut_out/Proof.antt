@@ -1,4 +1,4 @@
--- `passes::first_cut` meets its contract: what each worker tells of the outline and of its memory makes the pass. Assumes nothing.
+-- `passes::first::cut_out` meets its contract: what each worker tells of the outline and of its memory makes the pass. Assumes nothing.
 use mathlib.Core.Path.{_≡_, sym, ap, _∙_, subst, transport}
 use mathlib.Core.List.{List}
 use mathlib.Core.Logic.{⊎-elim}
@@ -23,10 +23,10 @@ use Rattle.passes.specs.Passes.{places, Held}
 use Rattle.passes.proofs.Corners.{named-in}
 use Rattle.passes.proofs.Owned.{loaded-of}
 use Rattle.passes.proofs.Ends.{Gone, CameOwn, gone, came-own}
-use Rattle.passes.proofs.First.{first-cut}
+use Rattle.passes.proofs.FirstPass.{first-cut}
 use Rattle.passes.proofs.Running.{loaded-held}
-use Rattle.passes.proofs.first_cut.Statement.{statement}
-use Rattle.passes.proofs.first_cut.Tie as tie
+use Rattle.passes.proofs.first.cut_out.Statement.{statement}
+use Rattle.passes.proofs.first.cut_out.Tie as tie
 
 -- ---- what the call is given
 module _ (s : tie.Start) where
@@ -200,13 +200,13 @@ module _ (c : tie.After-leave) where
   last-out : b (found loaded) - 1 < n s₂
   last-out = omega (arith, after-a (found loaded), to-end (found loaded))
 
-sub-enter-own : tie.Need-sub-enter-own
-sub-enter-own c = omega (arith, after-a (found (loaded (c .before))))
+sub-enter : tie.Need-sub-enter
+sub-enter c = omega (arith, after-a (found (loaded (c .before))))
 
-enter-own-requires : tie.Need-enter-own-requires
-enter-own-requires c κs = let l = c .before .before in let s = s₂ l in (s .pre .0 .outline, (s .pre .1 .0 .1, (last-out l, enter-fits l)))
+enter-requires : tie.Need-enter-requires
+enter-requires c κs = let l = c .before .before in let s = s₂ l in (s .pre .0 .outline, (s .pre .1 .0 .1, (last-out l, enter-fits l)))
 
-module _ (c : tie.After-enter-own) where
+module _ (c : tie.After-enter) where
   abbrev gone-out : tie.After-leave
   gone-out = c .before .before .before
 
@@ -217,16 +217,16 @@ module _ (c : tie.After-enter-own) where
   b₃ = b (found (loaded gone-out))
 
   abbrev m₃ : List ℤ
-  m₃ = c .enter-own .last .1 .1 .1 .0
+  m₃ = c .enter .last .1 .1 .1 .0
 
   size₃ : length m₃ ≡ length (now (s₃ .args .m))
-  size₃ = c .enter-own .kept .1 .1 .1 .0 ∙ size₂ gone-out
+  size₃ = c .enter .kept .1 .1 .1 .0 ∙ size₂ gone-out
 
-  came : CameOwn (s₃ .args .w) (zs s₃) (s₃ .args .side) (g s₃) (b₃ - 1) (pointIn (g s₃) (next (found (loaded gone-out)))) (m₂ gone-out) (gone-out .leave .result) m₃ (c .enter-own .result)
-  came = came-own (s₃ .pre .1 .0 .0) (last-out gone-out) (enter-fits gone-out) (on-there (loaded gone-out)) (next-of-ring (found (loaded gone-out)) .1) (c .enter-own .ensures)
+  came : CameOwn (s₃ .args .w) (zs s₃) (s₃ .args .side) (g s₃) (b₃ - 1) (pointIn (g s₃) (next (found (loaded gone-out)))) (m₂ gone-out) (gone-out .leave .result) m₃ (c .enter .result)
+  came = came-own (s₃ .pre .1 .0 .0) (last-out gone-out) (enter-fits gone-out) (on-there (loaded gone-out)) (next-of-ring (found (loaded gone-out)) .1) (c .enter .ensures)
 
   -- what is left has at most one corner more
-  all-fit : c .enter-own .result + (n s₃ - b₃) ≤ n s₃ + 1
+  all-fit : c .enter .result + (n s₃ - b₃) ≤ n s₃ + 1
   all-fit = omega (arith, came .end, came .few, first-low gone-out, after-a (found (loaded gone-out)), to-end (found (loaded gone-out)))
 
 load-requires-2 : tie.Need-load-requires-2
@@ -251,11 +251,11 @@ returns c =
     let d = loaded l in
     let f = found d in
     let s = s₃ e in
-    first-cut (s .pre .0) (g s) (some s) (after-a f) (to-end f) (held s) (first-in s) (all-out f) (back-in f) (now (s .args .m)) (m₁ d) (m₂ l) (m₃ e) (c .before .load2 .last .1 .1 .1 .0) (l .leave .result) (e .enter-own .result)
+    first-cut (s .pre .0) (g s) (some s) (after-a f) (to-end f) (held s) (first-in s) (all-out f) (back-in f) (now (s .args .m)) (m₁ d) (m₂ l) (m₃ e) (c .before .load2 .last .1 .1 .1 .0) (l .leave .result) (e .enter .result)
     (d .load .ensures) (went l) (came e) (c .before .load2 .ensures)
 
-pub first-cut-spec : {M : Type 1} → statement M
-first-cut-spec =
+pub cut-out-spec : {M : Type 1} → statement M
+cut-out-spec =
     tie.close
     (tie.spec
     add-end-of-run
@@ -267,8 +267,8 @@ first-cut-spec =
     load-requires
     sub-leave
     leave-requires
-    sub-enter-own
-    enter-own-requires
+    sub-enter
+    enter-requires
     load-requires-2
     sub-t13
     add-t23
