@@ -14,7 +14,6 @@ use Rattle.rings.specs.Lists.{All, ∅, _◂_, nothing}
 use Rattle.rings.specs.Points.{Point, Line, In, Out}
 use Rattle.rings.specs.Rings.{Ring}
 use Rattle.rings.specs.Cuts.{CutBy}
-use Rattle.rings.proofs.Lists.{final}
 use Rattle.rings.proofs.Theorems.{rest-inside, rest-outside}
 use Rattle.passes.specs.Memory.{pointIn, ringFrom}
 use Rattle.passes.specs.Orders.{sideLine}

@@ -1,13 +1,13 @@
 -- `passes::first_turn` meets its contract: no side before the k-th cuts, and those from it on are packed in the rest. Assumes nothing.
-use mathlib.Core.Path.{_≡_, refl, ap, _∙_, subst}
+use mathlib.Core.Path.{_≡_, refl, subst}
 use mathlib.Core.Bool.{Bool, false}
 use mathlib.Core.List.{List}
-use Prim.Native.Nat.{ℕ, _+_, _-_, _%_, _<_, _≤_}
+use Prim.Native.Nat.{ℕ, _-_, _<_, _≤_}
 use native.Mathlib.Omega.{arith}
 use borrow.Author.Count.{below-more}
 use borrow.Author.Tests.{not-true}
 use denote.Ref.{now}
-use lib.ListN.{length, getD, drop}
+use lib.ListN.{getD, drop}
 use Rattle.passes.specs.Orders.{sidesIn, packed}
 use Rattle.passes.proofs.Orders.{next-side, sides-after}
 use Rattle.passes.proofs.first_turn.Statement.{statement}

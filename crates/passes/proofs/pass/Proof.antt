@@ -6,7 +6,6 @@ use native.Mathlib.Nat.{eq-or-lt-of-le}
 use native.Mathlib.Omega.{arith}
 use borrow.Author.Needs.{needs}
 use denote.Ref.{now}
-use lib.ListN.{length}
 use Rattle.rings.specs.Points.{Line, In, Out}
 use Rattle.passes.specs.Memory.{pointIn}
 use Rattle.passes.specs.Limits.{limitLine}

@@ -1,5 +1,5 @@
 -- `passes::run` meets its contract: what stands at the places of the sides is what the passes ask for. Assumes nothing.
-use mathlib.Core.Path.{_≡_, refl, sym, _∙_, transport}
+use mathlib.Core.Path.{_≡_, refl, sym, transport}
 use mathlib.Core.Bool.{Bool, false}
 use mathlib.Core.List.{List, [], _∷_}
 use Prim.Native.Nat.{ℕ, zero, suc, _^_, _<_}

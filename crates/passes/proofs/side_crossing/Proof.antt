@@ -1,7 +1,6 @@
 -- `passes::side_crossing` meets its contract: a limit and a side that does not run along it meet where each has its number. Assumes nothing.
 use mathlib.Core.Path.{_≡_, sym, _∙_, transport}
 use borrow.Author.Needs.{needs}
-use lib.IntN.{pos}
 use mir.Syntax.{w32}
 use mir.Val.{toZ, ofZ}
 use Rattle.whole.proofs.Comparisons.{back}

@@ -1,19 +1,16 @@
 -- `passes::first::pass` meets its contract: the first run of corners inside is all of them, none, or some, and each has its worker. Assumes nothing.
-use mathlib.Core.Path.{_≡_, sym, subst}
-use mathlib.Core.List.{List}
+use mathlib.Core.Path.{sym, subst}
 use mathlib.Core.Logic.{⊎-elim}
 use Prim.Native.Nat.{ℕ, _/_, _<_}
 use native.Mathlib.Nat.{eq-or-lt-of-le}
 use native.Mathlib.Omega.{arith}
 use borrow.Author.Needs.{needs}
 use denote.Ref.{now}
-use lib.IntN.{ℤ}
 use lib.ListN.{length}
 use Rattle.rings.specs.Points.{Line, In, Out}
 use Rattle.passes.specs.Memory.{pointIn}
 use Rattle.passes.specs.Tags.{loadedOf}
 use Rattle.passes.specs.Limits.{limitLine}
-use Rattle.passes.specs.Runs.{Brought}
 use Rattle.passes.proofs.Owned.{loaded-of}
 use Rattle.passes.proofs.FirstPass.{first-all}
 use Rattle.passes.proofs.Running.{loaded-held}
