@@ -33,3 +33,8 @@ module _ {h : Line} {m : List ℤ} {out : Bool} {from to : ℕ} where
 
   pub run-is-all : {i : ℕ} → RunSo h m out from to i → to ≤ i → RunTo h m out from to to
   run-is-all r k = record { above = omega (arith, r .above, r .below); below = omega arith; run = λ j a b. r .run j a (omega arith); ends = λ b. absurd (omega arith) }
+
+-- ---- a run and the corner before it, of a line that is the side's
+pub run-with : {h h′ : Line} {m : List ℤ} {a to r : ℕ} (out : Bool) → h ≡ h′ → LiesSo out h′ (pointIn m a) → RunTo h m out (a + 1) to r → (i : ℕ) → a ≤ i → i < r → LiesSo out h′ (pointIn m i)
+run-with {h′ = h′} {m} out e s k i l b =
+    ⊎-elim (λ q. subst (λ (j : ℕ). LiesSo out h′ (pointIn m j)) q s) (λ d. subst (λ (g : Line). LiesSo out g (pointIn m i)) e (k .run i (omega arith) b)) (eq-or-lt-of-le l)

@@ -1,5 +1,6 @@
 -- `passes::cut_out` meets its contract: what each worker tells of its memory makes the pass. Assumes nothing.
 use mathlib.Core.Path.{_≡_, sym, ap, _∙_, subst, transport}
+use mathlib.Core.Bool.{true}
 use mathlib.Core.List.{List}
 use mathlib.Core.Logic.{inl, ⊎-elim}
 use Prim.Native.Nat.{ℕ, _+_, _-_, _*_, _<_, _≤_}
@@ -20,6 +21,7 @@ use Rattle.passes.specs.Tags.{tagIn, Named}
 use Rattle.passes.specs.Limits.{LimitOnTable}
 use Rattle.passes.specs.Runs.{Tagged, cornerIn, Brought}
 use Rattle.passes.specs.Passes.{places, Held}
+use Rattle.passes.proofs.Runs.{run-with}
 use Rattle.passes.proofs.Corners.{small-in, named-in}
 use Rattle.passes.proofs.Ends.{Gone, Come, gone, come}
 use Rattle.passes.proofs.Passing.{cut-out}
@@ -67,9 +69,7 @@ module _ (c : tie.After-end-of-run) where
   to-end = c .end-of-run .ensures .below
 
   all-out : (i : ℕ) → start .args .a ≤ i → i < b → Out (h start) (pointIn (m start) i)
-  all-out i l k =
-      ⊎-elim (λ e. subst (λ (j : ℕ). Out (h start) (pointIn (m start) j)) e (first-out start))
-      (λ n. subst (λ (h : Line). Out h (pointIn (m start) i)) (start .pre .1 .0 .0) (c .end-of-run .ensures .run i (omega arith) k)) (eq-or-lt-of-le l)
+  all-out = run-with true (start .pre .1 .0 .0) (first-out start) (c .end-of-run .ensures)
 
   back-in : b < start .args .to → In (h start) (pointIn (m start) b)
   back-in l = subst (λ (h : Line). In h (pointIn (m start) b)) (start .pre .1 .0 .0) (c .end-of-run .ensures .ends l)

@@ -1,5 +1,6 @@
 -- `passes::keep_run` meets its contract: what each worker tells of its memory makes the pass. Assumes nothing.
 use mathlib.Core.Path.{_≡_, sym, ap, _∙_, subst}
+use mathlib.Core.Bool.{true, false}
 use mathlib.Core.List.{List}
 use mathlib.Core.Logic.{inr, ⊎-elim}
 use Prim.Native.Nat.{ℕ, _+_, _-_, _*_, _<_, _≤_}
@@ -14,9 +15,9 @@ use Rattle.rings.specs.Points.{Point, Line, In, Out, On}
 use Rattle.passes.specs.Memory.{pointIn}
 use Rattle.passes.specs.Orders.{sideLine}
 use Rattle.passes.specs.Tags.{Named}
-use Rattle.passes.specs.Limits.{limitLine}
 use Rattle.passes.specs.Runs.{Tagged, cornerIn}
 use Rattle.passes.specs.Passes.{places, Held}
+use Rattle.passes.proofs.Runs.{run-with}
 use Rattle.passes.proofs.Corners.{small-in, named-in}
 use Rattle.passes.proofs.Ends.{Gone, Come, gone, come}
 use Rattle.passes.proofs.Passing.{keep-run, leaves-none}
@@ -55,9 +56,7 @@ module _ (c : tie.After-end-of-run) where
   to-end = c .end-of-run .ensures .below
 
   all-out : (i : ℕ) → start .args .from ≤ i → i < f → Out (h start) (pointIn (m start) i)
-  all-out i l k =
-      ⊎-elim (λ q. subst (λ (h : Line). Out h (pointIn (m start) i)) (start .pre .1 .0 .0) (subst (λ (j : ℕ). Out (limitLine (start .args .l)) (pointIn (m start) j)) q (start .pre .1 .1 .1 .1 .1)))
-      (λ n. subst (λ (h : Line). Out h (pointIn (m start) i)) (start .pre .1 .0 .0) (c .end-of-run .ensures .run i (omega arith) k)) (eq-or-lt-of-le l)
+  all-out = run-with true (start .pre .1 .0 .0) (subst (λ (h : Line). Out h (pointIn (m start) (start .args .from))) (start .pre .1 .0 .0) (start .pre .1 .1 .1 .1 .1)) (c .end-of-run .ensures)
 
 add-end-of-run : tie.Need-add-end-of-run
 add-end-of-run c = search needs
@@ -107,9 +106,7 @@ module _ (c : tie.After-end-of-run2) where
   e-to = c .end-of-run2 .ensures .below
 
   all-in : (i : ℕ) → f (first out) ≤ i → i < e → In (h s₁) (pointIn (m s₁) i)
-  all-in i l k =
-      ⊎-elim (λ q. subst (λ (j : ℕ). In (h s₁) (pointIn (m s₁) j)) q (f-in out))
-      (λ n. subst (λ (h : Line). In h (pointIn (m s₁) i)) (s₁ .pre .1 .0 .0) (c .end-of-run2 .ensures .run i (omega arith) k)) (eq-or-lt-of-le l)
+  all-in = run-with false (s₁ .pre .1 .0 .0) (f-in out) (c .end-of-run2 .ensures)
 
   back-out : e < s₁ .args .to → Out (h s₁) (pointIn (m s₁) e)
   back-out l = subst (λ (h : Line). Out h (pointIn (m s₁) e)) (s₁ .pre .1 .0 .0) (c .end-of-run2 .ensures .ends l)

@@ -1,5 +1,6 @@
 -- `passes::first::cut_out` meets its contract: what each worker tells of the outline and of its memory makes the pass. Assumes nothing.
 use mathlib.Core.Path.{_≡_, sym, ap, _∙_, subst, transport}
+use mathlib.Core.Bool.{true}
 use mathlib.Core.List.{List}
 use mathlib.Core.Logic.{⊎-elim}
 use Prim.Native.Nat.{ℕ, _+_, _-_, _*_, _/_, _<_, _≤_}
@@ -20,6 +21,7 @@ use Rattle.passes.specs.Tags.{Named, loadedOf}
 use Rattle.passes.specs.Limits.{LimitOnTable}
 use Rattle.passes.specs.Runs.{Tagged, cornerIn}
 use Rattle.passes.specs.Passes.{places, Held}
+use Rattle.passes.proofs.Runs.{run-with}
 use Rattle.passes.proofs.Corners.{named-in}
 use Rattle.passes.proofs.Owned.{loaded-of}
 use Rattle.passes.proofs.Ends.{Gone, CameOwn, gone, came-own}
@@ -79,9 +81,7 @@ module _ (c : tie.After-end-of-run) where
   to-end = c .end-of-run .ensures .below
 
   all-out : (i : ℕ) → start .args .a ≤ i → i < b → Out (h start) (pointIn (g start) i)
-  all-out i l k =
-      ⊎-elim (λ e. subst (λ (j : ℕ). Out (h start) (pointIn (g start) j)) e (first-out start))
-      (λ d. subst (λ (h : Line). Out h (pointIn (g start) i)) (start .pre .1 .0 .0) (c .end-of-run .ensures .run i (omega arith) k)) (eq-or-lt-of-le l)
+  all-out = run-with true (start .pre .1 .0 .0) (first-out start) (c .end-of-run .ensures)
 
   back-in : b < n start → In (h start) (pointIn (g start) b)
   back-in l = subst (λ (h : Line). In h (pointIn (g start) b)) (start .pre .1 .0 .0) (c .end-of-run .ensures .ends l)

@@ -1,5 +1,6 @@
 -- `passes::first::keep_run` meets its contract: what each worker tells of the outline and of its memory makes the pass. Assumes nothing.
 use mathlib.Core.Path.{_≡_, sym, ap, _∙_, subst}
+use mathlib.Core.Bool.{true, false}
 use mathlib.Core.List.{List}
 use mathlib.Core.Logic.{⊎-elim}
 use Prim.Native.Nat.{ℕ, _+_, _-_, _*_, _/_, _<_, _≤_}
@@ -13,9 +14,9 @@ use Rattle.rings.specs.Points.{Point, Line, In, Out, On}
 use Rattle.passes.specs.Memory.{pointIn}
 use Rattle.passes.specs.Orders.{sideLine}
 use Rattle.passes.specs.Tags.{Named, loadedOf}
-use Rattle.passes.specs.Limits.{limitLine}
 use Rattle.passes.specs.Runs.{Tagged, cornerIn}
 use Rattle.passes.specs.Passes.{places, Held}
+use Rattle.passes.proofs.Runs.{run-with}
 use Rattle.passes.proofs.Corners.{named-in}
 use Rattle.passes.proofs.Owned.{loaded-of}
 use Rattle.passes.proofs.Ends.{Gone, CameOwn, gone, came-own}
@@ -64,9 +65,7 @@ module _ (c : tie.After-end-of-run) where
   after-first = omega (arith, c .end-of-run .ensures .above)
 
   all-out : (i : ℕ) → 0 ≤ i → i < f → Out (h start) (pointIn (g start) i)
-  all-out i l k =
-      ⊎-elim (λ q. subst (λ (h : Line). Out h (pointIn (g start) i)) (start .pre .1 .0 .0) (subst (λ (j : ℕ). Out (limitLine (start .args .l)) (pointIn (g start) j)) q (start .pre .1 .1 .1)))
-      (λ d. subst (λ (h : Line). Out h (pointIn (g start) i)) (start .pre .1 .0 .0) (c .end-of-run .ensures .run i (omega arith) k)) (eq-or-lt-of-le l)
+  all-out = run-with true (start .pre .1 .0 .0) (subst (λ (h : Line). Out h (pointIn (g start) 0)) (start .pre .1 .0 .0) (start .pre .1 .1 .1)) (c .end-of-run .ensures)
 
 end-of-run-requires : tie.Need-end-of-run-requires
 end-of-run-requires c κs = (c .pre .1 .0 .1, (omega (arith, some c), omega arith))
@@ -114,9 +113,7 @@ module _ (c : tie.After-end-of-run2) where
   to-end = c .end-of-run2 .ensures .below
 
   all-in : (i : ℕ) → f₁ ≤ i → i < e → In (h s₁) (pointIn (g s₁) i)
-  all-in i l k =
-      ⊎-elim (λ q. subst (λ (j : ℕ). In (h s₁) (pointIn (g s₁) j)) q (comes-in some-in))
-      (λ d. subst (λ (h : Line). In h (pointIn (g s₁) i)) (s₁ .pre .1 .0 .0) (c .end-of-run2 .ensures .run i (omega arith) k)) (eq-or-lt-of-le l)
+  all-in = run-with false (s₁ .pre .1 .0 .0) (comes-in some-in) (c .end-of-run2 .ensures)
 
   out-again : e < n s₁ → Out (h s₁) (pointIn (g s₁) e)
   out-again l = subst (λ (h : Line). Out h (pointIn (g s₁) e)) (s₁ .pre .1 .0 .0) (c .end-of-run2 .ensures .ends l)
