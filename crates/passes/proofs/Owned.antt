@@ -26,10 +26,15 @@ use Rattle.grid.specs.Table.{farthest}
 use Rattle.rings.specs.Points.{Point, value, In, Out, On}
 use Rattle.corners.specs.Corners.{gridPoint}
 use Rattle.passes.specs.Memory.{pointIn}
-use Rattle.passes.specs.Tags.{tagIn, Loaded, loadedFrom, loadedOf}
+use Rattle.passes.specs.Tags.{tagIn, loadedFrom, loadedOf}
 use Rattle.passes.specs.Limits.{LimitOnTable, lineBy, limitLine, LiesSo, RunTo}
 use Rattle.passes.specs.declared.limit.Limit.{Limit}
 use Rattle.passes.proofs.Limits.{limit-value}
+
+-- the first n corners of the outline zs stand in the memory m, each tagged with its own edge
+pub record Loaded (zs m : List ℤ) (n : ℕ) : Type 0 where
+  pub corner : (k : ℕ) → k < n → pointIn m k ≡ gridPoint (getD zs (2 * k) (pos 0)) (getD zs (2 * k + 1) (pos 0))
+  pub tag : (k : ℕ) → k < n → tagIn m k ≡ pos k
 
 -- ---- the memory of all corners, the first tagged j
 corner-from : (j : ℕ) (zs : List ℤ) (k : ℕ) → k < length zs / 2 → pointIn (loadedFrom j zs) k ≡ gridPoint (getD zs (2 * k) (pos 0)) (getD zs (2 * k + 1) (pos 0))

@@ -23,7 +23,7 @@ use Rattle.corners.specs.Corners.{cornersOf}
 use Rattle.passes.specs.Memory.{pointIn, ringFrom, Small}
 use Rattle.passes.specs.Orders.{sideLine, sidesIn, linesIn}
 use Rattle.passes.specs.Outlines.{OutlineOnTable}
-use Rattle.passes.specs.Tags.{edgeOf, tagIn, Names, edge, Lies, Loaded, loadedOf}
+use Rattle.passes.specs.Tags.{edgeOf, tagIn, Names, edge, Lies, loadedOf}
 use Rattle.passes.specs.Runs.{Tagged, cornerIn, cornersFrom}
 use Rattle.passes.specs.Passes.{places, ringAt, Held, Passed, Running, Ran, area}
 use Rattle.passes.specs.declared.Places.{Places}
@@ -34,7 +34,7 @@ use Rattle.passes.proofs.Outlines.{corner-count, corner-at, edge-from, 
 use Rattle.passes.proofs.Reaches.{cut-in}
 use Rattle.passes.proofs.Pieces.{cut-nothing}
 use Rattle.passes.proofs.Corners.{small-in}
-use Rattle.passes.proofs.Owned.{loaded-of}
+use Rattle.passes.proofs.Owned.{Loaded, loaded-of}
 
 -- ---- a line holds the two points that it joins
 joins-start : (a b : Point) → On (through a b) a

@@ -8,9 +8,7 @@
 --   Named w zs t        t names a line
 --   Lies w zs t p q     p and q lie on the line that t names
 --   tagIn m i           the tag of the corner at place i of the memory m: it names the line of the edge from this corner to the next
---   Loaded zs m n       the first n corners of the outline zs stand in the memory m, each tagged with its own edge
---   loadedOf zs         a memory with all of them
-use mathlib.Core.Path.{_≡_}
+--   loadedOf zs         a memory with the corners of the outline zs, each tagged with its own edge
 use mathlib.Core.List.{List, [], _∷_}
 use Prim.Native.Nat.{ℕ, zero, suc, _+_, _*_, _/_, _<_}
 use lib.Dec.{ltb}
@@ -58,10 +56,6 @@ pub record Lies (w : Window) (zs : List ℤ) (t : ℤ) (p q : Point) : Type 0 wh
 
 abbrev pub tagIn : List ℤ → ℕ → ℤ
 tagIn m i = getD m (4 * i + 3) (pos 0)
-
-pub record Loaded (zs m : List ℤ) (n : ℕ) : Type 0 where
-  pub corner : (k : ℕ) → k < n → pointIn m k ≡ gridPoint (getD zs (2 * k) (pos 0)) (getD zs (2 * k + 1) (pos 0))
-  pub tag : (k : ℕ) → k < n → tagIn m k ≡ pos k
 
 unfoldable pub loadedFrom : ℕ → List ℤ → List ℤ
 loadedFrom k [] = []
