@@ -13,5 +13,6 @@ pub mod Denominators
 pub mod Refusals
 pub mod Computed
 pub mod Giving
+pub mod Clear
 pub mod Reaching
 pub mod OwnCorners

@@ -30,13 +30,12 @@ use Rattle.rings.proofs.Orders.{some-result, all-order}
 use Rattle.rings.proofs.Theorems.{convex-ccw, fan, result-outcome}
 use Rattle.corners.specs.Corners.{cornersOf}
 use Rattle.passes.specs.Orders.{sideLine, sidesIn, linesIn}
-use Rattle.passes.specs.Outlines.{Round, Reaches, Clear}
 use Rattle.passes.proofs.Orders.{lines-arranged}
 use Rattle.passes.proofs.Outlines.{corners-all}
-use Rattle.passes.proofs.Reaches.{left-at, right-at, bottom-at, top-at, clear-in}
 use Rattle.passes.proofs.Sides.{side-line-real}
 use Rattle.passes.proofs.Pieces.{cut-nothing}
-use Rattle.outlines.specs.Workers.{ReachOnTable, Beyond}
+use Rattle.outlines.specs.Workers.{Round, Reaches, ReachOnTable, Clear, Beyond}
+use Rattle.outlines.proofs.Clear.{left-at, right-at, bottom-at, top-at, clear-in}
 use Rattle.outlines.proofs.Passes.{lines-real}
 
 pub all-clear : {w b : Window} → w .left ≤ℤ b .left → b .right ≤ℤ w .right → w .bottom ≤ℤ b .bottom → b .top ≤ℤ w .top → (s : ℕ) → Clear w b s

@@ -1,5 +1,8 @@
 -- What the workers behind the outline call promise each other.
+--   Round zs n b          the first n corners of the outline zs lie in the rectangle b
+--   Reaches zs b          all of them do
 --   ReachOnTable b        no number of what lies in the rectangle b is off the table
+--   Clear w b s           no point of the rectangle b lies outside the side s of the window w
 --   Beyond w b s          no point of the rectangle b lies strictly inside the side s of the window w
 --   LowestIn r k          of the corners of the ring r none comes before that at place k
 --   Forward r k           the walk down from the first corner of r forward ends at place k: at the lowest corner, or at the first, where the second does not come before it
@@ -13,7 +16,7 @@
 --   LowestPlace zs k      no corner of the outline comes before that at place k
 use mathlib.Core.Path.{_≡_}
 use mathlib.Core.List.{List, [], _∷_, _++_}
-use Prim.Native.Nat.{ℕ, zero, suc, _+_, _-_, _%_, _<_}
+use Prim.Native.Nat.{ℕ, zero, suc, _+_, _-_, _*_, _/_, _%_, _<_}
 use lib.IntN.{ℤ, pos, negℤ}
 use lib.ListN.{length, getD}
 use lib.Seq.{sets}
@@ -30,11 +33,26 @@ use Rattle.corners.specs.Corners.{gridPoint, cornersOf}
 use Rattle.passes.specs.Memory.{ringFrom}
 use Rattle.outlines.specs.Outlines.{RingNumbers}
 
+pub record Round (zs : List ℤ) (n : ℕ) (b : Window) : Type 0 where
+  pub left : (k : ℕ) → k < n → b .left ≤ℤ getD zs (2 * k) (pos 0)
+  pub right : (k : ℕ) → k < n → getD zs (2 * k) (pos 0) ≤ℤ b .right
+  pub bottom : (k : ℕ) → k < n → b .bottom ≤ℤ getD zs (2 * k + 1) (pos 0)
+  pub top : (k : ℕ) → k < n → getD zs (2 * k + 1) (pos 0) ≤ℤ b .top
+
+abbrev pub Reaches : List ℤ → Window → Type 0
+Reaches zs b = Round zs (length zs / 2) b
+
 pub record ReachOnTable (b : Window) : Type 0 where
   pub left : negℤ (pos farthest) ≤ℤ b .left
   pub right : b .right ≤ℤ pos farthest
   pub bottom : negℤ (pos farthest) ≤ℤ b .bottom
   pub top : b .top ≤ℤ pos farthest
+
+abbrev pub Clear : Window → Window → ℕ → Type 0
+Clear w b zero = w .left ≤ℤ b .left
+Clear w b (suc zero) = b .right ≤ℤ w .right
+Clear w b (suc (suc zero)) = w .bottom ≤ℤ b .bottom
+Clear w b (suc (suc (suc s))) = b .top ≤ℤ w .top
 
 abbrev pub Beyond : Window → Window → ℕ → Type 0
 Beyond w b zero = b .right ≤ℤ w .left

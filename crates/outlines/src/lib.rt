@@ -16,9 +16,10 @@ ghost use Rattle.rings.specs.Lists.{All};
 ghost use Rattle.rings.specs.Points.{Proper, Before};
 ghost use Rattle.rings.specs.Rings.{Ring};
 ghost use Rattle.passes.specs.Memory.{pointIn, ringIn};
-ghost use Rattle.passes.specs.Outlines.{OutlineOnTable, Reaches};
+ghost use Rattle.passes.specs.Orders.{windowOf};
+ghost use Rattle.passes.specs.Outlines.{OutlineOnTable, Cutting};
 ghost use Rattle.outlines.specs.Outlines.{rightCount, outlineRefusal, Clipped, Outline};
-ghost use Rattle.outlines.specs.Workers.{ReachOnTable, LowestIn, Forward, startedAt, WroteFraction, Wrote, GaveNumbers, GaveRing};
+ghost use Rattle.outlines.specs.Workers.{Reaches, ReachOnTable, LowestIn, Forward, startedAt, WroteFraction, Wrote, GaveNumbers, GaveRing};
 
 mod reach;
 mod uncut;
@@ -203,21 +204,21 @@ fn give_ring(m: &[i32], n: usize, out: &mut [i32]) -> usize
 
 // How many numbers there are of what the passes leave of an outline in a memory; they are written where they have room.
 fn cut_in(
-    w: Window,
-    reach: Window,
+    numbers: &[i32; 4],
+    cuts: &[bool; 4],
     order: u32,
     outline: &[i32],
     m: &mut [i32],
     out: &mut [i32],
 ) -> usize
-    requires { ⌜ WindowOnTable w ⌝ }
+    requires { ⌜ WindowOnTable (windowOf (now numbers)) ⌝ }
     requires { ⌜ order ≤ 23 ⌝ }
     requires { ⌜ OutlineOnTable (now outline) ⌝ }
-    requires { ⌜ Reaches (now outline) reach ⌝ }
+    requires { ⌜ Cutting (windowOf (now numbers)) (now outline) (now cuts) ⌝ }
     requires { ⌜ 2 * length (now outline) + 16 ≤ length (now m) ⌝ }
-    ensures { λ r. ⌜ GaveNumbers (Clipped w order (now (outline .entry))) r (now (out .entry)) (now (out .exit)) ⌝ }
+    ensures { λ r. ⌜ GaveNumbers (Clipped (windowOf (now (numbers .entry))) order (now (outline .entry))) r (now (out .entry)) (now (out .exit)) ⌝ }
 {
-    let left = passes::run(w, reach, order, outline, m);
+    let left = passes::run(numbers, cuts, order, outline, m);
     let n = left.to - left.from;
     if n == 0 {
         return 0;
@@ -226,27 +227,33 @@ fn cut_in(
 }
 
 // The same with a memory of its own; fewer corners need a smaller one, which is sooner cleared.
-fn cut_by_passes(w: Window, reach: Window, order: u32, outline: &[i32], out: &mut [i32]) -> usize
-    requires { ⌜ WindowOnTable w ⌝ }
+fn cut_by_passes(
+    numbers: &[i32; 4],
+    cuts: &[bool; 4],
+    order: u32,
+    outline: &[i32],
+    out: &mut [i32],
+) -> usize
+    requires { ⌜ WindowOnTable (windowOf (now numbers)) ⌝ }
     requires { ⌜ order ≤ 23 ⌝ }
     requires { ⌜ OutlineOnTable (now outline) ⌝ }
-    requires { ⌜ Reaches (now outline) reach ⌝ }
-    ensures { λ r. ⌜ GaveNumbers (Clipped w order (now (outline .entry))) r (now (out .entry)) (now (out .exit)) ⌝ }
+    requires { ⌜ Cutting (windowOf (now numbers)) (now outline) (now cuts) ⌝ }
+    ensures { λ r. ⌜ GaveNumbers (Clipped (windowOf (now (numbers .entry))) order (now (outline .entry))) r (now (out .entry)) (now (out .exit)) ⌝ }
 {
     if outline.len() <= 24 {
         let mut few = [0i32; 64];
-        return cut_in(w, reach, order, outline, &mut few, out);
+        return cut_in(numbers, cuts, order, outline, &mut few, out);
     }
     if outline.len() <= 56 {
         let mut some = [0i32; 128];
-        return cut_in(w, reach, order, outline, &mut some, out);
+        return cut_in(numbers, cuts, order, outline, &mut some, out);
     }
     let mut most = [0i32; 272];
-    cut_in(w, reach, order, outline, &mut most, out)
+    cut_in(numbers, cuts, order, outline, &mut most, out)
 }
 
 // How many numbers there are of what the window leaves of an outline in which nothing is refused; they are written where they have room.
-// The plain cases come first: they need no pass.
+// The plain cases come first: they need no pass. The passes are given the sides' numbers, and which of them cut, by the sides' places.
 fn clipped(w: Window, order: u32, outline: &[i32], reach: Window, out: &mut [i32]) -> usize
     requires { ⌜ WindowOnTable w ⌝ }
     requires { ⌜ order ≤ 23 ⌝ }
@@ -260,7 +267,14 @@ fn clipped(w: Window, order: u32, outline: &[i32], reach: Window, out: &mut [i32
     if reach::apart(w, reach) {
         return 0;
     }
-    cut_by_passes(w, reach, order, outline, out)
+    let numbers = [w.left, w.right, w.bottom, w.top];
+    let cuts = [
+        reach.left < w.left,
+        w.right < reach.right,
+        reach.bottom < w.bottom,
+        w.top < reach.top,
+    ];
+    cut_by_passes(&numbers, &cuts, order, outline, out)
 }
 
 // The answer of a call that gives so many numbers into an output of some room.

@@ -6,8 +6,7 @@ ghost use lib.IntN.{ℤ};
 ghost use lib.Signed.{_≤ℤ_};
 ghost use Rattle.whole.specs.Choice.{Decides};
 ghost use Rattle.grid.specs.Table.{NumbersOnTable};
-ghost use Rattle.passes.specs.Outlines.{Reaches, Clear};
-ghost use Rattle.outlines.specs.Workers.{ReachOnTable, Beyond};
+ghost use Rattle.outlines.specs.Workers.{Reaches, ReachOnTable, Clear, Beyond};
 use grid::Window;
 
 fn lesser(a: i32, b: i32) -> i32

@@ -4,7 +4,6 @@ pub mod Runs
 pub mod Orders
 pub mod Memories
 pub mod Outlines
-pub mod Reaches
 pub mod Meetings
 pub mod Pieces
 pub mod Owned

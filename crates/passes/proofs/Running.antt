@@ -14,11 +14,13 @@ use Rattle.whole.proofs.Order.{zarith}
 use Rattle.whole.proofs.Ranges.{within-up}
 use Rattle.grid.specs.declared.Window.{Window}
 use Rattle.rings.specs.Lists.{All, Walk, last, step, Edges, closed}
-use Rattle.rings.specs.Points.{Point, Line, value, through, In, On}
+use Rattle.rings.specs.Points.{Point, Line, value, through, In, On, Real}
 use Rattle.rings.specs.Rings.{nowhere, at, Ring, Edge, along, closing}
-use Rattle.rings.specs.Cuts.{OneCut, Cuts, no-more, cut, gone}
+use Rattle.rings.specs.Cuts.{CutBy, OneCut, Cuts, no-more, cut, gone}
 use Rattle.rings.proofs.Plane.{corners, det-of, nought}
-use Rattle.rings.proofs.Theorems.{one-cut}
+use Rattle.rings.proofs.Lists.{all-map}
+use Rattle.rings.proofs.Fan.{corners-in}
+use Rattle.rings.proofs.Theorems.{convex-ccw, fan, one-cut}
 use Rattle.corners.specs.Corners.{cornersOf}
 use Rattle.passes.specs.Memory.{pointIn, ringFrom, Small}
 use Rattle.passes.specs.Orders.{sideLine, sidesIn, linesIn}
@@ -31,7 +33,6 @@ use Rattle.passes.proofs.Sides.{side-line-real}
 use Rattle.passes.proofs.Orders.{lines-length, lines-from}
 use Rattle.passes.proofs.Memories.{ring-length, ring-at, ring-all, tagged-all}
 use Rattle.passes.proofs.Outlines.{corner-count, corner-at, edge-from, edge-below, edge-line, outline-ring}
-use Rattle.passes.proofs.Reaches.{cut-in}
 use Rattle.passes.proofs.Pieces.{cut-nothing}
 use Rattle.passes.proofs.Corners.{small-in}
 use Rattle.passes.proofs.Owned.{Loaded, loaded-of}
@@ -56,6 +57,12 @@ edges-from : {R : Tagged → Tagged → Type 0} (m : List ℤ) (n : ℕ) → 0 <
 unfolding cornersFrom
 edges-from m zero h f = absurd (omega arith)
 edges-from m (suc n) h f = closed (walk-from m 0 n (cornerIn m 0) (λ j l k. f j (suc j) (along (omega arith))) (f (0 + n) 0 (closing (omega arith))))
+
+-- ---- each corner that a cut leaves lies in the ring
+cut-in : {h : Line} {r s : List Point} (g : Line) → Real h → Ring r → CutBy h r s → 3 ≤ length s → All (In g) r → All (In g) s
+cut-in {r = r} {s} g real o c l a =
+    let d = one-cut real o c in
+    all-map (λ p i. fan g p r o (d .points l p .0 i .0) a) (corners-in (convex-ccw s .0 (d .ring l .convex)))
 
 -- ---- the outline's corners in memory
 module _ {zs m : List ℤ} (o : OutlineOnTable zs) (l : Loaded zs m (length zs / 2)) where

@@ -1,10 +1,11 @@
 -- The sides of a window: their numbers, their lines, and the strokes of length 1 on these.
-use mathlib.Core.Path.{_≡_, sym, ap, _∙_, subst}
-use mathlib.Core.List.{[], _∷_}
+use mathlib.Core.Path.{_≡_, refl, sym, ap, _∙_, subst}
+use mathlib.Core.List.{List, [], _∷_}
 use Prim.Native.Nat.{ℕ, zero, suc, _<_}
 use native.Mathlib.Omega.{arith}
 use lib.Dec.{ltb}
 use lib.IntN.{ℤ, pos, negsuc, negℤ}
+use lib.ListN.{getD}
 use lib.Signed.{_<ℤ_}
 use Rattle.whole.specs.Within.{Within}
 use Rattle.whole.proofs.Expressions.{Expr, var, con, _⊕_, _⊖_, _⊗_, neg}
@@ -19,7 +20,7 @@ use Rattle.rings.specs.Points.{Point, Line, value, through, On, Real}
 use Rattle.rings.specs.Windows.{left-side, right-side, bottom-side, top-side}
 use Rattle.rings.proofs.Plane.{nought}
 use Rattle.rings.proofs.Windows.{left-real, right-real, bottom-real, top-real}
-use Rattle.passes.specs.Orders.{sideLine}
+use Rattle.passes.specs.Orders.{windowOf, sideLine}
 use Rattle.passes.specs.Tags.{stroke, lineOf, numberOf, sideOf}
 
 abbrev one : Expr
@@ -31,6 +32,13 @@ number-within w zero t = t .left
 number-within w (suc zero) t = t .right
 number-within w (suc (suc zero)) t = t .bottom
 number-within w (suc (suc (suc s))) t = t .top
+
+pub number-at : (ns : List ℤ) (s : ℕ) → s < 4 → getD ns s (pos 0) ≡ numberOf (windowOf ns) s
+number-at ns zero h = refl
+number-at ns (suc zero) h = refl
+number-at ns (suc (suc zero)) h = refl
+number-at ns (suc (suc (suc zero))) h = refl
+number-at ns (suc (suc (suc (suc s)))) h = absurd (omega arith)
 
 -- ---- two lines of which the values are opposite
 abbrev pub Opposite : Line → Line → Type 0

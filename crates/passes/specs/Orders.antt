@@ -1,4 +1,5 @@
 -- The sides of a window, and the orders in which an outline is cut along them.
+--   windowOf ns       the window whose sides have the numbers ns, each at its side's place
 --   sideLine w k      the line of side k: 0 left, 1 right, 2 bottom, 3 top; what is in it is where the window lies
 --   sidesIn o         the four sides in the order o: of their arrangements in dictionary order that at place o, from 0 to 23
 --   packed ss         sides in one number, two bits each
@@ -7,11 +8,15 @@
 use mathlib.Core.Path.{_≡_}
 use mathlib.Core.List.{List, [], _∷_, map}
 use Prim.Native.Nat.{ℕ, zero, suc, _+_, _*_, _/_, _%_, _≤_}
-use lib.ListN.{drop}
+use lib.IntN.{ℤ, pos}
+use lib.ListN.{getD, drop}
 use Rattle.grid.specs.declared.Window.{Window}
 use Rattle.rings.specs.Points.{Line}
 use Rattle.rings.specs.Windows.{left-side, right-side, bottom-side, top-side}
 use Rattle.passes.specs.declared.Turn.{Turn}
+
+abbrev pub windowOf : List ℤ → Window
+windowOf ns = record { left = getD ns 0 (pos 0); bottom = getD ns 2 (pos 0); right = getD ns 1 (pos 0); top = getD ns 3 (pos 0) }
 
 abbrev pub sideLine : Window → ℕ → Line
 sideLine w zero = left-side (w .left)

@@ -2,18 +2,18 @@
 use crate::Corner;
 use crate::Places;
 use crate::limit::Limit;
-use grid::Window;
 ghost use mathlib.Core.Path.{_≡_};
 ghost use mathlib.Core.Bool.{false};
 ghost use Prim.Native.Nat.{_+_, _-_, _*_, _/_, _<_, _≤_};
+ghost use lib.IntN.{pos};
 ghost use lib.ListN.{length};
 ghost use Rattle.rings.specs.Points.{Out};
 ghost use Rattle.passes.specs.Memory.{pointIn};
-ghost use Rattle.passes.specs.Orders.{sideLine};
+ghost use Rattle.passes.specs.Orders.{windowOf, sideLine};
 ghost use Rattle.passes.specs.Outlines.{OutlineOnTable, Job};
-ghost use Rattle.passes.specs.Tags.{loadedOf};
+ghost use Rattle.passes.specs.Tags.{tagIn, loadedOf};
 ghost use Rattle.passes.specs.Limits.{LimitOnTable, limitLine, RunTo};
-ghost use Rattle.passes.specs.Steps.{EnteredOwn};
+ghost use Rattle.passes.specs.Steps.{EnteredOwn, Went};
 ghost use Rattle.passes.specs.Runs.{Brought};
 ghost use Rattle.passes.specs.Passes.{FirstPassed};
 
@@ -54,20 +54,57 @@ fn enter(l: Limit, outline: &[i32], k: usize, m: &mut [i32], at: usize, there: b
     at + 1
 }
 
+// Where the ring goes out along the outline's edge from its corner k inside, which stands at the place i: the crossing comes after it, unless the corner
+// here lies on the limit. What is left ends before the place answered.
+fn leave(
+    numbers: &[i32; 4],
+    side: usize,
+    l: Limit,
+    outline: &[i32],
+    m: &mut [i32],
+    i: usize,
+    k: usize,
+    here: bool,
+) -> usize
+    requires { ⌜ Job (windowOf (now numbers)) (now outline) side ⌝ }
+    requires { ⌜ (limitLine l ≡ sideLine (windowOf (now numbers)) side) × LimitOnTable l ⌝ }
+    requires { ⌜ 4 * i + 8 ≤ length (now m) ⌝ }
+    requires { ⌜ (k < length (now outline) / 2) × (tagIn (now m) i ≡ pos k) ⌝ }
+    ensures { λ r. ⌜ Went (windowOf (now (numbers .entry))) (now (outline .entry)) side here (now (m .entry)) i (now (m .exit)) r ⌝ }
+{
+    if here {
+        return crate::turn_along(m, i, side);
+    }
+    crate::put(
+        m,
+        i + 1,
+        crate::edge_crossing(l, outline, k),
+        crate::side_tag(side),
+    );
+    i + 2
+}
+
 // A pass over an outline of which the corners before a lie inside and a outside: these, the crossings, and what comes after the run outside.
-fn cut_out(w: Window, side: usize, outline: &[i32], l: Limit, m: &mut [i32], a: usize) -> Places
-    requires { ⌜ Job w (now outline) side ⌝ }
-    requires { ⌜ (limitLine l ≡ sideLine w side) × LimitOnTable l ⌝ }
+fn cut_out(
+    numbers: &[i32; 4],
+    side: usize,
+    outline: &[i32],
+    l: Limit,
+    m: &mut [i32],
+    a: usize,
+) -> Places
+    requires { ⌜ Job (windowOf (now numbers)) (now outline) side ⌝ }
+    requires { ⌜ (limitLine l ≡ sideLine (windowOf (now numbers)) side) × LimitOnTable l ⌝ }
     requires { ⌜ 2 * length (now outline) + 4 ≤ length (now m) ⌝ }
     requires { ⌜ (0 < a) × (a < length (now outline) / 2) × RunTo (limitLine l) (loadedOf (now outline)) false 0 (length (now outline) / 2) a ⌝ }
-    ensures { λ r. ⌜ FirstPassed w (now (outline .entry)) side (now (m .exit)) r ⌝ }
+    ensures { λ r. ⌜ FirstPassed (windowOf (now (numbers .entry))) (now (outline .entry)) side (now (m .exit)) r ⌝ }
 {
     let n = outline.len() / 2;
     let b = crate::own::end_of_run(l, outline, a + 1, n, true);
     let here = crate::own::touches(l, outline, a - 1);
     let there = crate::own::touches(l, outline, crate::after(b, 0, n));
     load(outline, 0, a, m, 0);
-    let first = crate::leave(w, side, l, outline, m, a - 1, here);
+    let first = leave(numbers, side, l, outline, m, a - 1, a - 1, here);
     let second = enter(l, outline, b - 1, m, first, there);
     load(outline, b, n, m, second);
     Places {
@@ -77,12 +114,12 @@ fn cut_out(w: Window, side: usize, outline: &[i32], l: Limit, m: &mut [i32], a: 
 }
 
 // A pass over an outline of which the first corner lies outside: the run inside, between the crossings.
-fn keep_run(w: Window, side: usize, outline: &[i32], l: Limit, m: &mut [i32]) -> Places
-    requires { ⌜ Job w (now outline) side ⌝ }
-    requires { ⌜ (limitLine l ≡ sideLine w side) × LimitOnTable l ⌝ }
+fn keep_run(numbers: &[i32; 4], side: usize, outline: &[i32], l: Limit, m: &mut [i32]) -> Places
+    requires { ⌜ Job (windowOf (now numbers)) (now outline) side ⌝ }
+    requires { ⌜ (limitLine l ≡ sideLine (windowOf (now numbers)) side) × LimitOnTable l ⌝ }
     requires { ⌜ 2 * length (now outline) + 4 ≤ length (now m) ⌝ }
     requires { ⌜ Out (limitLine l) (pointIn (loadedOf (now outline)) 0) ⌝ }
-    ensures { λ r. ⌜ FirstPassed w (now (outline .entry)) side (now (m .exit)) r ⌝ }
+    ensures { λ r. ⌜ FirstPassed (windowOf (now (numbers .entry))) (now (outline .entry)) side (now (m .exit)) r ⌝ }
 {
     let n = outline.len() / 2;
     let s = crate::own::end_of_run(l, outline, 1, n, true);
@@ -94,16 +131,25 @@ fn keep_run(w: Window, side: usize, outline: &[i32], l: Limit, m: &mut [i32]) ->
     let here = crate::own::touches(l, outline, e - 1);
     let start = enter(l, outline, s - 1, m, 0, there);
     load(outline, s, e, m, start);
-    let end = crate::leave(w, side, l, outline, m, start + (e - s) - 1, here);
+    let end = leave(
+        numbers,
+        side,
+        l,
+        outline,
+        m,
+        start + (e - s) - 1,
+        e - 1,
+        here,
+    );
     Places { from: 0, to: end }
 }
 
 // What a side leaves of the outline, brought into a memory.
-pub fn pass(w: Window, side: usize, outline: &[i32], l: Limit, m: &mut [i32]) -> Places
-    requires { ⌜ Job w (now outline) side ⌝ }
-    requires { ⌜ (limitLine l ≡ sideLine w side) × LimitOnTable l ⌝ }
+pub fn pass(numbers: &[i32; 4], side: usize, outline: &[i32], l: Limit, m: &mut [i32]) -> Places
+    requires { ⌜ Job (windowOf (now numbers)) (now outline) side ⌝ }
+    requires { ⌜ (limitLine l ≡ sideLine (windowOf (now numbers)) side) × LimitOnTable l ⌝ }
     requires { ⌜ 2 * length (now outline) + 4 ≤ length (now m) ⌝ }
-    ensures { λ r. ⌜ FirstPassed w (now (outline .entry)) side (now (m .exit)) r ⌝ }
+    ensures { λ r. ⌜ FirstPassed (windowOf (now (numbers .entry))) (now (outline .entry)) side (now (m .exit)) r ⌝ }
 {
     let n = outline.len() / 2;
     let a = crate::own::end_of_run(l, outline, 0, n, false);
@@ -112,7 +158,7 @@ pub fn pass(w: Window, side: usize, outline: &[i32], l: Limit, m: &mut [i32]) ->
         return Places { from: 0, to: n };
     }
     if a == 0 {
-        return keep_run(w, side, outline, l, m);
+        return keep_run(numbers, side, outline, l, m);
     }
-    cut_out(w, side, outline, l, m, a)
+    cut_out(numbers, side, outline, l, m, a)
 }

@@ -1,11 +1,11 @@
-// Cutting an outline along the sides of a window, one pass a side, in the order given.
+// Cutting an outline along the sides of a window, one pass a side, in the order given. The window is its four sides' numbers, each at its side's place.
 use grid::Stroke;
-use grid::Window;
 use limit::Limit;
 ghost use mathlib.Core.Path.{_≡_};
 ghost use mathlib.Core.Bool.{false};
 ghost use Prim.Native.Nat.{ℕ, _+_, _*_, _/_, _%_, _<_, _≤_};
 ghost use lib.Dec.{eqb};
+ghost use lib.IntN.{pos};
 ghost use lib.ListN.{length, getD};
 ghost use Rattle.whole.specs.Choice.{if_then_else_};
 ghost use Rattle.whole.specs.Within.{Within};
@@ -14,8 +14,9 @@ ghost use Rattle.rings.specs.Points.{Out};
 ghost use Rattle.rings.specs.Windows.{«left-side»};
 ghost use Rattle.corners.specs.Corners.{next};
 ghost use Rattle.passes.specs.Memory.{pointIn};
-ghost use Rattle.passes.specs.Orders.{sideLine, sidesIn, packed, InOrder};
-ghost use Rattle.passes.specs.Outlines.{OutlineOnTable, Reaches, AtSides, Job};
+ghost use Rattle.grid.specs.declared.Window.{Window};
+ghost use Rattle.passes.specs.Orders.{windowOf, sideLine, sidesIn, packed, InOrder};
+ghost use Rattle.passes.specs.Outlines.{OutlineOnTable, Cutting, Job};
 ghost use Rattle.passes.specs.Tags.{stroke, numberOf, edgeOf, sideOf, tagIn, Named};
 ghost use Rattle.passes.specs.Limits.{LimitOnTable, limitLine, RunTo};
 ghost use Rattle.passes.specs.Steps.{pointOf, Meets, Meeting, putAt, Entered, Went};
@@ -74,22 +75,6 @@ fn sides_of(order: u32) -> u8
     ensures { λ r. ⌜ r ≡ packed (sidesIn order) ⌝ }
 {
     SIDES[order as usize]
-}
-
-// The window's number of a side.
-fn number(w: Window, side: usize) -> i32
-    ensures { λ r. ⌜ r ≡ numberOf w side ⌝ }
-{
-    if side == 0 {
-        return w.left;
-    }
-    if side == 1 {
-        return w.right;
-    }
-    if side == 2 {
-        return w.bottom;
-    }
-    w.top
 }
 
 // The limit that a side sets whose number is c.
@@ -176,13 +161,14 @@ fn edge_crossing(l: Limit, outline: &[i32], k: usize) -> Corner
 }
 
 // Where the line of the window's side s meets a limit's: their two numbers are its x and y.
-fn side_crossing(w: Window, l: Limit, s: usize) -> Corner
-    requires { ⌜ WindowOnTable w ⌝ }
+fn side_crossing(numbers: &[i32; 4], l: Limit, s: usize) -> Corner
+    requires { ⌜ WindowOnTable (windowOf (now numbers)) ⌝ }
     requires { ⌜ LimitOnTable l ⌝ }
-    ensures { λ r. ⌜ Meets (limitLine l) (sideOf w s) (pointOf r) ⌝ }
+    requires { ⌜ s < 4 ⌝ }
+    ensures { λ r. ⌜ Meets (limitLine l) (sideOf (windowOf (now (numbers .entry))) s) (pointOf r) ⌝ }
 {
     let c = l.c;
-    let n = number(w, s);
+    let n = numbers[s];
     if l.axis == 0 {
         return Corner { x: c, y: n, den: 1 };
     }
@@ -190,18 +176,18 @@ fn side_crossing(w: Window, l: Limit, s: usize) -> Corner
 }
 
 // Where the line that a tag names meets a limit's.
-fn crossing(w: Window, l: Limit, outline: &[i32], tag: i32) -> Corner
-    requires { ⌜ WindowOnTable w ⌝ }
+fn crossing(numbers: &[i32; 4], l: Limit, outline: &[i32], tag: i32) -> Corner
+    requires { ⌜ WindowOnTable (windowOf (now numbers)) ⌝ }
     requires { ⌜ OutlineOnTable (now outline) ⌝ }
     requires { ⌜ LimitOnTable l ⌝ }
-    requires { ⌜ Named w (now outline) tag ⌝ }
-    ensures { λ r. ⌜ Meeting w (now (outline .entry)) (limitLine l) tag (pointOf r) ⌝ }
+    requires { ⌜ Named (windowOf (now numbers)) (now outline) tag ⌝ }
+    ensures { λ r. ⌜ Meeting (windowOf (now (numbers .entry))) (now (outline .entry)) (limitLine l) tag (pointOf r) ⌝ }
 {
     let k = tag as usize;
     if k < 64 {
         return edge_crossing(l, outline, k);
     }
-    side_crossing(w, l, k - 64)
+    side_crossing(numbers, l, k - 64)
 }
 
 // The corner at the place i.
@@ -234,26 +220,52 @@ fn put(m: &mut [i32], i: usize, p: Corner, tag: i32)
 
 // Where the ring comes in from the corner o outside: the crossing takes the place of o, unless the corner there, the next one, lies on the limit.
 // What is left begins at the place answered.
-fn enter(w: Window, l: Limit, outline: &[i32], m: &mut [i32], o: usize, there: bool) -> usize
-    requires { ⌜ WindowOnTable w ⌝ }
+fn enter(
+    numbers: &[i32; 4],
+    l: Limit,
+    outline: &[i32],
+    m: &mut [i32],
+    o: usize,
+    there: bool,
+) -> usize
+    requires { ⌜ WindowOnTable (windowOf (now numbers)) ⌝ }
     requires { ⌜ OutlineOnTable (now outline) ⌝ }
     requires { ⌜ LimitOnTable l ⌝ }
     requires { ⌜ 4 * o + 4 ≤ length (now m) ⌝ }
-    requires { ⌜ Named w (now outline) (tagIn (now m) o) ⌝ }
-    ensures { λ r. ⌜ Entered w (now (outline .entry)) (limitLine l) there (now (m .entry)) o (now (m .exit)) r ⌝ }
+    requires { ⌜ Named (windowOf (now numbers)) (now outline) (tagIn (now m) o) ⌝ }
+    ensures { λ r. ⌜ Entered (windowOf (now (numbers .entry))) (now (outline .entry)) (limitLine l) there (now (m .entry)) o (now (m .exit)) r ⌝ }
 {
     if there {
         return o + 1;
     }
     let tag = m[4 * o + 3];
-    put(m, o, crossing(w, l, outline, tag), tag);
+    put(m, o, crossing(numbers, l, outline, tag), tag);
     o
 }
 
-// Where the ring goes out from the corner i inside: the crossing comes after it, unless the corner here lies on the limit; then its next edge
-// lies along the side. What is left ends before the place answered.
+// The tag of an edge that lies along a side.
+fn side_tag(side: usize) -> i32
+    requires { ⌜ side < 4 ⌝ }
+    ensures { λ r. ⌜ r ≡ pos (64 + side) ⌝ }
+{
+    64 + (side as i32)
+}
+
+// Where a corner on the limit at the place i is the last one inside: its next edge lies along the side. What is left ends before the place answered.
+fn turn_along(m: &mut [i32], i: usize, side: usize) -> usize
+    requires { ⌜ side < 4 ⌝ }
+    requires { ⌜ 4 * i + 8 ≤ length (now m) ⌝ }
+    ensures { λ r. ⌜ r ≡ i + 1 ⌝ }
+    ensures { λ _. ⌜ now (m .exit) ≡ putAt (now (m .entry)) i (pointIn (now (m .entry)) i) (pos (64 + side)) ⌝ }
+{
+    put(m, i, corner_at(m, i), side_tag(side));
+    i + 1
+}
+
+// Where the ring goes out from the corner i inside: the crossing comes after it, unless the corner here lies on the limit.
+// What is left ends before the place answered.
 fn leave(
-    w: Window,
+    numbers: &[i32; 4],
     side: usize,
     l: Limit,
     outline: &[i32],
@@ -261,19 +273,17 @@ fn leave(
     i: usize,
     here: bool,
 ) -> usize
-    requires { ⌜ Job w (now outline) side ⌝ }
-    requires { ⌜ (limitLine l ≡ sideLine w side) × LimitOnTable l ⌝ }
+    requires { ⌜ Job (windowOf (now numbers)) (now outline) side ⌝ }
+    requires { ⌜ (limitLine l ≡ sideLine (windowOf (now numbers)) side) × LimitOnTable l ⌝ }
     requires { ⌜ 4 * i + 8 ≤ length (now m) ⌝ }
-    requires { ⌜ Named w (now outline) (tagIn (now m) i) ⌝ }
-    ensures { λ r. ⌜ Went w (now (outline .entry)) side here (now (m .entry)) i (now (m .exit)) r ⌝ }
+    requires { ⌜ Named (windowOf (now numbers)) (now outline) (tagIn (now m) i) ⌝ }
+    ensures { λ r. ⌜ Went (windowOf (now (numbers .entry))) (now (outline .entry)) side here (now (m .entry)) i (now (m .exit)) r ⌝ }
 {
-    let cut = 64 + (side as i32);
     if here {
-        put(m, i, corner_at(m, i), cut);
-        return i + 1;
+        return turn_along(m, i, side);
     }
     let tag = m[4 * i + 3];
-    put(m, i + 1, crossing(w, l, outline, tag), cut);
+    put(m, i + 1, crossing(numbers, l, outline, tag), side_tag(side));
     i + 2
 }
 
@@ -305,7 +315,7 @@ fn after(b: usize, from: usize, to: usize) -> usize
 // A pass over a ring of which the corners before the place a lie inside and that at a outside: the run outside is cut out,
 // and what comes after it moves there.
 fn cut_out(
-    w: Window,
+    numbers: &[i32; 4],
     side: usize,
     outline: &[i32],
     l: Limit,
@@ -314,19 +324,19 @@ fn cut_out(
     a: usize,
     to: usize,
 ) -> Places
-    requires { ⌜ Job w (now outline) side ⌝ }
-    requires { ⌜ (limitLine l ≡ sideLine w side) × LimitOnTable l ⌝ }
+    requires { ⌜ Job (windowOf (now numbers)) (now outline) side ⌝ }
+    requires { ⌜ (limitLine l ≡ sideLine (windowOf (now numbers)) side) × LimitOnTable l ⌝ }
     requires { ⌜ 4 * to + 4 ≤ length (now m) ⌝ }
-    requires { ⌜ Held w (now outline) (now m) (places from to) ⌝ }
+    requires { ⌜ Held (windowOf (now numbers)) (now outline) (now m) (places from to) ⌝ }
     requires { ⌜ (from < a) × (a < to) × RunTo (limitLine l) (now m) false from to a ⌝ }
-    ensures { λ r. ⌜ Passed w (now (outline .entry)) side (now (m .entry)) (places from to) (now (m .exit)) r ⌝ }
+    ensures { λ r. ⌜ Passed (windowOf (now (numbers .entry))) (now (outline .entry)) side (now (m .entry)) (places from to) (now (m .exit)) r ⌝ }
 {
     let b = limit::end_of_run(l, m, a + 1, to, true);
     let here = limit::touches(l, m, a - 1);
     let there = limit::touches(l, m, after(b, from, to));
     let k = make_room(m, a, b - 1, to);
-    let second = enter(w, l, outline, m, b - 1 + k, there);
-    let first = leave(w, side, l, outline, m, a - 1, here);
+    let second = enter(numbers, l, outline, m, b - 1 + k, there);
+    let first = leave(numbers, side, l, outline, m, a - 1, here);
     moves::move_down(m, second, to + k, first);
     Places {
         from,
@@ -336,7 +346,7 @@ fn cut_out(
 
 // A pass over a ring of which the first corner lies outside: the run inside is kept where it stands.
 fn keep_run(
-    w: Window,
+    numbers: &[i32; 4],
     side: usize,
     outline: &[i32],
     l: Limit,
@@ -344,12 +354,12 @@ fn keep_run(
     from: usize,
     to: usize,
 ) -> Places
-    requires { ⌜ Job w (now outline) side ⌝ }
-    requires { ⌜ (limitLine l ≡ sideLine w side) × LimitOnTable l ⌝ }
+    requires { ⌜ Job (windowOf (now numbers)) (now outline) side ⌝ }
+    requires { ⌜ (limitLine l ≡ sideLine (windowOf (now numbers)) side) × LimitOnTable l ⌝ }
     requires { ⌜ 4 * to + 4 ≤ length (now m) ⌝ }
-    requires { ⌜ Held w (now outline) (now m) (places from to) ⌝ }
+    requires { ⌜ Held (windowOf (now numbers)) (now outline) (now m) (places from to) ⌝ }
     requires { ⌜ (from < to) × Out (limitLine l) (pointIn (now m) from) ⌝ }
-    ensures { λ r. ⌜ Passed w (now (outline .entry)) side (now (m .entry)) (places from to) (now (m .exit)) r ⌝ }
+    ensures { λ r. ⌜ Passed (windowOf (now (numbers .entry))) (now (outline .entry)) side (now (m .entry)) (places from to) (now (m .exit)) r ⌝ }
 {
     let s = limit::end_of_run(l, m, from + 1, to, true);
     if s == to {
@@ -358,8 +368,8 @@ fn keep_run(
     let e = limit::end_of_run(l, m, s + 1, to, false);
     let there = limit::touches(l, m, s);
     let here = limit::touches(l, m, e - 1);
-    let start = enter(w, l, outline, m, s - 1, there);
-    let end = leave(w, side, l, outline, m, e - 1, here);
+    let start = enter(numbers, l, outline, m, s - 1, there);
+    let end = leave(numbers, side, l, outline, m, e - 1, here);
     Places {
         from: start,
         to: end,
@@ -367,12 +377,19 @@ fn keep_run(
 }
 
 // One pass: what a side leaves of the ring in a memory.
-fn pass(w: Window, side: usize, outline: &[i32], l: Limit, m: &mut [i32], p: Places) -> Places
-    requires { ⌜ Job w (now outline) side ⌝ }
-    requires { ⌜ (limitLine l ≡ sideLine w side) × LimitOnTable l ⌝ }
+fn pass(
+    numbers: &[i32; 4],
+    side: usize,
+    outline: &[i32],
+    l: Limit,
+    m: &mut [i32],
+    p: Places,
+) -> Places
+    requires { ⌜ Job (windowOf (now numbers)) (now outline) side ⌝ }
+    requires { ⌜ (limitLine l ≡ sideLine (windowOf (now numbers)) side) × LimitOnTable l ⌝ }
     requires { ⌜ 4 * p .to + 4 ≤ length (now m) ⌝ }
-    requires { ⌜ Held w (now outline) (now m) p ⌝ }
-    ensures { λ r. ⌜ Passed w (now (outline .entry)) side (now (m .entry)) p (now (m .exit)) r ⌝ }
+    requires { ⌜ Held (windowOf (now numbers)) (now outline) (now m) p ⌝ }
+    ensures { λ r. ⌜ Passed (windowOf (now (numbers .entry))) (now (outline .entry)) side (now (m .entry)) p (now (m .exit)) r ⌝ }
 {
     let from = p.from;
     let to = p.to;
@@ -381,9 +398,9 @@ fn pass(w: Window, side: usize, outline: &[i32], l: Limit, m: &mut [i32], p: Pla
         return Places { from, to };
     }
     if a == from {
-        return keep_run(w, side, outline, l, m, from, to);
+        return keep_run(numbers, side, outline, l, m, from, to);
     }
-    cut_out(w, side, outline, l, m, from, a, to)
+    cut_out(numbers, side, outline, l, m, from, a, to)
 }
 
 // A place in an order of the sides: the side that is the k-th, and those after it, are packed in rest.
@@ -394,9 +411,8 @@ struct Turn {
 }
 
 // The first side of an order that cuts, or else its last side; cuts has whether a side cuts, at the side's place.
-fn first_turn(order: u32, cuts: &[bool]) -> Turn
+fn first_turn(order: u32, cuts: &[bool; 4]) -> Turn
     requires { ⌜ order ≤ 23 ⌝ }
-    requires { ⌜ length (now cuts) ≡ 4 ⌝ }
     ensures { λ r. ⌜ (r .order ≡ order) × InOrder r ⌝ }
     ensures { λ r. ⌜ ((j : ℕ) → j < r .k → getD (now (cuts .entry)) (getD (sidesIn order) j 0) false ≡ false) ⌝ }
 {
@@ -409,24 +425,22 @@ fn first_turn(order: u32, cuts: &[bool]) -> Turn
     Turn { order, k, rest }
 }
 
-// The passes after that of a turn, which left the ring at the places q, each along a side that cuts: numbers and cuts have the window's number of a
-// side, and whether it cuts, at the side's place.
+// The passes after that of a turn, which left the ring at the places q, each along a side that cuts.
 fn go_on(
-    w: Window,
+    numbers: &[i32; 4],
     t: Turn,
-    numbers: &[i32],
-    cuts: &[bool],
+    cuts: &[bool; 4],
     outline: &[i32],
     m: &mut [i32],
     q: Places,
 ) -> Places
-    requires { ⌜ WindowOnTable w ⌝ }
+    requires { ⌜ WindowOnTable (windowOf (now numbers)) ⌝ }
     requires { ⌜ InOrder t ⌝ }
-    requires { ⌜ AtSides w (now outline) (now numbers) (now cuts) ⌝ }
+    requires { ⌜ Cutting (windowOf (now numbers)) (now outline) (now cuts) ⌝ }
     requires { ⌜ OutlineOnTable (now outline) ⌝ }
     requires { ⌜ 2 * length (now outline) + 16 ≤ length (now m) ⌝ }
-    requires { ⌜ Running w (t .order) (now outline) (now m) q (t .k + 1) ⌝ }
-    ensures { λ r. ⌜ Ran w (t .order) (now (outline .entry)) (now (m .exit)) r ⌝ }
+    requires { ⌜ Running (windowOf (now numbers)) (t .order) (now outline) (now m) q (t .k + 1) ⌝ }
+    ensures { λ r. ⌜ Ran (windowOf (now (numbers .entry))) (t .order) (now (outline .entry)) (now (m .exit)) r ⌝ }
 {
     let mut p = q;
     let mut rest = t.rest / 4;
@@ -434,7 +448,7 @@ fn go_on(
     while k < 4 {
         let side = (rest % 4) as usize;
         if cuts[side] {
-            p = pass(w, side, outline, limit_of(side, numbers[side]), m, p);
+            p = pass(numbers, side, outline, limit_of(side, numbers[side]), m, p);
             if p.to - p.from < 3 {
                 return Places { from: 0, to: 0 };
             }
@@ -445,47 +459,27 @@ fn go_on(
     p
 }
 
-// The passes in the order given, the first over the outline itself.
-fn cut_along(
-    w: Window,
+// What a window leaves of an outline, cut along its sides in the order given: the places of a ring in the memory, or none.
+// numbers has the window's number of a side, cuts whether the side cuts, at the side's place. The first pass goes over the outline itself.
+pub fn run(
+    numbers: &[i32; 4],
+    cuts: &[bool; 4],
     order: u32,
-    numbers: &[i32],
-    cuts: &[bool],
     outline: &[i32],
     m: &mut [i32],
 ) -> Places
-    requires { ⌜ WindowOnTable w ⌝ }
+    requires { ⌜ WindowOnTable (windowOf (now numbers)) ⌝ }
     requires { ⌜ order ≤ 23 ⌝ }
-    requires { ⌜ AtSides w (now outline) (now numbers) (now cuts) ⌝ }
+    requires { ⌜ Cutting (windowOf (now numbers)) (now outline) (now cuts) ⌝ }
     requires { ⌜ OutlineOnTable (now outline) ⌝ }
     requires { ⌜ 2 * length (now outline) + 16 ≤ length (now m) ⌝ }
-    ensures { λ r. ⌜ Ran w order (now (outline .entry)) (now (m .exit)) r ⌝ }
+    ensures { λ r. ⌜ Ran (windowOf (now (numbers .entry))) order (now (outline .entry)) (now (m .exit)) r ⌝ }
 {
     let t = first_turn(order, cuts);
     let side = (t.rest % 4) as usize;
-    let p = first::pass(w, side, outline, limit_of(side, numbers[side]), m);
+    let p = first::pass(numbers, side, outline, limit_of(side, numbers[side]), m);
     if p.to - p.from < 3 {
         return Places { from: 0, to: 0 };
     }
-    go_on(w, t, numbers, cuts, outline, m, p)
-}
-
-// What a window leaves of an outline, cut along its sides in the order given: the places of a ring in the memory, or none.
-// A side clear of the rectangle that the outline lies in cuts nothing off.
-pub fn run(w: Window, reach: Window, order: u32, outline: &[i32], m: &mut [i32]) -> Places
-    requires { ⌜ WindowOnTable w ⌝ }
-    requires { ⌜ order ≤ 23 ⌝ }
-    requires { ⌜ OutlineOnTable (now outline) ⌝ }
-    requires { ⌜ Reaches (now outline) reach ⌝ }
-    requires { ⌜ 2 * length (now outline) + 16 ≤ length (now m) ⌝ }
-    ensures { λ r. ⌜ Ran w order (now (outline .entry)) (now (m .exit)) r ⌝ }
-{
-    let numbers = [w.left, w.right, w.bottom, w.top];
-    let cuts = [
-        reach.left < w.left,
-        w.right < reach.right,
-        reach.bottom < w.bottom,
-        w.top < reach.top,
-    ];
-    cut_along(w, order, &numbers, &cuts, outline, m)
+    go_on(numbers, t, cuts, outline, m, p)
 }

@@ -1,6 +1,19 @@
 -- `outlines::clipped` meets its contract: where no side cuts anything off, the outline is what is left; where one leaves nothing there is no area; else what the passes leave is given. Assumes nothing.
+use mathlib.Core.Path.{_≡_, sym, subst, transport}
+use Prim.Native.Nat.{_^_, _<_}
 use borrow.Author.Needs.{needs}
+use denote.Ref.{now}
+use lib.Signed.{mag}
+use mir.Syntax.{w32}
+use mir.Val.{toZ, ofZ}
+use Rattle.whole.proofs.Comparisons.{back}
+use Rattle.grid.specs.Table.{WindowOnTable}
+use Rattle.grid.specs.declared.Window.{Window}
+use Rattle.passes.specs.Outlines.{Cutting}
 use Rattle.passes.proofs.Outlines.{outline-ring}
+use Rattle.outlines.specs.Outlines.{Clipped}
+use Rattle.outlines.specs.Workers.{GaveNumbers}
+use Rattle.outlines.proofs.Clear.{cutting, cutting-is}
 use Rattle.outlines.proofs.Giving.{give-ring, give-nothing}
 use Rattle.outlines.proofs.Reaching.{whole-left, nothing-left}
 use Rattle.outlines.proofs.clipped.Statement.{statement}
@@ -32,14 +45,52 @@ returns-2 c =
     let p = s .pre in
     give-nothing (p .1 .0) (p .1 .1 .0) (nothing-left (s .args .w) (p .1 .1 .1) (p .1 .0) (outline-ring (p .1 .1 .0)) (c .before .apart .ensures (c .if2 .taken)))
 
+-- a window as it is read
+abbrev read : Window → Window
+read w = record { left = toZ w32 (ofZ w32 (w .left)); bottom = toZ w32 (ofZ w32 (w .bottom)); right = toZ w32 (ofZ w32 (w .right)); top = toZ w32 (ofZ w32 (w .top)) }
+
+is-read : (w : Window) → mag (w .left) < 2 ^ 31 → mag (w .bottom) < 2 ^ 31 → mag (w .right) < 2 ^ 31 → mag (w .top) < 2 ^ 31 → w ≡ read w
+is-read w l b r t = λ i. record { left = sym (back w32 (w .left) l) i; bottom = sym (back w32 (w .bottom) b) i; right = sym (back w32 (w .right) r) i; top = sym (back w32 (w .top) t) i }
+
+module _ (c : tie.After-cut-by-passes-arg) where
+  abbrev reach-told : tie.After-struct-told5
+  reach-told = c .before .before .before .before .before .before .before .before .before .before .before
+
+  abbrev told : tie.After-struct-told
+  told = reach-told .before .before .before .before .before .before .before .before
+
+  abbrev start : tie.Start
+  start = told .before .before .before .before .before
+
+  is-w : start .args .w ≡ read (start .args .w)
+  is-w = let g = told .struct-told .given in is-read _ (g .0 .1) (g .1 .0 .1) (g .1 .1 .0 .1) (g .1 .1 .1 .0 .1)
+
+  is-reach : start .args .reach ≡ read (start .args .reach)
+  is-reach = let g = reach-told .struct-told5 .given in is-read _ (g .0 .1) (g .1 .0 .1) (g .1 .1 .0 .1) (g .1 .1 .1 .0 .1)
+
 cut-by-passes-requires : tie.Need-cut-by-passes-requires
-cut-by-passes-requires c κs = search needs
+cut-by-passes-requires c κs =
+    let s = start c in
+    let p = s .pre in (
+      subst WindowOnTable (is-w c) (p .0),
+      (
+        p .1 .0,
+        (
+          p .1 .1 .0,
+          transport (λ i. Cutting (is-w c i) (now (s .args .outline)) (cutting (is-w c i) (is-reach c i))) (cutting-is (s .args .w) (s .args .reach) (p .1 .1 .1)),
+        ),
+      ),
+    )
 
 same-length-2 : tie.Need-same-length-2
 same-length-2 c = search needs
 
 returns-3 : tie.Need-returns-3
-returns-3 c = search needs
+returns-3 c =
+    let a = c .before .before in
+    let s = start a in
+    let done = c .before .cut-by-passes in
+    subst (λ (w : Window). GaveNumbers (Clipped w (s .args .order) (now (s .args .outline))) (done .result) (now (s .args .out)) (done .last .1 .1 .1 .1 .0)) (sym (is-w a)) (done .ensures)
 
 pub clipped-spec : {M : Type 1} → statement M
 clipped-spec =

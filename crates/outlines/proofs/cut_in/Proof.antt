@@ -9,6 +9,7 @@ use lib.IntN.{ℤ}
 use lib.ListN.{length, length-take, length-drop}
 use Rattle.rings.specs.Points.{Point}
 use Rattle.rings.specs.Rings.{Ring}
+use Rattle.passes.specs.Orders.{windowOf}
 use Rattle.passes.specs.declared.Places.{Places}
 use Rattle.outlines.specs.Workers.{GaveRing}
 use Rattle.outlines.proofs.Giving.{LeftRing, in-order, left-ring, ring-part, give-ring, give-nothing, none-cuts}
@@ -16,7 +17,7 @@ use Rattle.outlines.proofs.cut_in.Statement.{statement}
 use Rattle.outlines.proofs.cut_in.Tie as tie
 
 run-requires : tie.Need-run-requires
-run-requires c κs = search needs
+run-requires c κs = let p = c .before .pre in (p .0, (p .1 .0, (p .1 .1 .1 .0, (p .1 .1 .0, p .1 .1 .1 .1))))
 
 sub-n : tie.Need-sub-n
 sub-n c = in-order (c .before .before .run .ensures)
@@ -44,7 +45,7 @@ module _ (c : tie.Else1) where
   abbrev p : Places
   p = ran .run .result
 
-  left : LeftRing (start .args .w) (start .args .order) (now (start .args .outline)) m p
+  left : LeftRing (windowOf (now (start .args .numbers))) (start .args .order) (now (start .args .outline)) m p
   left = left-ring (start .pre .1 .0) (start .pre .1 .1 .0) (ran .run .ensures) (c .if1 .left)
 
   first : 4 * p .from ≤ length m

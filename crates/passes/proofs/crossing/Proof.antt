@@ -3,7 +3,6 @@ use mathlib.Core.Path.{_≡_, refl, sym, _∙_, subst}
 use mathlib.Core.List.{List}
 use Prim.Native.Nat.{ℕ, _+_, _-_, _/_, _<_, _≤_}
 use native.Mathlib.Omega.{arith}
-use borrow.Author.Needs.{needs}
 use denote.Ref.{now}
 use lib.Dec.{T}
 use lib.IntN.{ℤ, pos, natAbs}
@@ -14,6 +13,7 @@ use mir.Val.{Fits, toZ, ofZ}
 use mir.Facts.{toZ-ofZ}
 use Rattle.grid.specs.declared.Window.{Window}
 use Rattle.grid.specs.declared.Stroke.{Stroke}
+use Rattle.passes.specs.Orders.{windowOf}
 use Rattle.passes.specs.Tags.{sideOf, edgeOf, Names, edge, side}
 use Rattle.passes.proofs.crossing.Statement.{statement}
 use Rattle.passes.proofs.crossing.Tie as tie
@@ -32,12 +32,12 @@ tag {w} {zs} h (side s l) =
     let e : 64 + s - 64 ≡ s = omega arith in
     record { is = refl; few = omega arith; corner = λ j. absurd (omega arith); own = λ j. absurd (omega arith); side = λ _. subst (λ (k : ℕ). Names w zs (pos (64 + s)) (sideOf w k)) (sym e) (side s l) }
 
-given : (c : tie.Start) → Tag (c .args .w) (now (c .args .outline)) (c .args .tag) (natAbs (c .args .tag))
+given : (c : tie.Start) → Tag (windowOf (now (c .args .numbers))) (now (c .args .outline)) (c .args .tag) (natAbs (c .args .tag))
 given c = tag (c .pre .1 .0 .corners .few) (c .pre .1 .1 .1 .1)
 
 -- as it is read
-read : (c : tie.Start) → Tag (c .args .w) (now (c .args .outline)) (c .args .tag) (natAbs (toZ w32 (ofZ w32 (c .args .tag))))
-read c = subst (λ (z : ℤ). Tag (c .args .w) (now (c .args .outline)) (c .args .tag) (natAbs z)) (sym (toZ-ofZ (c .fits .tag))) (given c)
+read : (c : tie.Start) → Tag (windowOf (now (c .args .numbers))) (now (c .args .outline)) (c .args .tag) (natAbs (toZ w32 (ofZ w32 (c .args .tag))))
+read c = subst (λ (z : ℤ). Tag (windowOf (now (c .args .numbers))) (now (c .args .outline)) (c .args .tag) (natAbs z)) (sym (toZ-ofZ (c .fits .tag))) (given c)
 
 cast-k : tie.Need-cast-k
 cast-k c = subst (λ (z : ℤ). T (nonNeg z) × Fits w64 (natAbs z)) (sym (toZ-ofZ (c .fits .tag) ∙ given c .is)) (tt, record { fits = omega (arith, given c .few) })
@@ -49,7 +49,7 @@ returns : tie.Need-returns
 returns c = let s = c .before .before in record { stroke = _; named = read s .own (c .before .if1 .taken); meets = c .edge-crossing .ensures }
 
 side-crossing-requires : tie.Need-side-crossing-requires
-side-crossing-requires c κs = search needs
+side-crossing-requires c κs = let s = c .before in (s .pre .0, (s .pre .1 .1 .0, omega (arith, read s .few)))
 
 returns-2 : tie.Need-returns-2
 returns-2 c = let s = c .before .before in record { stroke = _; named = read s .side (c .before .if1 .left); meets = c .side-crossing .ensures }

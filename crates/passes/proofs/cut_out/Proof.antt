@@ -16,7 +16,7 @@ use Rattle.whole.specs.Choice.{if_then_else_, Decides}
 use Rattle.whole.proofs.Comparisons.{by-test}
 use Rattle.rings.specs.Points.{Point, Line, In, Out, On}
 use Rattle.passes.specs.Memory.{pointIn, Small}
-use Rattle.passes.specs.Orders.{sideLine}
+use Rattle.passes.specs.Orders.{windowOf, sideLine}
 use Rattle.passes.specs.Tags.{tagIn, Named}
 use Rattle.passes.specs.Limits.{LimitOnTable}
 use Rattle.passes.specs.Runs.{Tagged, cornerIn, Brought}
@@ -34,9 +34,9 @@ module _ (s : tie.Start) where
   m = now (s .args .m)
 
   abbrev h : Line
-  h = sideLine (s .args .w) (s .args .side)
+  h = sideLine (windowOf (now (s .args .numbers))) (s .args .side)
 
-  held : Held (s .args .w) (now (s .args .outline)) m (places (s .args .from) (s .args .to))
+  held : Held (windowOf (now (s .args .numbers))) (now (s .args .outline)) m (places (s .args .from) (s .args .to))
   held = s .pre .1 .1 .1 .0
 
   after-from : s .args .from < s .args .a
@@ -161,9 +161,9 @@ module _ (c : tie.After-make-room) where
       let j : s₁ .args .a + (b found - 1 - s₁ .args .a) ≡ b found - 1 = omega (arith, after-a found) in
       ap (cornerIn m₁) i ∙ up .brought (b found - 1 - s₁ .args .a) (omega (arith, after-a found, to-end found)) ∙ ap (cornerIn (m s₁)) j
 
-  last-named : Named (s₁ .args .w) (now (s₁ .args .outline)) (tagIn m₁ o)
+  last-named : Named (windowOf (now (s₁ .args .numbers))) (now (s₁ .args .outline)) (tagIn m₁ o)
   last-named =
-      subst (λ (c : Tagged). Named (s₁ .args .w) (now (s₁ .args .outline)) (c .tag)) (sym last-out)
+      subst (λ (c : Tagged). Named (windowOf (now (s₁ .args .numbers))) (now (s₁ .args .outline)) (c .tag)) (sym last-out)
       (named-in (held s₁) (b found - 1) (omega (arith, after-a found, after-from s₁)) (omega (arith, after-a found, to-end found)))
 
   o-fits : 4 * o + 4 ≤ length m₁
@@ -188,7 +188,7 @@ module _ (c : tie.After-enter) where
   size₂ : length m₂ ≡ length (m (s₁ room))
   size₂ = c .enter .kept .1 .1 .1 .0 ∙ size₁ room
 
-  came : Come (s₁ room .args .w) (now (s₁ room .args .outline)) (s₁ room .args .side) (m₁ room) (o room) (pointIn (m (s₁ room)) (next (found room))) m₂ (c .enter .result)
+  came : Come (windowOf (now (s₁ room .args .numbers))) (now (s₁ room .args .outline)) (s₁ room .args .side) (m₁ room) (o room) (pointIn (m (s₁ room)) (next (found room))) m₂ (c .enter .result)
   came = come (s₁ room .pre .1 .0 .0) (o-fits room) (on-there room) (next-of-ring (found room) .2) (c .enter .ensures)
 
   -- the last corner inside is as it was
@@ -210,7 +210,7 @@ leave-requires c κs =
         s .pre .1 .0,
         (
           omega (arith, size₂ e, fits s, before-to s),
-          subst (λ (c : Tagged). Named (s .args .w) (now (s .args .outline)) (c .tag)) (sym (last-in e)) (named-in (held s) (s .args .a - 1) (omega (arith, after-from s)) (omega (arith, before-to s))),
+          subst (λ (c : Tagged). Named (windowOf (now (s .args .numbers))) (now (s .args .outline)) (c .tag)) (sym (last-in e)) (named-in (held s) (s .args .a - 1) (omega (arith, after-from s)) (omega (arith, before-to s))),
         ),
       ),
     )
@@ -228,7 +228,7 @@ module _ (c : tie.After-leave) where
   size₃ : length m₃ ≡ length (m s₂)
   size₃ = c .leave .kept .1 .1 .1 .1 .0 ∙ size₂ entered
 
-  went : Gone (s₂ .args .w) (now (s₂ .args .outline)) (s₂ .args .side) (m₂ entered) (s₂ .args .a - 1) m₃ (c .leave .result)
+  went : Gone (windowOf (now (s₂ .args .numbers))) (now (s₂ .args .outline)) (s₂ .args .side) (m₂ entered) (s₂ .args .a - 1) m₃ (c .leave .result)
   went =
       let p = ap (λ (c : Tagged). c .point) (last-in entered) in
       gone (omega (arith, size₂ entered, fits s₂, before-to s₂)) (subst (λ (q : Point). Decides (here (room entered) .touches .result) (On (h s₂) q)) (sym p) (on-here (room entered)))

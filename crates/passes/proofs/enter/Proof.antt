@@ -7,6 +7,7 @@ use lib.IntN.{ℤ}
 use mir.Syntax.{w32}
 use mir.Val.{toZ, ofZ}
 use Rattle.whole.proofs.Comparisons.{back}
+use Rattle.passes.specs.Orders.{windowOf}
 use Rattle.passes.specs.Tags.{tagIn, Named}
 use Rattle.passes.specs.Limits.{limitLine}
 use Rattle.passes.specs.Steps.{pointOf, Meeting, putAt, Entered, on-line, crosses}
@@ -38,7 +39,7 @@ slice-copy-out-tag : tie.Need-slice-copy-out-tag
 slice-copy-out-tag c = search needs
 
 crossing-requires : tie.Need-crossing-requires
-crossing-requires c κs = let s = c .before .before .before in (s .pre .0, (s .pre .1 .0, (s .pre .1 .1 .0, subst (Named (s .args .w) (now (s .args .outline))) (sym (is-tag (c .before))) (s .pre .1 .1 .1 .1))))
+crossing-requires c κs = let s = c .before .before .before in (s .pre .0, (s .pre .1 .0, (s .pre .1 .1 .0, subst (Named (windowOf (now (s .args .numbers))) (now (s .args .outline))) (sym (is-tag (c .before))) (s .pre .1 .1 .1 .1))))
 
 put-requires : tie.Need-put-requires
 put-requires c κs = search needs
@@ -52,9 +53,9 @@ returns-2 c =
     let s = e .before .before in
     let p = pointOf (c .before .before .crossing .result) in
     let wrote : c .before .put .last .0 ≡ putAt (memory s) (s .args .o) p (tagIn (memory s) (s .args .o)) = c .before .put .ensures ∙ ap (putAt (memory s) (s .args .o) p) (is-tag e) in
-    subst (λ (m : List ℤ). Entered (s .args .w) (now (s .args .outline)) (limitLine (s .args .l)) (s .args .there) (memory s) (s .args .o) m (s .args .o)) (sym wrote)
+    subst (λ (m : List ℤ). Entered (windowOf (now (s .args .numbers))) (now (s .args .outline)) (limitLine (s .args .l)) (s .args .there) (memory s) (s .args .o) m (s .args .o)) (sym wrote)
     (crosses (e .before .if1 .left)
-    (subst (λ (t : ℤ). Meeting (s .args .w) (now (s .args .outline)) (limitLine (s .args .l)) t p) (is-tag e) (c .before .before .crossing .ensures)))
+    (subst (λ (t : ℤ). Meeting (windowOf (now (s .args .numbers))) (now (s .args .outline)) (limitLine (s .args .l)) t p) (is-tag e) (c .before .before .crossing .ensures)))
 
 pub enter-spec : {M : Type 1} → statement M
 enter-spec = tie.close (tie.spec add-result returns mul-tag add-tag mul-tag-2 slice-copy-out-tag crossing-requires put-requires same-length returns-2)

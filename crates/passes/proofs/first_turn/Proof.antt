@@ -23,7 +23,7 @@ abbrev μ-loop : tie.MeasureT-loop
 μ-loop order cuts rest₀ k₀ rest k = 3 - k
 
 sides-of-requires : tie.Need-sides-of-requires Inv-loop μ-loop
-sides-of-requires c κs = c .before .pre .0
+sides-of-requires c κs = c .pre
 
 loop-holds : tie.Need-loop-holds Inv-loop μ-loop
 loop-holds c = (omega arith, c .sides-of .ensures, λ j h. absurd (omega arith))
@@ -31,8 +31,8 @@ loop-holds c = (omega arith, c .sides-of .ensures, λ j h. absurd (omega arith))
 cast-if1 : tie.Need-cast-if1 Inv-loop μ-loop
 cast-if1 c = omega arith
 
-shared-slice-read-if1 : tie.Need-shared-slice-read-if1 Inv-loop μ-loop
-shared-slice-read-if1 c = omega (arith, c .before .before .before .before .before .pre .1)
+element-copy-out-if1 : tie.Need-element-copy-out-if1 Inv-loop μ-loop
+element-copy-out-if1 c = omega arith
 
 add-k : tie.Need-add-k Inv-loop μ-loop
 add-k c = omega arith
@@ -44,24 +44,24 @@ loop-again : tie.Need-loop-again Inv-loop μ-loop
 loop-again c =
     let i = c .before .before in
     let l = i .before .loop in
-    let s = i .before .before .before .before in
+    let s = i .before .before .before in
     let cs = now (s .args .cuts) in
     let k : l .k < 4 = omega (arith, i .loop-test .taken) in
     let o = s .args .order in (
       omega (arith, i .loop-test .taken),
-      sides-after o (s .pre .0) (l .k) k (l .inv .1),
-      below-more (λ (j : ℕ). getD cs (getD (sidesIn o) j 0) false ≡ false) (l .k) (l .inv .2) (subst (λ (j : ℕ). getD cs j false ≡ false) (next-side o (s .pre .0) (l .k) k (l .inv .1)) (not-true _ (c .if1 .taken))),
+      sides-after o (s .pre) (l .k) k (l .inv .1),
+      below-more (λ (j : ℕ). getD cs (getD (sidesIn o) j 0) false ≡ false) (l .k) (l .inv .2) (subst (λ (j : ℕ). getD cs j false ≡ false) (next-side o (s .pre) (l .k) k (l .inv .1)) (not-true _ (c .if1 .taken))),
     )
 
 returns : tie.Need-returns Inv-loop μ-loop
 returns c =
     let l = c .before .before .before .loop in
-    ((refl, record { order = c .before .before .before .before .before .before .pre .0; place = l .inv .0; sides = l .inv .1 }), l .inv .2)
+    ((refl, record { order = c .before .before .before .before .before .pre; place = l .inv .0; sides = l .inv .1 }), l .inv .2)
 
 returns-2 : tie.Need-returns-2 Inv-loop μ-loop
 returns-2 c =
     let l = c .before .loop in
-    ((refl, record { order = c .before .before .before .before .pre .0; place = l .inv .0; sides = l .inv .1 }), l .inv .2)
+    ((refl, record { order = c .before .before .before .pre; place = l .inv .0; sides = l .inv .1 }), l .inv .2)
 
 pub first-turn-spec : {M : Type 1} → statement M
 first-turn-spec =
@@ -72,7 +72,7 @@ first-turn-spec =
     sides-of-requires
     loop-holds
     cast-if1
-    shared-slice-read-if1
+    element-copy-out-if1
     add-k
     loop-less
     loop-again

@@ -17,12 +17,12 @@ use Rattle.grid.specs.Table.{farthest}
 use Rattle.grid.specs.declared.Window.{Window}
 use Rattle.rings.specs.Cuts.{Cuts}
 use Rattle.corners.specs.Corners.{cornersOf}
-use Rattle.passes.specs.Orders.{linesIn, sidesIn, packed}
-use Rattle.passes.specs.Outlines.{AtSides, Job}
+use Rattle.passes.specs.Orders.{windowOf, linesIn, sidesIn, packed}
+use Rattle.passes.specs.Outlines.{Cutting, Job}
 use Rattle.passes.specs.Tags.{numberOf}
 use Rattle.passes.specs.Passes.{Passed, Running, no-area}
 use Rattle.passes.specs.declared.Places.{Places}
-use Rattle.passes.proofs.Sides.{number-within}
+use Rattle.passes.proofs.Sides.{number-within, number-at}
 use Rattle.passes.proofs.Memories.{ring-length}
 use Rattle.passes.proofs.Orders.{next-side, sides-after}
 use Rattle.passes.proofs.Running.{passed-over, run-gone, run-more, run-ended}
@@ -35,21 +35,21 @@ Followed w zs m₀ p₀ rest₀ k₀ m p rest k =
     (o : ℕ) → o ≤ 23 → rest₀ ≡ packed (drop k₀ (sidesIn o)) → Running w o zs m₀ p₀ k₀ → (rest ≡ packed (drop k (sidesIn o))) × Running w o zs m p k
 
 abbrev Inv-loop : tie.InvT-loop
-Inv-loop w numbers cuts outline m₀ p₀ rest₀ k₀ m p rest k = (k ≤ 4) × (length m ≡ length m₀) × Followed w outline m₀ p₀ rest₀ k₀ m p rest k
+Inv-loop numbers cuts outline m₀ p₀ rest₀ k₀ m p rest k = (k ≤ 4) × (length m ≡ length m₀) × Followed (windowOf numbers) outline m₀ p₀ rest₀ k₀ m p rest k
 
 abbrev μ-loop : tie.MeasureT-loop
-μ-loop w numbers cuts outline m₀ p₀ rest₀ k₀ m p rest k = 4 - k
+μ-loop numbers cuts outline m₀ p₀ rest₀ k₀ m p rest k = 4 - k
 
 add-k : tie.Need-add-k Inv-loop μ-loop
 add-k c = omega arith
 
 loop-holds : tie.Need-loop-holds Inv-loop μ-loop
-loop-holds c = (omega (arith, c .before .before .before .pre .1 .0 .place), refl, λ o h e r. (e, r))
+loop-holds c = (omega (arith, c .before .before .pre .1 .0 .place), refl, λ o h e r. (e, r))
 
 -- ---- the order of the turn
 module _ (c : tie.At-loop Inv-loop μ-loop) where
   abbrev start : tie.Start Inv-loop μ-loop
-  start = c .before .before .before .before
+  start = c .before .before .before
 
   abbrev order : ℕ
   order = start .args .t .order
@@ -57,7 +57,7 @@ module _ (c : tie.At-loop Inv-loop μ-loop) where
   is-order : order ≤ 23
   is-order = start .pre .1 .0 .order
 
-  so-far : (c .loop .rest ≡ packed (drop (c .loop .k) (sidesIn order))) × Running (start .args .w) order (now (start .args .outline)) (c .loop .m) (c .loop .p) (c .loop .k)
+  so-far : (c .loop .rest ≡ packed (drop (c .loop .k) (sidesIn order))) × Running (windowOf (now (start .args .numbers))) order (now (start .args .outline)) (c .loop .m) (c .loop .p) (c .loop .k)
   so-far =
       let t = start .pre .1 .0 in
       c .loop .inv .2 order is-order (sides-after order is-order (start .args .t .k) (omega (arith, t .place)) (t .sides)) (start .pre .1 .1 .1 .1 .1)
@@ -70,15 +70,15 @@ module _ (c : tie.In-loop Inv-loop μ-loop) where
   abbrev side : ℕ
   side = at .loop .rest % 4
 
-  sides : AtSides (start at .args .w) (now (start at .args .outline)) (now (start at .args .numbers)) (now (start at .args .cuts))
+  sides : Cutting (windowOf (now (start at .args .numbers))) (now (start at .args .outline)) (now (start at .args .cuts))
   sides = start at .pre .1 .1 .0
 
   abbrev Left-by : Places → List ℤ → Type 0
   Left-by p m =
-      Followed (start at .args .w) (now (start at .args .outline)) (now (start at .args .m)) (start at .args .q) (start at .args .t .rest / 4) (start at .args .t .k + 1) m p (at .loop .rest / 4) (at .loop .k + 1)
+      Followed (windowOf (now (start at .args .numbers))) (now (start at .args .outline)) (now (start at .args .m)) (start at .args .q) (start at .args .t .rest / 4) (start at .args .t .k + 1) m p (at .loop .rest / 4) (at .loop .k + 1)
 
   -- what a pass along it leaves
-  left : (p : Places) (m : List ℤ) → Passed (start at .args .w) (now (start at .args .outline)) side (at .loop .m) (at .loop .p) m p → 3 ≤ p .to - p .from → Left-by p m
+  left : (p : Places) (m : List ℤ) → Passed (windowOf (now (start at .args .numbers))) (now (start at .args .outline)) side (at .loop .m) (at .loop .p) m p → 3 ≤ p .to - p .from → Left-by p m
   left p m d h o ho e₀ r₀ =
       let f = at .loop .inv .2 o ho e₀ r₀ in
       (sides-after o ho (at .loop .k) (c .loop-test .taken) (f .0), run-more ho (c .loop-test .taken) (next-side o ho (at .loop .k) (c .loop-test .taken) (f .0)) d (f .1) h)
@@ -86,23 +86,23 @@ module _ (c : tie.In-loop Inv-loop μ-loop) where
 cast-side : tie.Need-cast-side Inv-loop μ-loop
 cast-side c = omega arith
 
-shared-slice-read-if1 : tie.Need-shared-slice-read-if1 Inv-loop μ-loop
-shared-slice-read-if1 c = omega (arith, sides (c .before) .cuts-count)
+element-copy-out-if1 : tie.Need-element-copy-out-if1 Inv-loop μ-loop
+element-copy-out-if1 c = omega arith
 
 mul-limit-of : tie.Need-mul-limit-of Inv-loop μ-loop
 mul-limit-of c = omega arith
 
-shared-slice-copy-out-limit-of : tie.Need-shared-slice-copy-out-limit-of Inv-loop μ-loop
-shared-slice-copy-out-limit-of c = omega (arith, sides (c .before .before) .numbers-count)
+element-copy-out-limit-of : tie.Need-element-copy-out-limit-of Inv-loop μ-loop
+element-copy-out-limit-of c = omega arith
 
 -- the side's number, as it is read
-is-number : (c : tie.After-limit-of-arg Inv-loop μ-loop) → let i = c .before .before .before in toZ w32 (ofZ w32 (getD (now (start (at i) .args .numbers)) (side i) (pos 0))) ≡ numberOf (start (at i) .args .w) (side i)
-is-number c = let i = c .before .before .before in back w32 _ (c .limit-of-arg .given) ∙ sides i .number (side i) (omega arith)
+is-number : (c : tie.After-limit-of-arg Inv-loop μ-loop) → let i = c .before .before .before in toZ w32 (ofZ w32 (getD (now (start (at i) .args .numbers)) (side i) (pos 0))) ≡ numberOf (windowOf (now (start (at i) .args .numbers))) (side i)
+is-number c = let i = c .before .before .before in back w32 _ (c .limit-of-arg .given) ∙ number-at (now (start (at i) .args .numbers)) (side i) (omega arith)
 
 limit-of-requires : tie.Need-limit-of-requires Inv-loop μ-loop
 limit-of-requires c κs =
     let i = c .before .before .before in
-    (omega arith, subst (Within farthest) (sym (is-number c)) (number-within (start (at i) .args .w) (side i) (start (at i) .pre .0)))
+    (omega arith, subst (Within farthest) (sym (is-number c)) (number-within (windowOf (now (start (at i) .args .numbers))) (side i) (start (at i) .pre .0)))
 
 pass-requires : tie.Need-pass-requires Inv-loop μ-loop
 pass-requires c κs =
@@ -111,16 +111,16 @@ pass-requires c κs =
     let s = start (at i) in
     let p = s .pre .1 .1 .1 in
     let r = so-far (at i) .1 in
-    let job : Job (s .args .w) (now (s .args .outline)) (side i) = record { window = s .pre .0; outline = p .0; side = omega arith } in
+    let job : Job (windowOf (now (s .args .numbers))) (now (s .args .outline)) (side i) = record { window = s .pre .0; outline = p .0; side = omega arith } in
     let l = c .before .limit-of .ensures in
-    (job, ((l .0 (s .args .w) (is-number n), l .1), (omega (arith, r .room, p .1 .0, at i .loop .inv .1, i .loop-test .taken), r .held)))
+    (job, ((l .0 (windowOf (now (s .args .numbers))) (is-number n), l .1), (omega (arith, r .room, p .1 .0, at i .loop .inv .1, i .loop-test .taken), r .held)))
 
 -- ---- after a pass
 module _ (c : tie.After-pass Inv-loop μ-loop) where
   abbrev within : tie.In-loop Inv-loop μ-loop
   within = c .before .before .before .before .before .before
 
-  none-left : c .pass .result .to - c .pass .result .from < 3 → Cuts (linesIn (order (at within)) (start (at within) .args .w)) (cornersOf (now (start (at within) .args .outline))) none
+  none-left : c .pass .result .to - c .pass .result .from < 3 → Cuts (linesIn (order (at within)) (windowOf (now (start (at within) .args .numbers)))) (cornersOf (now (start (at within) .args .outline))) none
   none-left h =
       let f = so-far (at within) in
       run-gone (is-order (at within)) (within .loop-test .taken) (next-side (order (at within)) (is-order (at within)) (at within .loop .k) (within .loop-test .taken) (f .0)) (c .pass .ensures) (f .1) h
@@ -130,7 +130,7 @@ over : (c : tie.In-loop Inv-loop μ-loop) → getD (now (start (at c) .args .cut
 over c e =
     let l = at c .loop in
     let r = so-far (at c) .1 in
-    left c (l .p) (l .m) (passed-over (side c) (sides c .uncut (side c) (omega arith) e) r) (omega (arith, r .held .ring .three, ring-length (l .m) (l .p .from) (l .p .to - l .p .from)))
+    left c (l .p) (l .m) (passed-over (side c) (sides c (side c) (omega arith) e) r) (omega (arith, r .held .ring .three, ring-length (l .m) (l .p .from) (l .p .to - l .p .from)))
 
 sub-if2 : tie.Need-sub-if2 Inv-loop μ-loop
 sub-if2 c = c .before .before .pass .ensures .order
@@ -164,7 +164,7 @@ returns-2 c =
     let a = c .before in
     let s = start a in
     let e : a .loop .k ≡ 4 = omega arith in
-    run-ended (is-order a) (omega (arith, s .pre .1 .1 .1 .1 .0, a .loop .inv .1)) (subst (Running (s .args .w) (order a) (now (s .args .outline)) (a .loop .m) (a .loop .p)) e (so-far a .1))
+    run-ended (is-order a) (omega (arith, s .pre .1 .1 .1 .1 .0, a .loop .inv .1)) (subst (Running (windowOf (now (s .args .numbers))) (order a) (now (s .args .outline)) (a .loop .m) (a .loop .p)) e (so-far a .1))
 
 pub go-on-spec : {M : Type 1} → statement M
 go-on-spec =
@@ -175,9 +175,9 @@ go-on-spec =
     add-k
     loop-holds
     cast-side
-    shared-slice-read-if1
+    element-copy-out-if1
     mul-limit-of
-    shared-slice-copy-out-limit-of
+    element-copy-out-limit-of
     limit-of-requires
     pass-requires
     sub-if2

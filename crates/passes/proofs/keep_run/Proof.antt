@@ -13,7 +13,7 @@ use lib.ListN.{length}
 use Rattle.whole.specs.Choice.{Decides}
 use Rattle.rings.specs.Points.{Point, Line, In, Out, On}
 use Rattle.passes.specs.Memory.{pointIn}
-use Rattle.passes.specs.Orders.{sideLine}
+use Rattle.passes.specs.Orders.{windowOf, sideLine}
 use Rattle.passes.specs.Tags.{Named}
 use Rattle.passes.specs.Runs.{Tagged, cornerIn}
 use Rattle.passes.specs.Passes.{places, Held}
@@ -30,9 +30,9 @@ module _ (s : tie.Start) where
   m = now (s .args .m)
 
   abbrev h : Line
-  h = sideLine (s .args .w) (s .args .side)
+  h = sideLine (windowOf (now (s .args .numbers))) (s .args .side)
 
-  held : Held (s .args .w) (now (s .args .outline)) m (places (s .args .from) (s .args .to))
+  held : Held (windowOf (now (s .args .numbers))) (now (s .args .outline)) m (places (s .args .from) (s .args .to))
   held = s .pre .1 .1 .1 .0
 
   some : s .args .from < s .args .to
@@ -172,7 +172,7 @@ module _ (c : tie.After-enter) where
   size₁ : length m₁ ≡ length (m (s₁ r))
   size₁ = c .enter .kept .1 .1 .1 .0
 
-  came : Come (s₁ r .args .w) (now (s₁ r .args .outline)) (s₁ r .args .side) (m (s₁ r)) (f (first (out r)) - 1) (pointIn (m (s₁ r)) (f (first (out r)))) m₁ (c .enter .result)
+  came : Come (windowOf (now (s₁ r .args .numbers))) (now (s₁ r .args .outline)) (s₁ r .args .side) (m (s₁ r)) (f (first (out r)) - 1) (pointIn (m (s₁ r)) (f (first (out r)))) m₁ (c .enter .result)
   came =
       let l = after-from (first (out r)) in
       let t = before-to (out r) in
@@ -192,7 +192,7 @@ leave-requires c κs =
     let l = after-from (first (out (r i))) in
     let t = after-f (r i) in
     let k = e-to (r i) in
-    (s .pre .0, (s .pre .1 .0, (omega (arith, size₁ i, fits s), subst (λ (c : Tagged). Named (s .args .w) (now (s .args .outline)) (c .tag)) (sym (last-in i)) (named-in (held s) (e (r i) - 1) (omega arith) (omega arith)))))
+    (s .pre .0, (s .pre .1 .0, (omega (arith, size₁ i, fits s), subst (λ (c : Tagged). Named (windowOf (now (s .args .numbers))) (now (s .args .outline)) (c .tag)) (sym (last-in i)) (named-in (held s) (e (r i) - 1) (omega arith) (omega arith)))))
 
 same-length-2 : tie.Need-same-length-2
 same-length-2 c = c .before .leave .kept .1 .1 .1 .1 .0 ∙ size₁ (c .before .before .before .before)
@@ -205,7 +205,7 @@ returns-2 c =
     let p = ap (λ (c : Tagged). c .point) (last-in i) in
     let t = after-f (r i) in
     let k = e-to (r i) in
-    let went : Gone (s .args .w) (now (s .args .outline)) (s .args .side) (m₁ i) (e (r i) - 1) (c .before .leave .last .1 .1 .1 .1 .0) (c .before .leave .result) =
+    let went : Gone (windowOf (now (s .args .numbers))) (now (s .args .outline)) (s .args .side) (m₁ i) (e (r i) - 1) (c .before .leave .last .1 .1 .1 .1 .0) (c .before .leave .result) =
     gone (omega (arith, size₁ i, fits s)) (subst (λ (q : Point). Decides (values i .touches2 .result) (On (h s) q)) (sym p) (on-here (values i))) (subst (In (h s)) (sym p) (all-in (r i) (e (r i) - 1) (omega arith) (omega arith))) (c .before .leave .ensures) in
     keep-run (s .pre .0) (m s) (after-from x) (after-f (r i)) (e-to (r i)) (held s) (all-out x) (all-in (r i)) (back-out (r i)) (m₁ i) (c .before .leave .last .1 .1 .1 .1 .0) (i .enter .result) (c .before .leave .result) (came i) went
 

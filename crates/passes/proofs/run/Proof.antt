@@ -1,96 +1,158 @@
--- `passes::run` meets its contract: what stands at the places of the sides is what the passes ask for. Assumes nothing.
-use mathlib.Core.Path.{_≡_, refl, sym, transport}
-use mathlib.Core.Bool.{Bool, false}
-use mathlib.Core.List.{List, [], _∷_}
-use Prim.Native.Nat.{ℕ, zero, suc, _^_, _<_}
+-- `passes::run` meets its contract: the sides before the first turn cut nothing off the outline, and the first pass leaves what the others go on from. Assumes nothing.
+use mathlib.Core.Path.{_≡_, refl, sym, _∙_, subst}
+use mathlib.Core.Bool.{false}
+use mathlib.Core.List.{List}
+use mathlib.Core.Option.{none}
+use Prim.Native.Nat.{ℕ, _/_, _%_, _≤_}
 use native.Mathlib.Omega.{arith}
-use borrow.Author.Needs.{needs}
 use denote.Ref.{now}
 use lib.IntN.{ℤ, pos}
-use lib.ListN.{getD}
-use lib.Signed.{mag, ltZ}
+use lib.ListN.{length, getD}
 use mir.Syntax.{w32}
 use mir.Val.{toZ, ofZ}
-use Rattle.whole.proofs.Comparisons.{back, lt-no}
-use Rattle.grid.specs.declared.Window.{Window}
-use Rattle.passes.specs.Tags.{numberOf}
-use Rattle.passes.specs.Outlines.{Reaches, Clear, AtSides}
-use Rattle.passes.proofs.Reaches.{clear-in}
+use Rattle.whole.specs.Within.{Within}
+use Rattle.whole.proofs.Comparisons.{back}
+use Rattle.grid.specs.Table.{farthest}
+use Rattle.rings.specs.Cuts.{Cuts}
+use Rattle.corners.specs.Corners.{cornersOf}
+use Rattle.passes.specs.Orders.{windowOf, linesIn, sidesIn}
+use Rattle.passes.specs.Outlines.{Cutting, Job}
+use Rattle.passes.specs.Tags.{numberOf, loadedOf}
+use Rattle.passes.specs.Passes.{places, Running, Ran, no-area}
+use Rattle.passes.specs.declared.Turn.{Turn}
+use Rattle.passes.proofs.Sides.{number-within, number-at}
+use Rattle.passes.proofs.Orders.{side-below, next-side}
+use Rattle.passes.proofs.Running.{run-skipped, run-gone, run-more}
 use Rattle.passes.proofs.run.Statement.{statement}
 use Rattle.passes.proofs.run.Tie as tie
 
-abbrev numbers : Window → List ℤ
-numbers w = w .left ∷ w .right ∷ w .bottom ∷ w .top ∷ []
-
-abbrev cuts : Window → Window → List Bool
-cuts w b = ltZ (b .left) (w .left) ∷ ltZ (w .right) (b .right) ∷ ltZ (b .bottom) (w .bottom) ∷ ltZ (w .top) (b .top) ∷ []
-
--- a side that does not cut is clear
-clear : (w b : Window) (s : ℕ) → s < 4 → getD (cuts w b) s false ≡ false → Clear w b s
-clear w b zero h e = lt-no refl refl e
-clear w b (suc zero) h e = lt-no refl refl e
-clear w b (suc (suc zero)) h e = lt-no refl refl e
-clear w b (suc (suc (suc zero))) h e = lt-no refl refl e
-clear w b (suc (suc (suc (suc s)))) h e = absurd (omega arith)
-
-number : (w : Window) (s : ℕ) → s < 4 → getD (numbers w) s (pos 0) ≡ numberOf w s
-number w zero h = refl
-number w (suc zero) h = refl
-number w (suc (suc zero)) h = refl
-number w (suc (suc (suc zero))) h = refl
-number w (suc (suc (suc (suc s)))) h = absurd (omega arith)
-
-at-sides : (w b : Window) {zs : List ℤ} → Reaches zs b → AtSides w zs (numbers w) (cuts w b)
-at-sides w b r = record { numbers-count = refl; cuts-count = refl; number = number w; uncut = λ s h e. clear-in w s r (clear w b s h e) }
-
-slice-aggregate-cut-along : tie.Need-slice-aggregate-cut-along
-slice-aggregate-cut-along c = search needs
-
-slice-aggregate-cut-along-2 : tie.Need-slice-aggregate-cut-along-2
-slice-aggregate-cut-along-2 c = search needs
-
--- a window as it is read
-abbrev read : Window → Window
-read w = record { left = toZ w32 (ofZ w32 (w .left)); bottom = toZ w32 (ofZ w32 (w .bottom)); right = toZ w32 (ofZ w32 (w .right)); top = toZ w32 (ofZ w32 (w .top)) }
-
-is-read : (w : Window) → mag (w .left) < 2 ^ 31 → mag (w .bottom) < 2 ^ 31 → mag (w .right) < 2 ^ 31 → mag (w .top) < 2 ^ 31 → w ≡ read w
-is-read w l b r t = λ i. record { left = sym (back w32 (w .left) l) i; bottom = sym (back w32 (w .bottom) b) i; right = sym (back w32 (w .right) r) i; top = sym (back w32 (w .top) t) i }
-
-module _ (c : tie.After-cut-along-arg) where
-  abbrev reach-told : tie.After-struct-told5
-  reach-told = c .before .before .before .before .before .before .before .before .before .before .before
-
-  abbrev told : tie.After-struct-told
-  told = reach-told .before .before .before .before .before .before .before .before
-
+-- ---- the first turn
+module _ (c : tie.After-first-turn) where
   abbrev start : tie.Start
-  start = told .before
+  start = c .before
 
-  is-w : start .args .w ≡ read (start .args .w)
-  is-w = let g = told .struct-told .given in is-read _ (g .0 .1) (g .1 .0 .1) (g .1 .1 .0 .1) (g .1 .1 .1 .0 .1)
+  abbrev t : Turn
+  t = c .first-turn .result
 
-  is-reach : start .args .reach ≡ read (start .args .reach)
-  is-reach = let g = reach-told .struct-told5 .given in is-read _ (g .0 .1) (g .1 .0 .1) (g .1 .1 .0 .1) (g .1 .1 .1 .0 .1)
+  abbrev zs : List ℤ
+  zs = now (start .args .outline)
 
-cut-along-requires : tie.Need-cut-along-requires
-cut-along-requires c κs =
-    let s = start c in
-    let p = s .pre .1 .1 in (
+  abbrev side : ℕ
+  side = t .rest % 4
+
+  sides : Cutting (windowOf (now (start .args .numbers))) zs (now (start .args .cuts))
+  sides = start .pre .1 .1 .0
+
+  is-order : t .order ≡ start .args .order
+  is-order = c .first-turn .ensures .0 .0
+
+  place : t .k ≤ 3
+  place = c .first-turn .ensures .0 .1 .place
+
+  order : t .order ≤ 23
+  order = c .first-turn .ensures .0 .1 .order
+
+  is-next : side ≡ getD (sidesIn (t .order)) (t .k) 0
+  is-next = next-side (t .order) order (t .k) (omega (arith, place)) (c .first-turn .ensures .0 .1 .sides)
+
+  skipped : Running (windowOf (now (start .args .numbers))) (t .order) zs (loadedOf zs) (places 0 (length zs / 2)) (t .k)
+  skipped =
+      run-skipped (start .pre .1 .1 .1 .0) order (t .k) (omega (arith, place))
+      (λ j l. sides (getD (sidesIn (t .order)) j 0) (side-below (t .order) order j (omega (arith, place))) (subst (λ (o : ℕ). getD (now (start .args .cuts)) (getD (sidesIn o) j 0) false ≡ false) (sym is-order) (c .first-turn .ensures .1 j l)))
+
+first-turn-requires : tie.Need-first-turn-requires
+first-turn-requires c κs = c .pre .1 .0
+
+cast-side : tie.Need-cast-side
+cast-side c = omega arith
+
+mul-limit-of : tie.Need-mul-limit-of
+mul-limit-of c = omega arith
+
+element-copy-out-limit-of : tie.Need-element-copy-out-limit-of
+element-copy-out-limit-of c = omega arith
+
+-- the side's number, as it is read
+is-number : (c : tie.After-limit-of-arg) → let f = c .before .before in toZ w32 (ofZ w32 (getD (now (start f .args .numbers)) (side f) (pos 0))) ≡ numberOf (windowOf (now (start f .args .numbers))) (side f)
+is-number c = let f = c .before .before in back w32 _ (c .limit-of-arg .given) ∙ number-at (now (start f .args .numbers)) (side f) (omega arith)
+
+limit-of-requires : tie.Need-limit-of-requires
+limit-of-requires c κs =
+    let f = c .before .before in
+    (omega arith, subst (Within farthest) (sym (is-number c)) (number-within (windowOf (now (start f .args .numbers))) (side f) (start f .pre .0)))
+
+pass-requires : tie.Need-pass-requires
+pass-requires c κs =
+    let n = c .before .before in
+    let f = n .before .before in
+    let s = start f in
+    let p = s .pre .1 .1 .1 in
+    let job : Job (windowOf (now (s .args .numbers))) (zs f) (side f) = record { window = s .pre .0; outline = p .0; side = omega arith } in
+    let l = c .before .limit-of .ensures in
+    (job, ((l .0 (windowOf (now (s .args .numbers))) (is-number n), l .1), omega (arith, p .1)))
+
+-- ---- after the first pass
+module _ (c : tie.After-pass) where
+  abbrev turn : tie.After-first-turn
+  turn = c .before .before .before .before .before
+
+  size : length (c .pass .last .1 .1 .1 .1 .0) ≡ length (now (start turn .args .m))
+  size = c .pass .kept .1 .1 .1 .1 .0
+
+sub-if1 : tie.Need-sub-if1
+sub-if1 c = c .before .before .pass .ensures .order
+
+same-length : tie.Need-same-length
+same-length c = size (c .before .before .before)
+
+returns : tie.Need-returns
+returns c =
+    let p = c .before .before .before in
+    let f = turn p in
+    no-area refl (subst (λ (o : ℕ). Cuts (linesIn o (windowOf (now (start f .args .numbers)))) (cornersOf (zs f)) none) (is-order f) (run-gone (order f) (omega (arith, place f)) (is-next f) (p .pass .ensures) (skipped f) (c .if1 .taken)))
+
+go-on-requires : tie.Need-go-on-requires
+go-on-requires c κs =
+    let p = c .before .before .before .before in
+    let f = turn p in
+    let s = start f in (
       s .pre .0,
       (
-        s .pre .1 .0,
+        f .first-turn .ensures .0 .1,
         (
-          transport (λ i. AtSides (s .args .w) (now (s .args .outline)) (numbers (is-w c i)) (cuts (is-w c i) (is-reach c i))) (at-sides (s .args .w) (s .args .reach) (p .1 .0)),
-          (p .0, p .1 .1),
+          sides f,
+          (
+            s .pre .1 .1 .1 .0,
+            (
+              omega (arith, s .pre .1 .1 .1 .1, size p),
+              run-more (order f) (omega (arith, place f)) (is-next f) (p .pass .ensures) (skipped f) (c .before .if1 .left),
+            ),
+          ),
         ),
       ),
     )
 
-same-length : tie.Need-same-length
-same-length c = c .before .cut-along .kept .1 .1 .1 .1 .1 .0
+same-length-2 : tie.Need-same-length-2
+same-length-2 c = c .before .go-on .kept .1 .1 .1 .1 .0 ∙ size (c .before .before .before .before .before .before)
 
-returns : tie.Need-returns
-returns c = search needs
+returns-2 : tie.Need-returns-2
+returns-2 c =
+    let f = turn (c .before .before .before .before .before .before) in
+    subst (λ (o : ℕ). Ran (windowOf (now (start f .args .numbers))) o (zs f) (c .before .go-on .last .1 .1 .1 .1 .0) (c .before .go-on .result)) (is-order f) (c .before .go-on .ensures)
 
 pub run-spec : {M : Type 1} → statement M
-run-spec = tie.close (tie.spec slice-aggregate-cut-along slice-aggregate-cut-along-2 cut-along-requires same-length returns)
+run-spec =
+    tie.close
+    (tie.spec
+    first-turn-requires
+    cast-side
+    mul-limit-of
+    element-copy-out-limit-of
+    limit-of-requires
+    pass-requires
+    sub-if1
+    same-length
+    returns
+    go-on-requires
+    same-length-2
+    returns-2)

@@ -1,38 +1,48 @@
 -- `passes::side_crossing` meets its contract: a limit and a side that does not run along it meet where each has its number. Assumes nothing.
 use mathlib.Core.Path.{_≡_, sym, _∙_, transport}
 use borrow.Author.Needs.{needs}
+use denote.Ref.{now}
+use lib.IntN.{pos}
+use lib.ListN.{getD}
 use mir.Syntax.{w32}
 use mir.Val.{toZ, ofZ}
 use Rattle.whole.proofs.Comparisons.{back}
 use Rattle.corners.specs.Corners.{gridPoint}
+use Rattle.passes.specs.Orders.{windowOf}
 use Rattle.passes.specs.Tags.{numberOf, sideOf}
 use Rattle.passes.specs.Limits.{limitLine}
 use Rattle.passes.specs.Steps.{Meets}
+use Rattle.passes.proofs.Sides.{number-at}
 use Rattle.passes.proofs.Meetings.{side-meets-upright, side-meets-level}
 use Rattle.passes.proofs.side_crossing.Statement.{statement}
 use Rattle.passes.proofs.side_crossing.Tie as tie
 
-number-requires : tie.Need-number-requires
-number-requires c κs = search needs
+mul-n : tie.Need-mul-n
+mul-n c = search needs
+
+element-copy-out-n : tie.Need-element-copy-out-n
+element-copy-out-n c = search needs
 
 -- the two numbers, as they are read
 is-c : (c : tie.After-struct-told) → let l = c .before .args .l in l .c ≡ toZ w32 (ofZ w32 (l .c))
 is-c c = sym (back w32 _ (c .struct-told .given .1 .1 .0 .1))
 
-is-number : (c : tie.After-number) → let s = c .before .before in numberOf (s .args .w) (s .args .s) ≡ toZ w32 (ofZ w32 (c .number .result))
-is-number c = sym (back w32 (c .number .result) (c .number .ok) ∙ c .number .ensures)
+is-number : (c : tie.After-n) → let s = c .before .before in numberOf (windowOf (now (s .args .numbers))) (s .args .s) ≡ toZ w32 (ofZ w32 (getD (now (s .args .numbers)) (s .args .s) (pos 0)))
+is-number c = let s = c .before .before in sym (back w32 _ (c .n .given) ∙ number-at (now (s .args .numbers)) (s .args .s) (s .pre .1 .1))
 
 returns : tie.Need-returns
 returns c =
     let n = c .before .before in
     let s = n .before .before in
-    transport (λ i. Meets (limitLine (s .args .l)) (sideOf (s .args .w) (s .args .s)) (gridPoint (is-c (n .before) i) (is-number n i))) (side-meets-upright (s .args .w) (s .args .l) (s .args .s) (s .pre .0) (s .pre .1) (c .if1 .taken))
+    let w = windowOf (now (s .args .numbers)) in
+    transport (λ i. Meets (limitLine (s .args .l)) (sideOf w (s .args .s)) (gridPoint (is-c (n .before) i) (is-number n i))) (side-meets-upright w (s .args .l) (s .args .s) (s .pre .0) (s .pre .1 .0) (c .if1 .taken))
 
 returns-2 : tie.Need-returns-2
 returns-2 c =
     let n = c .before .before in
     let s = n .before .before in
-    transport (λ i. Meets (limitLine (s .args .l)) (sideOf (s .args .w) (s .args .s)) (gridPoint (is-number n i) (is-c (n .before) i))) (side-meets-level (s .args .w) (s .args .l) (s .args .s) (s .pre .0) (s .pre .1) (c .if1 .left))
+    let w = windowOf (now (s .args .numbers)) in
+    transport (λ i. Meets (limitLine (s .args .l)) (sideOf w (s .args .s)) (gridPoint (is-number n i) (is-c (n .before) i))) (side-meets-level w (s .args .l) (s .args .s) (s .pre .0) (s .pre .1 .0) (c .if1 .left))
 
 pub side-crossing-spec : {M : Type 1} → statement M
-side-crossing-spec = tie.close (tie.spec number-requires returns returns-2)
+side-crossing-spec = tie.close (tie.spec mul-n element-copy-out-n returns returns-2)

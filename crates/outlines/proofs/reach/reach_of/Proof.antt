@@ -10,8 +10,7 @@ use Rattle.grid.specs.Table.{NumbersOnTable}
 use Rattle.whole.proofs.Comparisons.{back}
 use Rattle.whole.proofs.Order.{zarith}
 use Rattle.grid.specs.declared.Window.{Window}
-use Rattle.passes.specs.Outlines.{Round}
-use Rattle.outlines.specs.Workers.{ReachOnTable}
+use Rattle.outlines.specs.Workers.{Round, ReachOnTable}
 use Rattle.outlines.proofs.Reaching.{round-more, round-all}
 use Rattle.outlines.proofs.reach.reach_of.Statement.{statement}
 use Rattle.outlines.proofs.reach.reach_of.Tie as tie

@@ -16,13 +16,12 @@ use Rattle.whole.specs.Choice.{if_then_else_, Decides}
 use Rattle.whole.proofs.Comparisons.{by-test}
 use Rattle.rings.specs.Points.{Point, Line, In, Out, On}
 use Rattle.passes.specs.Memory.{pointIn}
-use Rattle.passes.specs.Orders.{sideLine}
-use Rattle.passes.specs.Tags.{Named, loadedOf}
+use Rattle.passes.specs.Orders.{windowOf, sideLine}
+use Rattle.passes.specs.Tags.{loadedOf}
 use Rattle.passes.specs.Limits.{LimitOnTable}
 use Rattle.passes.specs.Runs.{Tagged, cornerIn}
 use Rattle.passes.specs.Passes.{places, Held}
 use Rattle.passes.proofs.Runs.{run-with}
-use Rattle.passes.proofs.Corners.{named-in}
 use Rattle.passes.proofs.Owned.{loaded-of}
 use Rattle.passes.proofs.Ends.{Gone, CameOwn, gone, came-own}
 use Rattle.passes.proofs.FirstPass.{first-cut}
@@ -43,10 +42,10 @@ module _ (s : tie.Start) where
   n = length zs / 2
 
   abbrev h : Line
-  h = sideLine (s .args .w) (s .args .side)
+  h = sideLine (windowOf (now (s .args .numbers))) (s .args .side)
 
-  held : Held (s .args .w) zs g (places 0 n)
-  held = loaded-held (s .pre .0 .outline) (loaded-of zs) (s .args .w)
+  held : Held (windowOf (now (s .args .numbers))) zs g (places 0 n)
+  held = loaded-held (s .pre .0 .outline) (loaded-of zs) (windowOf (now (s .args .numbers)))
 
   few : length zs ≤ 128
   few = s .pre .0 .outline .corners .few
@@ -158,6 +157,9 @@ module _ (c : tie.After-load) where
 sub-leave : tie.Need-sub-leave
 sub-leave c = omega (arith, some (s₁ (c .before .before)))
 
+sub-leave-2 : tie.Need-sub-leave-2
+sub-leave-2 c = omega (arith, some (s₁ (c .before .before)))
+
 leave-requires : tie.Need-leave-requires
 leave-requires c κs =
     let l = c .before .before in
@@ -167,7 +169,8 @@ leave-requires c κs =
         s .pre .1 .0,
         (
           leave-fits l,
-          subst (λ (q : Tagged). Named (s .args .w) (zs s) (q .tag)) (sym (last-in l)) (named-in (held s) (s .args .a - 1) (omega arith) (omega (arith, some s, before-end s))),
+          let below : s .args .a - 1 < n s = omega (arith, some s, before-end s) in
+              (below, ap (λ (q : Tagged). q .tag) (last-in l) ∙ loaded-of (zs s) .tag (s .args .a - 1) below),
         ),
       ),
     )
@@ -185,7 +188,7 @@ module _ (c : tie.After-leave) where
   size₂ : length m₂ ≡ length (now (s₂ .args .m))
   size₂ = c .leave .kept .1 .1 .1 .1 .0 ∙ size₁ loaded
 
-  went : Gone (s₂ .args .w) (zs s₂) (s₂ .args .side) (m₁ loaded) (s₂ .args .a - 1) m₂ (c .leave .result)
+  went : Gone (windowOf (now (s₂ .args .numbers))) (zs s₂) (s₂ .args .side) (m₁ loaded) (s₂ .args .a - 1) m₂ (c .leave .result)
   went =
       let p = ap (λ (q : Tagged). q .point) (last-in loaded) in
       gone (leave-fits loaded) (subst (λ (q : Point). Decides (here loaded .touches .result) (On (h s₂) q)) (sym p) (on-here loaded))
@@ -222,7 +225,7 @@ module _ (c : tie.After-enter) where
   size₃ : length m₃ ≡ length (now (s₃ .args .m))
   size₃ = c .enter .kept .1 .1 .1 .0 ∙ size₂ gone-out
 
-  came : CameOwn (s₃ .args .w) (zs s₃) (s₃ .args .side) (g s₃) (b₃ - 1) (pointIn (g s₃) (next (found (loaded gone-out)))) (m₂ gone-out) (gone-out .leave .result) m₃ (c .enter .result)
+  came : CameOwn (windowOf (now (s₃ .args .numbers))) (zs s₃) (s₃ .args .side) (g s₃) (b₃ - 1) (pointIn (g s₃) (next (found (loaded gone-out)))) (m₂ gone-out) (gone-out .leave .result) m₃ (c .enter .result)
   came = came-own (s₃ .pre .1 .0 .0) (last-out gone-out) (enter-fits gone-out) (on-there (loaded gone-out)) (next-of-ring (found (loaded gone-out)) .1) (c .enter .ensures)
 
   -- what is left has at most one corner more
@@ -238,8 +241,8 @@ load-requires-2 c κs =
 sub-t13 : tie.Need-sub-t13
 sub-t13 c = to-end (found (loaded (gone-out (c .before .before .before .before))))
 
-add-t23 : tie.Need-add-t23
-add-t23 c = let e = c .before .before .before .before in omega (arith, all-fit e, few (s₃ e))
+add-t19 : tie.Need-add-t19
+add-t19 c = let e = c .before .before .before .before in omega (arith, all-fit e, few (s₃ e))
 
 same-length : tie.Need-same-length
 same-length c = let e = c .before .before .before .before in c .before .load2 .kept .1 .1 .1 .0 ∙ size₃ e
@@ -266,11 +269,12 @@ cut-out-spec =
     touches-requires-2
     load-requires
     sub-leave
+    sub-leave-2
     leave-requires
     sub-enter
     enter-requires
     load-requires-2
     sub-t13
-    add-t23
+    add-t19
     same-length
     returns)

@@ -12,12 +12,11 @@ use lib.ListN.{length}
 use Rattle.whole.specs.Choice.{Decides}
 use Rattle.rings.specs.Points.{Point, Line, In, Out, On}
 use Rattle.passes.specs.Memory.{pointIn}
-use Rattle.passes.specs.Orders.{sideLine}
-use Rattle.passes.specs.Tags.{Named, loadedOf}
+use Rattle.passes.specs.Orders.{windowOf, sideLine}
+use Rattle.passes.specs.Tags.{loadedOf}
 use Rattle.passes.specs.Runs.{Tagged, cornerIn}
 use Rattle.passes.specs.Passes.{places, Held}
 use Rattle.passes.proofs.Runs.{run-with}
-use Rattle.passes.proofs.Corners.{named-in}
 use Rattle.passes.proofs.Owned.{loaded-of}
 use Rattle.passes.proofs.Ends.{Gone, CameOwn, gone, came-own}
 use Rattle.passes.proofs.Passing.{leaves-none}
@@ -39,10 +38,10 @@ module _ (s : tie.Start) where
   n = length zs / 2
 
   abbrev h : Line
-  h = sideLine (s .args .w) (s .args .side)
+  h = sideLine (windowOf (now (s .args .numbers))) (s .args .side)
 
-  held : Held (s .args .w) zs g (places 0 n)
-  held = loaded-held (s .pre .0 .outline) (loaded-of zs) (s .args .w)
+  held : Held (windowOf (now (s .args .numbers))) zs g (places 0 n)
+  held = loaded-held (s .pre .0 .outline) (loaded-of zs) (windowOf (now (s .args .numbers)))
 
   few : length zs ≤ 128
   few = s .pre .0 .outline .corners .few
@@ -159,7 +158,7 @@ module _ (c : tie.After-enter) where
   size₁ : length m₁ ≡ length (now (s₂ .args .m))
   size₁ = c .enter .kept .1 .1 .1 .0
 
-  came : CameOwn (s₂ .args .w) (zs s₂) (s₂ .args .side) (g s₂) (f₁ found - 1) (pointIn (g s₂) (f₁ found)) (now (s₂ .args .m)) 0 m₁ begin
+  came : CameOwn (windowOf (now (s₂ .args .numbers))) (zs s₂) (s₂ .args .side) (g s₂) (f₁ found - 1) (pointIn (g s₂) (f₁ found)) (now (s₂ .args .m)) 0 m₁ begin
   came =
       came-own (s₂ .pre .1 .0 .0) (omega (arith, before-end (some-in found))) (omega (arith, fits s₂))
       (subst (λ (h : Line). Decides (there .touches .result) (On h (pointIn (g s₂) (f₁ found)))) (s₂ .pre .1 .0 .0) (there .touches .ensures)) (comes-in (some-in found)) (c .enter .ensures)
@@ -224,6 +223,9 @@ add-leave c = let l = c .before .before in omega (arith, begin-low (entered l), 
 sub-leave-2 : tie.Need-sub-leave-2
 sub-leave-2 c = last-low (c .before .before) .0
 
+sub-leave-3 : tie.Need-sub-leave-3
+sub-leave-3 c = omega (arith, after-f (found (entered (c .before .before))))
+
 leave-requires : tie.Need-leave-requires
 leave-requires c κs =
     let l = c .before .before in
@@ -232,7 +234,8 @@ leave-requires c κs =
       s .pre .0,
       (
         s .pre .1 .0,
-        (leave-fits l, subst (λ (q : Tagged). Named (s .args .w) (zs s) (q .tag)) (sym (last-in l)) (named-in (held s) (e₃ l - 1) (omega arith) (omega (arith, after-f k, to-end k)))),
+        let below : e₃ l - 1 < n s = omega (arith, after-f k, to-end k) in
+            (leave-fits l, (below, ap (λ (q : Tagged). q .tag) (last-in l) ∙ loaded-of (zs s) .tag (e₃ l - 1) below)),
       ),
     )
 
@@ -248,7 +251,7 @@ returns-2 c =
     let p = ap (λ (q : Tagged). q .point) (last-in l) in
     let on : Decides (here d .touches2 .result) (On (h s) (pointIn (m₂ l) (last l))) =
     subst (λ (q : Point). Decides (here d .touches2 .result) (On (h s) q)) (sym p) (subst (λ (h : Line). Decides (here d .touches2 .result) (On h (pointIn (g s) (e k - 1)))) (s .pre .1 .0 .0) (here d .touches2 .ensures)) in
-    let went : Gone (s .args .w) (zs s) (s .args .side) (m₂ l) (last l) (c .before .leave .last .1 .1 .1 .1 .0) (c .before .leave .result) =
+    let went : Gone (windowOf (now (s .args .numbers))) (zs s) (s .args .side) (m₂ l) (last l) (c .before .leave .last .1 .1 .1 .1 .0) (c .before .leave .result) =
     gone (leave-fits l) on (subst (In (h s)) (sym p) (all-in k (e k - 1) (omega (arith, after-f k)) (omega (arith, after-f k)))) (c .before .leave .ensures) in
     first-keep (s .pre .0) (g s) (after-first (first (some-in k))) (after-f k) (to-end k) (held s) (all-out (first (some-in k))) (all-in k) (out-again k) (now (s .args .m)) (m₁ d) (m₂ l) (c .before .leave .last .1 .1 .1 .1 .0) (begin d) (c .before .leave .result) (came d) (l .load .ensures) went
 
@@ -269,6 +272,7 @@ keep-run-spec =
     sub-leave
     add-leave
     sub-leave-2
+    sub-leave-3
     leave-requires
     same-length
     returns-2)

@@ -9,6 +9,7 @@ use denote.Ref.{now}
 use lib.ListN.{length}
 use Rattle.rings.specs.Points.{Line, In, Out}
 use Rattle.passes.specs.Memory.{pointIn}
+use Rattle.passes.specs.Orders.{windowOf}
 use Rattle.passes.specs.Tags.{loadedOf}
 use Rattle.passes.specs.Limits.{limitLine}
 use Rattle.passes.proofs.Owned.{loaded-of}
@@ -31,7 +32,7 @@ returns c =
     let r = c .before .before .before .before in
     let s = r .before in
     let zs = now (s .args .outline) in
-    first-all (s .pre .0) (loadedOf zs) (loaded-held (s .pre .0 .outline) (loaded-of zs) (s .args .w))
+    first-all (s .pre .0) (loadedOf zs) (loaded-held (s .pre .0 .outline) (loaded-of zs) (windowOf (now (s .args .numbers))))
     (λ i a b. subst (λ (h : Line). In h (pointIn (loadedOf zs) i)) (s .pre .1 .0 .0) (r .end-of-run .ensures .run i a (omega (arith, c .before .before .before .if1 .taken)))) (now (s .args .m)) (c .before .load .last .1 .1 .1 .0) (c .before .load .ensures)
 
 -- some corner lies outside

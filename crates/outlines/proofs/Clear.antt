@@ -1,27 +1,26 @@
--- The corners of an outline lie inside each side that is clear of the rectangle it reaches, and so do those of every ring that a cut leaves of it.
-use mathlib.Core.Path.{_≡_, sym, subst}
+-- The corners of an outline lie inside each side that is clear of the rectangle it reaches; a side that is not clear cuts.
+use mathlib.Core.Path.{_≡_, refl, sym, subst}
+use mathlib.Core.Bool.{Bool, false}
 use mathlib.Core.List.{List, [], _∷_}
-use Prim.Native.Nat.{ℕ, zero, suc, _≤_}
+use Prim.Native.Nat.{ℕ, zero, suc, _<_}
+use native.Mathlib.Omega.{arith}
 use lib.IntN.{ℤ, pos, negsuc, _-ℤ_}
-use lib.ListN.{length}
-use lib.Signed.{_≤ℤ_}
+use lib.ListN.{getD}
+use lib.Signed.{_≤ℤ_, ltZ}
 use Rattle.whole.proofs.Expressions.{Expr, var, con, _⊕_, _⊖_, _⊗_, neg}
 use Rattle.whole.proofs.Polynomials.{ring}
 use Rattle.whole.proofs.Order.{zarith, ≤-diff}
+use Rattle.whole.proofs.Comparisons.{lt-no}
 use Rattle.grid.specs.declared.Window.{Window}
 use Rattle.rings.specs.Lists.{All}
-use Rattle.rings.specs.Points.{Point, Line, value, In, Real}
-use Rattle.rings.specs.Rings.{Ring}
-use Rattle.rings.specs.Cuts.{CutBy}
+use Rattle.rings.specs.Points.{value, In}
 use Rattle.rings.specs.Windows.{left-side, right-side, bottom-side, top-side}
 use Rattle.rings.proofs.Plane.{nought}
-use Rattle.rings.proofs.Lists.{all-map}
-use Rattle.rings.proofs.Fan.{corners-in}
-use Rattle.rings.proofs.Theorems.{convex-ccw, fan, one-cut}
 use Rattle.corners.specs.Corners.{gridPoint, cornersOf}
 use Rattle.passes.specs.Orders.{sideLine}
-use Rattle.passes.specs.Outlines.{Reaches, Clear}
+use Rattle.passes.specs.Outlines.{Cutting}
 use Rattle.passes.proofs.Outlines.{corners-all}
+use Rattle.outlines.specs.Workers.{Reaches, Clear}
 
 -- ---- the value of each side at a point of the grid; the side's number, x and y are the variables 0 to 2
 abbrev value-by : Expr → Expr → Expr → Expr
@@ -54,8 +53,17 @@ clear-in {zs} {b} w (suc zero) r c = corners-all zs (λ k h. between (b .right) 
 clear-in {zs} {b} w (suc (suc zero)) r c = corners-all zs (λ k h. between (b .bottom) (bottom-at (w .bottom) _ _) c (r .bottom k h))
 clear-in {zs} {b} w (suc (suc (suc s))) r c = corners-all zs (λ k h. between (b .top) (top-at (w .top) _ _) (r .top k h) c)
 
--- ---- each corner that a cut leaves lies in the ring
-pub cut-in : {h : Line} {r s : List Point} (g : Line) → Real h → Ring r → CutBy h r s → 3 ≤ length s → All (In g) r → All (In g) s
-cut-in {r = r} {s} g real o c l a =
-    let d = one-cut real o c in
-    all-map (λ p i. fan g p r o (d .points l p .0 i .0) a) (corners-in (convex-ccw s .0 (d .ring l .convex)))
+-- ---- which sides cut, by their places
+abbrev pub cutting : Window → Window → List Bool
+cutting w b = ltZ (b .left) (w .left) ∷ ltZ (w .right) (b .right) ∷ ltZ (b .bottom) (w .bottom) ∷ ltZ (w .top) (b .top) ∷ []
+
+-- a side that does not cut is clear
+clear : (w b : Window) (s : ℕ) → s < 4 → getD (cutting w b) s false ≡ false → Clear w b s
+clear w b zero h e = lt-no refl refl e
+clear w b (suc zero) h e = lt-no refl refl e
+clear w b (suc (suc zero)) h e = lt-no refl refl e
+clear w b (suc (suc (suc zero))) h e = lt-no refl refl e
+clear w b (suc (suc (suc (suc s)))) h e = absurd (omega arith)
+
+pub cutting-is : (w b : Window) {zs : List ℤ} → Reaches zs b → Cutting w zs (cutting w b)
+cutting-is w b r s h e = clear-in w s r (clear w b s h e)
