@@ -56,6 +56,23 @@ round-more {zs} {n} {b} {c} r hl hr hb ht = record {
   top = λ k l. below-more (λ (k : ℕ). getD zs (2 * k + 1) (pos 0) ≤ℤ c .top) n (λ k h. let a = r .top k h in omega zarith) (ht .1) k (omega arith);
 }
 
+pub round-none : {zs : List ℤ} {b : Window} → Round zs 0 b
+round-none = record { left = λ k l. absurd (omega arith); right = λ k l. absurd (omega arith); bottom = λ k l. absurd (omega arith); top = λ k l. absurd (omega arith) }
+
+-- the first corner alone
+abbrev only : ℤ → ℤ → Window
+only x y = record { left = x; bottom = y; right = x; top = y }
+
+module _ (zs : List ℤ) (x y : ℤ) (e : x ≡ getD zs 0 (pos 0)) (f : y ≡ getD zs 1 (pos 0)) where
+  pub round-first : Round zs 1 (only x y)
+  round-first = round-more {n = 0} {b = only x y} round-none (omega zarith, omega zarith) (omega zarith, omega zarith) (omega zarith, omega zarith) (omega zarith, omega zarith)
+
+  pub first-on-table : 2 ≤ length zs → NumbersOnTable zs → ReachOnTable (only x y)
+  first-on-table h on =
+      let u = on 0 (omega arith) in
+      let v = on 1 (omega arith) in
+      record { left = omega (zarith, u .low); right = omega (zarith, u .high); bottom = omega (zarith, v .low); top = omega (zarith, v .high) }
+
 pub round-all : {zs : List ℤ} {n : ℕ} {b : Window} → length zs / 2 ≤ n → Round zs n b → Reaches zs b
 round-all h r = record { left = λ k l. r .left k (omega arith); right = λ k l. r .right k (omega arith); bottom = λ k l. r .bottom k (omega arith); top = λ k l. r .top k (omega arith) }
 

@@ -34,12 +34,16 @@ pub right-even : (n : ℕ) → rightCount n ≡ true → n % 2 ≡ 0
 unfolding rightCount
 right-even n c = eqb-true (n % 2) 0 (and-eq-true-iff (eqb (n % 2) 0) _ .0 c .0)
 
+pub right-three : (n : ℕ) → rightCount n ≡ true → 6 ≤ n
+unfolding rightCount
+right-three n c = leb-true 6 n (and-eq-true-iff (leb 6 n) (leb n 128) .0 (and-eq-true-iff (eqb (n % 2) 0) _ .0 c .1) .0)
+
 pub few-corners : (zs : List ℤ) → rightCount (length zs) ≡ true → NumbersOnTable zs → CornersOnTable zs
 unfolding rightCount
 few-corners zs c on =
     let p = and-eq-true-iff (eqb (length zs % 2) 0) _ .0 c in
     let q = and-eq-true-iff (leb 6 (length zs)) (leb (length zs) 128) .0 (p .1) in
-    record { even = eqb-true (length zs % 2) 0 (p .0); three = leb-true 6 (length zs) (q .0); few = leb-true (length zs) 128 (q .1); on = on }
+    record { even = right-even _ c; three = right-three _ c; few = leb-true (length zs) 128 (q .1); on = on }
 
 -- a test that is not refused by number n is passed
 passed : {n : ℕ} (b : Bool) → (n ≡ 0 → ⊥) → (if b then none else refuse n 0) .number ≡ 0 → b ≡ true

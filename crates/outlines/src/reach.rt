@@ -1,12 +1,13 @@
 // How far an outline reaches: the rectangle round its corners tells most outlines that no side cuts, and most that no side leaves.
 ghost use mathlib.Core.Path.{_≡_};
 ghost use mathlib.Core.Bool.{true};
-ghost use Prim.Native.Nat.{ℕ};
+ghost use Prim.Native.Nat.{ℕ, _≤_};
 ghost use lib.IntN.{ℤ};
+ghost use lib.ListN.{length};
 ghost use lib.Signed.{_≤ℤ_};
 ghost use Rattle.whole.specs.Choice.{Decides};
 ghost use Rattle.grid.specs.Table.{NumbersOnTable};
-ghost use Rattle.outlines.specs.Workers.{Reaches, ReachOnTable, Clear, Beyond};
+ghost use Rattle.outlines.specs.Workers.{Round, Reaches, ReachOnTable, Clear, Beyond};
 use grid::Window;
 
 fn lesser(a: i32, b: i32) -> i32
@@ -29,17 +30,18 @@ fn greater(a: i32, b: i32) -> i32
     a
 }
 
-// A rectangle that every corner lies in. It is started at the table's ends, so that it leaves the table only where a corner does.
-pub fn reach_of(outline: &[i32]) -> Window
+// A rectangle widened so that it reaches every corner from one on, where it holds all before that.
+fn widened(outline: &[i32], from: usize, b: Window) -> Window
+    requires { ⌜ Round (now outline) from b ⌝ }
     ensures { λ r. ⌜ Reaches (now (outline .entry)) r ⌝ }
-    ensures { λ r. ⌜ (NumbersOnTable (now (outline .entry)) → ReachOnTable r) ⌝ }
+    ensures { λ r. ⌜ (NumbersOnTable (now (outline .entry)) → ReachOnTable b → ReachOnTable r) ⌝ }
 {
-    let mut left: i32 = 16383;
-    let mut bottom: i32 = 16383;
-    let mut right: i32 = -16383;
-    let mut top: i32 = -16383;
+    let mut left = b.left;
+    let mut bottom = b.bottom;
+    let mut right = b.right;
+    let mut top = b.top;
     let n = outline.len() / 2;
-    let mut k: usize = 0;
+    let mut k = from;
     while k < n {
         let x = outline[2 * k];
         let y = outline[2 * k + 1];
@@ -55,6 +57,39 @@ pub fn reach_of(outline: &[i32]) -> Window
         right,
         top,
     }
+}
+
+// A rectangle that every corner lies in. Up to eight corners begin with the first, as one by one they take fewer steps than in vectors;
+// more begin with the table's ends, so that it leaves the table only where a corner does.
+pub fn reach_of(outline: &[i32]) -> Window
+    requires { ⌜ 2 ≤ length (now outline) ⌝ }
+    ensures { λ r. ⌜ Reaches (now (outline .entry)) r ⌝ }
+    ensures { λ r. ⌜ (NumbersOnTable (now (outline .entry)) → ReachOnTable r) ⌝ }
+{
+    if outline.len() <= 16 {
+        let x = outline[0];
+        let y = outline[1];
+        return widened(
+            outline,
+            1,
+            Window {
+                left: x,
+                bottom: y,
+                right: x,
+                top: y,
+            },
+        );
+    }
+    widened(
+        outline,
+        0,
+        Window {
+            left: 16383,
+            bottom: 16383,
+            right: -16383,
+            top: -16383,
+        },
+    )
 }
 
 // Whether what reaches to b lies on the table: the least numbers are not too low and the greatest not too high.

@@ -1,25 +1,32 @@
 -- `outlines::clip_outline` meets its contract: where nothing is refused, the answer for what `clipped` gives into an output whose room it keeps; refused elsewhere. Assumes nothing.
 use mathlib.Core.Path.{_≡_, sym, ap, _∙_, subst}
+use mathlib.Core.Bool.{true}
 use mathlib.Core.Logic.{⊎-elim}
+use native.Mathlib.Omega.{arith}
 use borrow.Author.Needs.{needs}
 use denote.Ref.{now}
+use lib.ListN.{length}
 use Rattle.whole.proofs.Comparisons.{ff-tt}
 use Rattle.grid.specs.Calls.{answered}
 use Rattle.grid.specs.declared.Refusal.{Refusal}
 use Rattle.grid.proofs.Calls.{call-refused}
-use Rattle.outlines.specs.Outlines.{outlineRefusal}
-use Rattle.outlines.proofs.Refusals.{nothing-refused}
+use Rattle.outlines.specs.Outlines.{rightCount, outlineRefusal}
+use Rattle.outlines.proofs.Refusals.{right-three, nothing-refused}
 use Rattle.outlines.proofs.clip_outline.Statement.{statement}
 use Rattle.outlines.proofs.clip_outline.Tie as tie
 
 right-count-requires : tie.Need-right-count-requires
 right-count-requires c κs = search needs
 
+-- the outline's length is right
+counted : (c : tie.Then1) → rightCount (length (now (c .before .before .args .outline))) ≡ true
+counted c = sym (c .before .right-count .ensures) ∙ c .if1 .taken
+
 reach-of-requires : tie.Need-reach-of-requires
-reach-of-requires c κs = search needs
+reach-of-requires c κs = omega (arith, right-three _ (counted c))
 
 takes-requires : tie.Need-takes-requires
-takes-requires c κs = (sym (c .before .before .right-count .ensures) ∙ c .before .if1 .taken, (c .reach-of .ensures .0, c .reach-of .ensures .1))
+takes-requires c κs = (counted (c .before), (c .reach-of .ensures .0, c .reach-of .ensures .1))
 
 -- nothing is refused
 taken : (c : tie.Then2) → let a = c .before .before .before .before .before .args in outlineRefusal (a .w) (a .order) (now (a .outline)) .number ≡ 0

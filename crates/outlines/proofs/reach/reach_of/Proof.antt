@@ -1,136 +1,40 @@
--- `outlines::reach::reach_of` meets its contract: the rectangle so far is round the corners so far, and on the table with them. Assumes nothing.
-use Prim.Native.Nat.{_+_, _*_, _-_, _^_, _<_}
+-- `outlines::reach::reach_of` meets its contract: the first corner, or none, lies in the rectangle that is widened, and that is on the table with it. Assumes nothing.
 use native.Mathlib.Omega.{arith}
-use borrow.Author.Needs.{needs}
-use lib.IntN.{ℤ}
-use lib.Signed.{_≤ℤ_, mag}
+use denote.Ref.{now}
+use lib.IntN.{pos}
+use lib.ListN.{getD}
 use mir.Syntax.{w32}
-use mir.Val.{toZ, ofZ}
-use Rattle.grid.specs.Table.{NumbersOnTable}
 use Rattle.whole.proofs.Comparisons.{back}
-use Rattle.whole.proofs.Order.{zarith}
-use Rattle.grid.specs.declared.Window.{Window}
-use Rattle.outlines.specs.Workers.{Round, ReachOnTable}
-use Rattle.outlines.proofs.Reaching.{round-more, round-all}
+use Rattle.outlines.proofs.Reaching.{round-none, round-first, first-on-table}
 use Rattle.outlines.proofs.reach.reach_of.Statement.{statement}
 use Rattle.outlines.proofs.reach.reach_of.Tie as tie
 
-abbrev Inv-loop : tie.InvT-loop
-Inv-loop outline left₀ bottom₀ right₀ top₀ n k₀ left bottom right top k =
-    let b : Window = record { left = toZ w32 left; bottom = toZ w32 bottom; right = toZ w32 right; top = toZ w32 top } in
-    Round outline k b × (NumbersOnTable outline → ReachOnTable b)
-
-abbrev μ-loop : tie.MeasureT-loop
-μ-loop outline left₀ bottom₀ right₀ top₀ n k₀ left bottom right top k = n - k
-
--- the lesser and the greater of two numbers, as they are read back, and a bound c of both
-module _ (r x : ℤ) {a : ℤ} (hr : mag r < 2 ^ 31) (hx : mag x < 2 ^ 31) where
-  lower : (r ≤ℤ a) × (r ≤ℤ toZ w32 (ofZ w32 x)) → (toZ w32 (ofZ w32 r) ≤ℤ a) × (toZ w32 (ofZ w32 r) ≤ℤ x)
-  lower p = let e = back w32 r hr in let f = back w32 x hx in let q = p .0 in let s = p .1 in (omega zarith, omega zarith)
-
-  upper : (a ≤ℤ r) × (toZ w32 (ofZ w32 x) ≤ℤ r) → (a ≤ℤ toZ w32 (ofZ w32 r)) × (x ≤ℤ toZ w32 (ofZ w32 r))
-  upper p = let e = back w32 r hr in let f = back w32 x hx in let q = p .0 in let s = p .1 in (omega zarith, omega zarith)
-
-  lower-least : {c : ℤ} → ((c : ℤ) → c ≤ℤ a → c ≤ℤ toZ w32 (ofZ w32 x) → c ≤ℤ r) → c ≤ℤ a → c ≤ℤ x → c ≤ℤ toZ w32 (ofZ w32 r)
-  lower-least {c} p h k = let e = back w32 r hr in let f = back w32 x hx in let q = p c h (omega zarith) in omega zarith
-
-  upper-most : {c : ℤ} → ((c : ℤ) → a ≤ℤ c → toZ w32 (ofZ w32 x) ≤ℤ c → r ≤ℤ c) → a ≤ℤ c → x ≤ℤ c → toZ w32 (ofZ w32 r) ≤ℤ c
-  upper-most {c} p h k = let e = back w32 r hr in let f = back w32 x hx in let q = p c h (omega zarith) in omega zarith
-
-loop-holds : tie.Need-loop-holds Inv-loop μ-loop
-loop-holds c = (
-  record { left = λ k l. absurd (omega arith); right = λ k l. absurd (omega arith); bottom = λ k l. absurd (omega arith); top = λ k l. absurd (omega arith) },
-  λ _. record { left = record { le = tt }; right = record { le = tt }; bottom = record { le = tt }; top = record { le = tt } },
-)
-
-mul-x : tie.Need-mul-x Inv-loop μ-loop
-mul-x c = search needs
-
-mul-x-2 : tie.Need-mul-x-2 Inv-loop μ-loop
-mul-x-2 c = search needs
-
-shared-slice-copy-out-x : tie.Need-shared-slice-copy-out-x Inv-loop μ-loop
+shared-slice-copy-out-x : tie.Need-shared-slice-copy-out-x
 shared-slice-copy-out-x c = omega arith
 
-mul-y : tie.Need-mul-y Inv-loop μ-loop
-mul-y c = search needs
-
-add-y : tie.Need-add-y Inv-loop μ-loop
-add-y c = search needs
-
-mul-y-2 : tie.Need-mul-y-2 Inv-loop μ-loop
-mul-y-2 c = search needs
-
-shared-slice-copy-out-y : tie.Need-shared-slice-copy-out-y Inv-loop μ-loop
+shared-slice-copy-out-y : tie.Need-shared-slice-copy-out-y
 shared-slice-copy-out-y c = omega arith
 
-lesser-requires : tie.Need-lesser-requires Inv-loop μ-loop
-lesser-requires c κs = tt
+widened-requires : tie.Need-widened-requires
+widened-requires c κs =
+    let zs = now (c .before .before .before .args .outline) in
+    round-first zs _ _ (back w32 (getD zs 0 (pos 0)) (c .before .x .given)) (back w32 (getD zs 1 (pos 0)) (c .y .given))
 
-lesser-requires-2 : tie.Need-lesser-requires-2 Inv-loop μ-loop
-lesser-requires-2 c κs = tt
+returns : tie.Need-returns
+returns c =
+    let y = c .before in
+    let a = y .before .before .before in
+    let zs = now (a .args .outline) in
+    let r = c .widened .ensures in
+    (r .0, λ on. r .1 on (first-on-table zs _ _ (back w32 (getD zs 0 (pos 0)) (y .before .x .given)) (back w32 (getD zs 1 (pos 0)) (y .y .given)) (a .pre) on))
 
-greater-requires : tie.Need-greater-requires Inv-loop μ-loop
-greater-requires c κs = tt
+widened-requires-2 : tie.Need-widened-requires-2
+widened-requires-2 c κs = round-none
 
-greater-requires-2 : tie.Need-greater-requires-2 Inv-loop μ-loop
-greater-requires-2 c κs = tt
-
-add-k : tie.Need-add-k Inv-loop μ-loop
-add-k c = search needs
-
-loop-less : tie.Need-loop-less Inv-loop μ-loop
-loop-less c = omega arith
-
-loop-again : tie.Need-loop-again Inv-loop μ-loop
-loop-again c =
-    let t = c .greater2 in
-    let r = c .before .greater in
-    let b = c .before .before .lesser2 in
-    let l = c .before .before .before .lesser in
-    let y = c .before .before .before .before in
-    let x = y .before in
-    let i = x .before .before .loop .inv in (
-      round-more (i .0)
-          (lower (l .result) _ (l .ok) (x .x .given) (l .ensures .0))
-          (upper (r .result) _ (r .ok) (x .x .given) (r .ensures .0))
-          (lower (b .result) _ (b .ok) (y .y .given) (b .ensures .0))
-          (upper (t .result) _ (t .ok) (y .y .given) (t .ensures .0)),
-      λ on.
-          let before = i .1 on in
-          let h = x .before .loop-test .taken in
-          let u = on (2 * x .before .before .loop .k) (omega arith) in
-          let v = on (2 * x .before .before .loop .k + 1) (omega arith) in
-          record {
-            left = lower-least (l .result) _ (l .ok) (x .x .given) (l .ensures .1) (before .left) (u .low);
-            right = upper-most (r .result) _ (r .ok) (x .x .given) (r .ensures .1) (before .right) (u .high);
-            bottom = lower-least (b .result) _ (b .ok) (y .y .given) (b .ensures .1) (before .bottom) (v .low);
-            top = upper-most (t .result) _ (t .ok) (y .y .given) (t .ensures .1) (before .top) (v .high);
-          },
-    )
-
-returns : tie.Need-returns Inv-loop μ-loop
-returns c = let i = c .before .loop .inv in (round-all (c .loop-test .left) (i .0), i .1)
+returns-2 : tie.Need-returns-2
+returns-2 c =
+    let r = c .widened2 .ensures in
+    (r .0, λ on. r .1 on (record { left = record { le = tt }; right = record { le = tt }; bottom = record { le = tt }; top = record { le = tt } }))
 
 pub reach-of-spec : {M : Type 1} → statement M
-reach-of-spec =
-    tie.close
-    (tie.spec
-    Inv-loop
-    μ-loop
-    loop-holds
-    mul-x
-    mul-x-2
-    shared-slice-copy-out-x
-    mul-y
-    add-y
-    mul-y-2
-    shared-slice-copy-out-y
-    lesser-requires
-    lesser-requires-2
-    greater-requires
-    greater-requires-2
-    add-k
-    loop-less
-    loop-again
-    returns)
+reach-of-spec = tie.close (tie.spec shared-slice-copy-out-x shared-slice-copy-out-y widened-requires returns widened-requires-2 returns-2)
