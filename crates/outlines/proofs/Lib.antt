@@ -5,7 +5,6 @@ pub mod Widths
 pub mod Memory
 pub mod Downhill
 pub mod Lowest
-pub mod Around
 pub mod Writing
 pub mod Traces
 pub mod Lines

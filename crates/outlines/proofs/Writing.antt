@@ -1,11 +1,11 @@
--- Corners written into an output: one after the other, round a ring, some behind others, and a whole ring for which there is room or is not.
+-- Corners written into an output: one after the other, some behind others, and a whole ring for which there is room or is not.
 use mathlib.Core.Path.{_≡_, sym, ap, _∙_, subst, subst₂}
 use mathlib.Core.List.{List, [], _∷_, _++_, append-assoc, append-nil}
 use Prim.Native.Nat.{ℕ, zero, suc, _+_, _-_, _*_, _≤_, _<_, _^_}
 use native.Mathlib.Omega.{arith}
 use borrow.Author.Tests.{le-leb, lt-leb}
-use lib.IntN.{ℤ}
-use lib.ListN.{length, take, drop, length-append, length-drop, drop-of-length-le}
+use lib.IntN.{ℤ, pos}
+use lib.ListN.{length, getD, take, drop, length-append, length-drop, drop-of-length-le}
 use lib.Seq.{take-all, take-at, drop-at, drop-drop}
 use lib.Signed.{mag}
 use mir.Syntax.{w32}
@@ -15,17 +15,16 @@ use Rattle.fraction.proofs.LowestTerms.{lowest-of-unique}
 use Rattle.fraction.proofs.Computed.{lowestOf, lowestOf-is}
 use Rattle.grid.specs.Calls.{written}
 use Rattle.grid.proofs.Fill.{Filled, filled-start, filled-put, filled-end}
-use Rattle.rings.specs.Lists.{Turned}
+use Rattle.rings.specs.Lists.{All, Turned}
 use Rattle.rings.specs.Points.{Point, Proper}
 use Rattle.rings.specs.Rings.{Ring, Starts}
 use Rattle.rings.proofs.Lists.{turned-length, turned-all}
 use Rattle.rings.proofs.Theorems.{start}
-use Rattle.corners.specs.Corners.{next}
-use Rattle.passes.specs.Memory.{pointIn}
-use Rattle.passes.proofs.Outlines.{next-below}
+use Rattle.passes.specs.Memory.{ringFrom, ringIn}
+use Rattle.passes.proofs.Memories.{ring-length}
 use Rattle.outlines.specs.Outlines.{RingNumbers}
-use Rattle.outlines.specs.Workers.{startedAt, WroteFraction, Wrote, GaveRing}
-use Rattle.outlines.proofs.Around.{around, all-around, around-proper, around-length}
+use Rattle.outlines.specs.Workers.{WroteFraction, Wrote, GaveRing}
+use Rattle.outlines.proofs.Memory.{at-place}
 use Rattle.outlines.proofs.Numbers.{numbersOf, numbers-of, numbers-length, numbers-append}
 
 -- two numbers as they are read
@@ -50,42 +49,50 @@ module _ {p : Point} {k : ℕ} {out out₁ out₂ : List ℤ} (h : Proper p) (x 
       let e : k + 2 + 2 ≡ k + 4 = omega arith in
       rw (y .output, ← e) two
 
--- ---- a ring written from the place start on: k numbers stand at the front of the output, those of the corners from the place i on are still to come
-pub record Rounding (m : List ℤ) (n start : ℕ) (out₀ out : List ℤ) (i k : ℕ) : Type 0 where
-  pub place : i < n
+-- ---- the first n corners of a memory: k numbers stand at the front of the output, those of the corners from a place on are still to come
+pub record PartWritten (m : List ℤ) (n : ℕ) (out₀ out : List ℤ) (k : ℕ) : Type 0 where
+  pub place : ℕ
   pub left : ℕ
-  pub four : k + 4 * left ≡ 4 * n
-  pub filled : Filled (numbersOf (around m n start n)) (numbersOf (around m n i left)) out out₀ k
+  pub four : k ≡ 4 * place
+  pub all : place + left ≡ n
+  pub filled : Filled (numbersOf (ringIn m n)) (numbersOf (ringFrom m place left)) out out₀ k
 
-module _ (m : List ℤ) (n start : ℕ) (f : (j : ℕ) → j < n → Proper (pointIn m j)) (s : start < n) where
-  pub round-starts : {out₀ : List ℤ} → Rounding m n start out₀ out₀ start 0
-  round-starts = record { place = s; left = n; four = omega arith; filled = filled-start _ _ }
+-- the corner whose numbers stand from k on
+abbrev pub cornerFrom : List ℤ → ℕ → Point
+cornerFrom m k = record { X = getD m k (pos 0); Y = getD m (k + 1) (pos 0); W = getD m (k + 2) (pos 0) }
 
-  numbers : RingNumbers (around m n start n) (numbersOf (around m n start n))
-  numbers = numbers-of (around-proper m n f start n s)
+module _ (m : List ℤ) (n : ℕ) (h : All Proper (ringIn m n)) where
+  count : length (numbersOf (ringIn m n)) ≡ 4 * n
+  count = numbers-length (numbers-of h) ∙ ap (λ (k : ℕ). 4 * k) (ring-length m 0 n)
 
-  count : length (numbersOf (around m n start n)) ≡ 4 * n
-  count = numbers-length numbers ∙ ap (λ (k : ℕ). 4 * k) (around-length m n start n)
+  pub part-starts : {out₀ : List ℤ} → PartWritten m n out₀ out₀ 0
+  part-starts = record { place = 0; left = n; four = omega arith; all = omega arith; filled = filled-start _ _ }
 
-  pub round-goes-on : {out₀ out out₁ out₂ : List ℤ} {i j k : ℕ} → 4 * n ≤ length out₀ → k < 4 * n → Rounding m n start out₀ out i k
-      → WroteFraction (pointIn m i .X) (pointIn m i .W) k out out₁ → WroteFraction (pointIn m i .Y) (pointIn m i .W) (k + 2) out₁ out₂ → j ≡ next n i → Rounding m n start out₀ out₂ j (k + 4)
-  unfolding around
-  round-goes-on {out₀} {out} {out₁} {out₂} {i} {j} {k} room l r x y e = go (r .left) (r .four) (r .filled)
+  pub part-proper : {out₀ out : List ℤ} {k : ℕ} → k < 4 * n → PartWritten m n out₀ out k → Proper (cornerFrom m k)
+  part-proper l r = subst (λ (j : ℕ). Proper (cornerFrom m j)) (sym (r .four)) (at-place m 0 n h (r .place) (omega arith) (omega (arith, r .four)))
+
+  pub part-goes-on : {out₀ out out₁ out₂ : List ℤ} {k : ℕ} → 4 * n ≤ length out₀ → k < 4 * n → PartWritten m n out₀ out k
+      → WroteFraction (cornerFrom m k .X) (cornerFrom m k .W) k out out₁ → WroteFraction (cornerFrom m k .Y) (cornerFrom m k .W) (k + 2) out₁ out₂ → PartWritten m n out₀ out₂ (k + 4)
+  unfolding ringFrom
+  part-goes-on {out₀} {out} {out₁} {out₂} {k} room l r x y = go (r .left) (r .all) (r .filled)
     where
-      go : (c : ℕ) → k + 4 * c ≡ 4 * n → Filled (numbersOf (around m n start n)) (numbersOf (around m n i c)) out out₀ k → Rounding m n start out₀ out₂ j (k + 4)
-      go zero q d = absurd (omega arith)
-      go (suc c) q d = record {
-        place = rw e (next-below n i (r .place));
-        left = c;
-        four = omega arith;
-        filled = rw e (next-corner (f i (r .place)) x y (around m n (next n i) c) (omega (arith, count)) d);
-      }
+      go : (c : ℕ) → r .place + c ≡ n → Filled (numbersOf (ringIn m n)) (numbersOf (ringFrom m (r .place) c)) out out₀ k → PartWritten m n out₀ out₂ (k + 4)
+      go zero q d = absurd (omega (arith, r .four))
+      go (suc c) q d =
+          let due = ringFrom m (suc (r .place)) c in record {
+            place = suc (r .place);
+            left = c;
+            four = omega (arith, r .four);
+            all = omega arith;
+            filled = next-corner (part-proper l r) x y due (omega (arith, count))
+                (subst (λ (j : ℕ). Filled (numbersOf (ringIn m n)) (numbersOf (cornerFrom m j ∷ due)) out out₀ k) (sym (r .four)) d);
+          }
 
-  pub round-ends : {out₀ out : List ℤ} {i k : ℕ} → 4 * n ≤ k → Rounding m n start out₀ out i k → Wrote (startedAt m n start) out₀ out
-  unfolding around numbersOf
-  round-ends {out₀} {out} {i} {k} h r = subst (λ (c : List Point). Wrote c out₀ out) (all-around m n start s) (record { numbers = numbersOf (around m n start n); are = numbers; output = filled-end (go (r .left) (omega (arith, r .four)) (r .filled)) })
+  pub part-ends : {out₀ out : List ℤ} {k : ℕ} → 4 * n ≤ k → PartWritten m n out₀ out k → Wrote (ringIn m n) out₀ out
+  unfolding ringFrom numbersOf
+  part-ends {out₀} {out} {k} l r = record { numbers = numbersOf (ringIn m n); are = numbers-of h; output = filled-end (go (r .left) (omega (arith, r .four, r .all)) (r .filled)) }
     where
-      go : (c : ℕ) → c ≡ 0 → Filled (numbersOf (around m n start n)) (numbersOf (around m n i c)) out out₀ k → Filled (numbersOf (around m n start n)) [] out out₀ k
+      go : (c : ℕ) → c ≡ 0 → Filled (numbersOf (ringIn m n)) (numbersOf (ringFrom m (r .place) c)) out out₀ k → Filled (numbersOf (ringIn m n)) [] out out₀ k
       go c e d = rw e at d
 
 -- ---- some corners written from the front, and then others behind them

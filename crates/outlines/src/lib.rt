@@ -168,7 +168,23 @@ fn write_fraction(n: i32, d: i32, out: &mut [i32], k: usize)
     out[k + 1] = den;
 }
 
-// Writes the ring of the first n corners, started at a place, four numbers each, from the front of out.
+// Writes the first n corners, four numbers each, from the front of out.
+fn write_corners(m: &[i32], n: usize, out: &mut [i32])
+    requires { ⌜ 4 * n ≤ length (now m) ⌝ }
+    requires { ⌜ All Proper (ringIn (now m) n) ⌝ }
+    requires { ⌜ 4 * n ≤ length (now out) ⌝ }
+    ensures { λ _. ⌜ Wrote (ringIn (now (m .entry)) n) (now (out .entry)) (now (out .exit)) ⌝ }
+{
+    let mut k = 0;
+    while k < 4 * n {
+        let w = m[k + 2];
+        write_fraction(m[k], w, out, k);
+        write_fraction(m[k + 1], w, out, k + 2);
+        k += 4;
+    }
+}
+
+// Writes the ring of the first n corners, started at a place, from the front of out: those from the place on, and behind them those before it.
 fn write_ring(m: &[i32], n: usize, start: usize, out: &mut [i32])
     requires { ⌜ start < n ⌝ }
     requires { ⌜ 4 * n ≤ length (now m) ⌝ }
@@ -176,16 +192,9 @@ fn write_ring(m: &[i32], n: usize, start: usize, out: &mut [i32])
     requires { ⌜ 4 * n ≤ length (now out) ⌝ }
     ensures { λ _. ⌜ Wrote (startedAt (now (m .entry)) n start) (now (out .entry)) (now (out .exit)) ⌝ }
 {
-    let mut i = start;
-    let mut k = 0;
-    while k < 4 * n {
-        let p = 4 * i;
-        let w = m[p + 2];
-        write_fraction(m[p], w, out, k);
-        write_fraction(m[p + 1], w, out, k + 2);
-        i = passes::next_of(i, n);
-        k += 4;
-    }
+    let rest = n - start;
+    write_corners(&m[4 * start..], rest, out);
+    write_corners(m, start, &mut out[4 * rest..]);
 }
 
 // How many numbers the ring of the first n corners has; they are written where they have room.

@@ -1,7 +1,7 @@
 -- `outlines::cut_in` meets its contract: the ring that the passes left is given from its first place on. Assumes nothing.
 use mathlib.Core.Path.{sym, subst}
 use mathlib.Core.List.{List}
-use Prim.Native.Nat.{_*_, _≤_}
+use Prim.Native.Nat.{_-_, _*_, _≤_}
 use native.Mathlib.Omega.{arith}
 use borrow.Author.Needs.{needs}
 use denote.Ref.{now}
@@ -12,7 +12,8 @@ use Rattle.rings.specs.Rings.{Ring}
 use Rattle.passes.specs.Orders.{windowOf}
 use Rattle.passes.specs.declared.Places.{Places}
 use Rattle.outlines.specs.Workers.{GaveRing}
-use Rattle.outlines.proofs.Giving.{LeftRing, in-order, left-ring, ring-part, give-ring, give-nothing, none-cuts}
+use Rattle.outlines.proofs.Giving.{LeftRing, in-order, left-ring, give-ring, give-nothing, none-cuts}
+use Rattle.outlines.proofs.Memory.{ring-part}
 use Rattle.outlines.proofs.cut_in.Statement.{statement}
 use Rattle.outlines.proofs.cut_in.Tie as tie
 
@@ -72,7 +73,7 @@ part-give-ring-end c = search needs
 give-ring-requires : tie.Need-give-ring-requires
 give-ring-requires c κs =
     let e = c .before .before .before .before in
-    (simp (length-take, length-drop) (omega (arith, left e .room, in-order (ran e .run .ensures))), subst Ring (sym (ring-part (m e) (p e) (first e))) (left e .ring))
+    (simp (length-take, length-drop) (omega (arith, left e .room, in-order (ran e .run .ensures))), subst Ring (sym (ring-part (m e) (p e .from) (p e .to - p e .from) (first e))) (left e .ring))
 
 same-length-2 : tie.Need-same-length-2
 same-length-2 c = search needs
@@ -85,7 +86,7 @@ returns-2 c =
     let e = c .before .before .before .before .before .before in
     let a = start e in
     give-ring (a .pre .1 .0) (a .pre .1 .1 .0) (left e .cuts)
-    (subst (λ (r : List Point). GaveRing r (c .before .give-ring .result) (now (a .args .out)) (c .before .give-ring .last .1 .1 .0)) (ring-part (m e) (p e) (first e)) (c .before .give-ring .ensures))
+    (subst (λ (r : List Point). GaveRing r (c .before .give-ring .result) (now (a .args .out)) (c .before .give-ring .last .1 .1 .0)) (ring-part (m e) (p e .from) (p e .to - p e .from) (first e)) (c .before .give-ring .ensures))
 
 pub cut-in-spec : {M : Type 1} → statement M
 cut-in-spec =

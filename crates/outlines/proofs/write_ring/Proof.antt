@@ -1,153 +1,119 @@
--- `outlines::write_ring` meets its contract: the numbers of the corners before i stand at the front of the output, `Rounding`. Assumes nothing.
-use Prim.Native.Nat.{ℕ, _+_, _-_, _*_, _<_, _≤_}
-use mathlib.Core.Path.{sym, subst}
+-- `outlines::write_ring` meets its contract: the corners from the start to the end are written, and behind them those before it. Assumes nothing.
+use Prim.Native.Nat.{_-_, _*_, _≤_}
+use mathlib.Core.Path.{_≡_, sym, ap, subst}
+use mathlib.Core.List.{List}
 use native.Mathlib.Omega.{arith}
+use borrow.Author.Needs.{needs}
 use denote.Ref.{now}
-use lib.IntN.{ℤ, pos}
-use lib.ListN.{length}
-use lib.Signed.{_<ℤ_}
-use mir.Syntax.{w32}
-use mir.Val.{toZ, ofZ}
-use Rattle.whole.proofs.Comparisons.{back}
+use lib.ListN.{length, take, drop, length-take, length-drop}
+use Rattle.rings.specs.Lists.{All}
 use Rattle.rings.specs.Points.{Point, Proper}
-use Rattle.passes.specs.Memory.{pointIn}
-use Rattle.outlines.proofs.Memory.{at-place}
-use Rattle.outlines.proofs.Writing.{Rounding, read-fraction, round-starts, round-goes-on, round-ends}
+use Rattle.rings.proofs.Lists.{all-left, all-right, turned-all}
+use Rattle.passes.specs.Memory.{ringFrom, ringIn}
+use Rattle.passes.proofs.Memories.{ring-length}
+use Rattle.outlines.specs.Workers.{startedAt, Wrote}
+use Rattle.outlines.proofs.Memory.{ring-part, turned-at}
+use Rattle.outlines.proofs.Writing.{wrote-rest}
 use Rattle.outlines.proofs.write_ring.Statement.{statement}
 use Rattle.outlines.proofs.write_ring.Tie as tie
 
-abbrev Inv-loop : tie.InvT-loop
-Inv-loop m n start out₀ i₀ k₀ out i k = Rounding m n start out₀ out i k
+-- every corner is proper, and the memory has those from the start on
+module _ (s : tie.Start) where
+  proper : All Proper (startedAt (now (s .args .m)) (s .args .n) (s .args .start))
+  proper = turned-all (turned-at (now (s .args .m)) (omega (arith, s .pre .0))) (s .pre .1 .1 .0)
 
-abbrev μ-loop : tie.MeasureT-loop
-μ-loop m n start out₀ i₀ k₀ out i k = 4 * n - k
+  begins : 4 * s .args .start ≤ length (now (s .args .m))
+  begins = omega (arith, s .pre .0, s .pre .1 .0)
 
--- every corner of the ring is proper
-proper : (s : tie.Start Inv-loop μ-loop) (j : ℕ) → j < s .args .n → Proper (pointIn (now (s .args .m)) j)
-proper s j h = at-place (now (s .args .m)) 0 (s .args .n) (s .pre .1 .1 .0) j (omega arith) (omega arith)
+  part :
+      let m = now (s .args .m) in
+      let k = 4 * s .args .start in
+      let n = s .args .n - s .args .start in
+      ringIn (take (length m - k) (drop k m)) n ≡ ringFrom m (s .args .start) n
+  part = ring-part (now (s .args .m)) (s .args .start) (s .args .n - s .args .start) begins
 
-loop-holds : tie.Need-loop-holds Inv-loop μ-loop
-loop-holds c = round-starts (now (c .args .m)) (c .args .n) (c .args .start) (proper c) (c .pre .0)
+sub-rest : tie.Need-sub-rest
+sub-rest c = search needs
 
-mul-loop : tie.Need-mul-loop Inv-loop μ-loop
-mul-loop c = omega (arith, c .before .pre .1 .0, c .before .good)
+mul-write-corners : tie.Need-mul-write-corners
+mul-write-corners c = search needs
 
--- ---- the corner at place i
-module _ (c : tie.In-loop Inv-loop μ-loop) where
-  abbrev begun : tie.Start Inv-loop μ-loop
-  begun = c .before .before
+mul-write-corners-2 : tie.Need-mul-write-corners-2
+mul-write-corners-2 c = search needs
 
-  abbrev at : Point
-  at = pointIn (now (begun .args .m)) (c .before .loop .i)
+sub-write-corners : tie.Need-sub-write-corners
+sub-write-corners c = search needs
 
-  in-memory : 4 * c .before .loop .i + 4 ≤ length (now (begun .args .m))
-  in-memory = omega (arith, c .before .loop .inv .place, begun .pre .1 .0)
+part-write-corners-start : tie.Need-part-write-corners-start
+part-write-corners-start c = search needs
 
-  in-output : c .before .loop .k + 4 ≤ length (c .before .loop .out)
-  in-output = omega (arith, c .before .loop .inv .four, c .loop-test .taken, c .before .loop .inv .filled .same, begun .pre .1 .1 .1)
+part-write-corners-end : tie.Need-part-write-corners-end
+part-write-corners-end c = search needs
 
-mul-p : tie.Need-mul-p Inv-loop μ-loop
-mul-p c = omega (arith, in-memory c, begun c .good)
+write-corners-requires : tie.Need-write-corners-requires
+write-corners-requires c κs =
+    let s = c .before .before in (
+      simp (length-take, length-drop) (omega (arith, s .pre .1 .0)),
+      (
+        subst (All Proper) (sym (part s)) (all-left (ringFrom (now (s .args .m)) (s .args .start) (s .args .n - s .args .start)) _ (proper s)),
+        omega (arith, s .pre .1 .1 .1),
+      ),
+    )
 
-add-w : tie.Need-add-w Inv-loop μ-loop
-add-w c = omega (arith, in-memory c, begun c .good)
+mul-write-corners-3 : tie.Need-mul-write-corners-3
+mul-write-corners-3 c = search needs
 
-mul-w : tie.Need-mul-w Inv-loop μ-loop
-mul-w c = omega (arith, in-memory c, begun c .good)
+mul-write-corners-4 : tie.Need-mul-write-corners-4
+mul-write-corners-4 c = search needs
 
-shared-slice-copy-out-w : tie.Need-shared-slice-copy-out-w Inv-loop μ-loop
-shared-slice-copy-out-w c = omega (arith, in-memory c)
+sub-write-corners-2 : tie.Need-sub-write-corners-2
+sub-write-corners-2 c = search needs
 
-proper-read : (c : tie.After-w Inv-loop μ-loop) → pos 0 <ℤ toZ w32 (ofZ w32 (at (c .before) .W))
-proper-read c = let b = c .before in subst (λ (z : ℤ). pos 0 <ℤ z) (sym (back w32 (at b .W) (c .w .given))) (proper (begun b) (b .before .loop .i) (b .before .loop .inv .place))
+part-write-corners-start-2 : tie.Need-part-write-corners-start-2
+part-write-corners-start-2 c = search needs
 
-mul-write-fraction : tie.Need-mul-write-fraction Inv-loop μ-loop
-mul-write-fraction c = omega (arith, in-memory (c .before), begun (c .before) .good)
+part-write-corners-end-2 : tie.Need-part-write-corners-end-2
+part-write-corners-end-2 c = search needs
 
-shared-slice-copy-out-write-fraction :
-    tie.Need-shared-slice-copy-out-write-fraction Inv-loop μ-loop
-shared-slice-copy-out-write-fraction c = omega (arith, in-memory (c .before))
+write-corners-requires-2 : tie.Need-write-corners-requires-2
+write-corners-requires-2 c κs =
+    let s = c .before .before .before .before .before in (
+      begins s,
+      (
+        all-right (ringFrom (now (s .args .m)) (s .args .start) (s .args .n - s .args .start)) (proper s),
+        simp (length-take, length-drop) (omega (arith, s .pre .0, s .pre .1 .1 .1, c .before .before .write-corners .kept .1 .1 .0)),
+      ),
+    )
 
-write-fraction-requires : tie.Need-write-fraction-requires Inv-loop μ-loop
-write-fraction-requires c κs = let w = c .before .before in (proper-read w, omega (arith, in-output (w .before)))
+same-length : tie.Need-same-length
+same-length c = search needs
 
--- ---- after its first fraction
-abbrev corner : tie.After-write-fraction Inv-loop μ-loop → tie.In-loop Inv-loop μ-loop
-corner f = f .before .before .before .before
-
-add-write-fraction : tie.Need-add-write-fraction Inv-loop μ-loop
-add-write-fraction c = let b = corner (c .before) in omega (arith, in-memory b, begun b .good)
-
-mul-write-fraction-2 : tie.Need-mul-write-fraction-2 Inv-loop μ-loop
-mul-write-fraction-2 c = let b = corner (c .before) in omega (arith, in-memory b, begun b .good)
-
-shared-slice-copy-out-write-fraction-2 :
-    tie.Need-shared-slice-copy-out-write-fraction-2 Inv-loop μ-loop
-shared-slice-copy-out-write-fraction-2 c = omega (arith, in-memory (corner (c .before)))
-
-add-write-fraction-2 : tie.Need-add-write-fraction-2 Inv-loop μ-loop
-add-write-fraction-2 c = let b = corner (c .before .before .before) in omega (arith, b .loop-test .taken, begun b .pre .1 .0, begun b .good)
-
-write-fraction-requires-2 : tie.Need-write-fraction-requires-2 Inv-loop μ-loop
-write-fraction-requires-2 c κs =
-    let f = c .before .before .before in
-    (proper-read (f .before .before .before), omega (arith, in-output (corner f), f .write-fraction .kept .1 .1 .0))
-
--- ---- after both
-abbrev first : tie.After-write-fraction2 Inv-loop μ-loop → tie.After-write-fraction Inv-loop μ-loop
-first c = c .before .before .before .before
-
-next-of-requires : tie.Need-next-of-requires Inv-loop μ-loop
-next-of-requires c κs = corner (first (c .before)) .before .loop .inv .place
-
-add-k : tie.Need-add-k Inv-loop μ-loop
-add-k c = let b = corner (first (c .before .before)) in omega (arith, b .loop-test .taken, b .before .loop .inv .four, begun b .pre .1 .0, begun b .good)
-
-loop-less : tie.Need-loop-less Inv-loop μ-loop
-loop-less c = omega (arith, corner (first (c .before .before)) .loop-test .taken)
-
-loop-again : tie.Need-loop-again Inv-loop μ-loop
-loop-again c =
-    let y = c .before .before in
-    let x = first y in
-    let w = x .before .before .before in
-    let b = corner x in
-    let s = begun b in
-    let p = at b in
-    round-goes-on (now (s .args .m)) (s .args .n) (s .args .start) (proper s) (s .pre .0) (s .pre .1 .1 .1) (b .loop-test .taken) (b .before .loop .inv)
-    (read-fraction (p .X) (p .W) (x .before .before .write-fraction-arg .given) (w .w .given) (x .write-fraction .ensures))
-    (read-fraction (p .Y) (p .W) (y .before .before .write-fraction-arg3 .given) (w .w .given) (y .write-fraction2 .ensures))
-    (c .next-of .ensures)
-
-same-length : tie.Need-same-length Inv-loop μ-loop
-same-length c = c .before .loop .inv .filled .same
-
-returns : tie.Need-returns Inv-loop μ-loop
-returns c = let s = c .before .before in round-ends (now (s .args .m)) (s .args .n) (s .args .start) (proper s) (s .pre .0) (omega (arith, c .loop-test .left)) (c .before .loop .inv)
+returns : tie.Need-returns
+returns c =
+    let w = c .before .before .before .before in
+    let s = w .before .before .before in
+    let m = now (s .args .m) in
+    let rest = s .args .n - s .args .start in
+    wrote-rest (4 * rest) (ap (λ k. 4 * k) (ring-length m (s .args .start) rest)) (omega (arith, ring-length m 0 (s .args .start), s .pre .0, s .pre .1 .1 .1))
+    (subst (λ (r : List Point). Wrote r (now (s .args .out)) (w .write-corners .last .1 .1 .0)) (part s) (w .write-corners .ensures))
+    (c .before .write-corners2 .ensures)
 
 pub write-ring-spec : {M : Type 1} → statement M
 write-ring-spec =
     tie.close
     (tie.spec
-    Inv-loop
-    μ-loop
-    loop-holds
-    mul-loop
-    mul-p
-    add-w
-    mul-w
-    shared-slice-copy-out-w
-    mul-write-fraction
-    shared-slice-copy-out-write-fraction
-    write-fraction-requires
-    add-write-fraction
-    mul-write-fraction-2
-    shared-slice-copy-out-write-fraction-2
-    add-write-fraction-2
-    write-fraction-requires-2
-    next-of-requires
-    add-k
-    loop-less
-    loop-again
+    sub-rest
+    mul-write-corners
+    mul-write-corners-2
+    sub-write-corners
+    part-write-corners-start
+    part-write-corners-end
+    write-corners-requires
+    mul-write-corners-3
+    mul-write-corners-4
+    sub-write-corners-2
+    part-write-corners-start-2
+    part-write-corners-end-2
+    write-corners-requires-2
     same-length
     returns)
