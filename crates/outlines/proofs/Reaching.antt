@@ -3,16 +3,19 @@ use mathlib.Core.Path.{_≡_, refl, sym, subst}
 use mathlib.Core.Bool.{Bool, true, false}
 use mathlib.Core.List.{List, [], _∷_, map, Permᴰ·symm}
 use mathlib.Core.Option.{Option, none, some}
-use Prim.Native.Nat.{ℕ, zero, suc, _+_, _*_, _/_, _%_, _≤_}
+use Prim.Native.Nat.{ℕ, zero, suc, _+_, _*_, _/_, _%_, _^_, _<_, _≤_}
 use native.Mathlib.Omega.{arith}
 use borrow.Author.Count.{below-more}
 use borrow.Author.Tests.{eqb-true, eqb-false}
 use lib.Dec.{eqb}
 use lib.IntN.{ℤ, pos, _-ℤ_, negℤ}
 use lib.ListN.{length, getD}
-use lib.Signed.{_≤ℤ_}
+use lib.Signed.{_≤ℤ_, mag}
+use mir.Syntax.{w32}
+use mir.Val.{toZ, ofZ}
 use Rattle.whole.specs.Within.{Within}
 use Rattle.whole.proofs.Expressions.{Expr, var, neg, _⊕_, _⊗_}
+use Rattle.whole.proofs.Comparisons.{back}
 use Rattle.whole.proofs.Naturals.{neg-plus, neg-minus}
 use Rattle.whole.proofs.Order.{zarith, sub-is, ≤-antisym}
 use Rattle.whole.proofs.Polynomials.{ring}
@@ -37,6 +40,16 @@ use Rattle.passes.proofs.Pieces.{cut-nothing}
 use Rattle.outlines.specs.Workers.{Round, Reaches, ReachOnTable, Clear, Beyond}
 use Rattle.outlines.proofs.Clear.{left-at, right-at, bottom-at, top-at, clear-in}
 use Rattle.outlines.proofs.Passes.{lines-real}
+
+-- ---- a rectangle of the numbers that the program holds, and one as it is read
+abbrev pub held : (left bottom right top : ℕ) → Window
+held left bottom right top = record { left = toZ w32 left; bottom = toZ w32 bottom; right = toZ w32 right; top = toZ w32 top }
+
+abbrev pub reading : Window → Window
+reading b = held (ofZ w32 (b .left)) (ofZ w32 (b .bottom)) (ofZ w32 (b .right)) (ofZ w32 (b .top))
+
+pub is-reading : (b : Window) → mag (b .left) < 2 ^ 31 → mag (b .bottom) < 2 ^ 31 → mag (b .right) < 2 ^ 31 → mag (b .top) < 2 ^ 31 → b ≡ reading b
+is-reading b l o r t = λ i. record { left = sym (back w32 (b .left) l) i; bottom = sym (back w32 (b .bottom) o) i; right = sym (back w32 (b .right) r) i; top = sym (back w32 (b .top) t) i }
 
 pub all-clear : {w b : Window} → w .left ≤ℤ b .left → b .right ≤ℤ w .right → w .bottom ≤ℤ b .bottom → b .top ≤ℤ w .top → (s : ℕ) → Clear w b s
 all-clear l r o t zero = l

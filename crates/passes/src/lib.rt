@@ -92,7 +92,7 @@ fn limit_of(side: usize, c: i32) -> Limit
 }
 
 // Of n corners the one that comes after the corner k: after the last the first.
-pub fn next_of(k: usize, n: usize) -> usize
+fn next_of(k: usize, n: usize) -> usize
     requires { ⌜ k < n ⌝ }
     ensures { λ r. ⌜ r ≡ next n k ⌝ }
 {

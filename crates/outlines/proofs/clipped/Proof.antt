@@ -1,12 +1,7 @@
 -- `outlines::clipped` meets its contract: where no side cuts anything off, the outline is what is left; where one leaves nothing there is no area; else what the passes leave is given. Assumes nothing.
 use mathlib.Core.Path.{_≡_, sym, subst, transport}
-use Prim.Native.Nat.{_^_, _<_}
 use borrow.Author.Needs.{needs}
 use denote.Ref.{now}
-use lib.Signed.{mag}
-use mir.Syntax.{w32}
-use mir.Val.{toZ, ofZ}
-use Rattle.whole.proofs.Comparisons.{back}
 use Rattle.grid.specs.Table.{WindowOnTable}
 use Rattle.grid.specs.declared.Window.{Window}
 use Rattle.passes.specs.Outlines.{Cutting}
@@ -15,7 +10,7 @@ use Rattle.outlines.specs.Outlines.{Clipped}
 use Rattle.outlines.specs.Workers.{GaveNumbers}
 use Rattle.outlines.proofs.Clear.{cutting, cutting-is}
 use Rattle.outlines.proofs.Giving.{give-ring, give-nothing}
-use Rattle.outlines.proofs.Reaching.{whole-left, nothing-left}
+use Rattle.outlines.proofs.Reaching.{reading, is-reading, whole-left, nothing-left}
 use Rattle.outlines.proofs.clipped.Statement.{statement}
 use Rattle.outlines.proofs.clipped.Tie as tie
 
@@ -45,13 +40,6 @@ returns-2 c =
     let p = s .pre in
     give-nothing (p .1 .0) (p .1 .1 .0) (nothing-left (s .args .w) (p .1 .1 .1) (p .1 .0) (outline-ring (p .1 .1 .0)) (c .before .apart .ensures (c .if2 .taken)))
 
--- a window as it is read
-abbrev read : Window → Window
-read w = record { left = toZ w32 (ofZ w32 (w .left)); bottom = toZ w32 (ofZ w32 (w .bottom)); right = toZ w32 (ofZ w32 (w .right)); top = toZ w32 (ofZ w32 (w .top)) }
-
-is-read : (w : Window) → mag (w .left) < 2 ^ 31 → mag (w .bottom) < 2 ^ 31 → mag (w .right) < 2 ^ 31 → mag (w .top) < 2 ^ 31 → w ≡ read w
-is-read w l b r t = λ i. record { left = sym (back w32 (w .left) l) i; bottom = sym (back w32 (w .bottom) b) i; right = sym (back w32 (w .right) r) i; top = sym (back w32 (w .top) t) i }
-
 module _ (c : tie.After-cut-by-passes-arg) where
   abbrev reach-told : tie.After-struct-told5
   reach-told = c .before .before .before .before .before .before .before .before .before .before .before
@@ -62,11 +50,11 @@ module _ (c : tie.After-cut-by-passes-arg) where
   abbrev start : tie.Start
   start = told .before .before .before .before .before
 
-  is-w : start .args .w ≡ read (start .args .w)
-  is-w = let g = told .struct-told .given in is-read _ (g .0 .1) (g .1 .0 .1) (g .1 .1 .0 .1) (g .1 .1 .1 .0 .1)
+  is-w : start .args .w ≡ reading (start .args .w)
+  is-w = let g = told .struct-told .given in is-reading _ (g .0 .1) (g .1 .0 .1) (g .1 .1 .0 .1) (g .1 .1 .1 .0 .1)
 
-  is-reach : start .args .reach ≡ read (start .args .reach)
-  is-reach = let g = reach-told .struct-told5 .given in is-read _ (g .0 .1) (g .1 .0 .1) (g .1 .1 .0 .1) (g .1 .1 .1 .0 .1)
+  is-reach : start .args .reach ≡ reading (start .args .reach)
+  is-reach = let g = reach-told .struct-told5 .given in is-reading _ (g .0 .1) (g .1 .0 .1) (g .1 .1 .0 .1) (g .1 .1 .1 .0 .1)
 
 cut-by-passes-requires : tie.Need-cut-by-passes-requires
 cut-by-passes-requires c κs =

@@ -1,6 +1,6 @@
 -- `outlines::reach::widened` meets its contract: the rectangle so far is round the corners so far, and on the table with them and the one given. Assumes nothing.
-use Prim.Native.Nat.{ℕ, _+_, _*_, _-_, _^_, _<_}
-use mathlib.Core.Path.{_≡_, sym, subst}
+use Prim.Native.Nat.{_+_, _*_, _-_, _^_, _<_}
+use mathlib.Core.Path.{_≡_, subst}
 use native.Mathlib.Omega.{arith}
 use borrow.Author.Needs.{needs}
 use denote.Ref.{now}
@@ -11,16 +11,10 @@ use mir.Val.{toZ, ofZ}
 use Rattle.grid.specs.Table.{NumbersOnTable}
 use Rattle.whole.proofs.Comparisons.{back}
 use Rattle.whole.proofs.Order.{zarith}
-use Rattle.grid.specs.declared.Window.{Window}
-
 use Rattle.outlines.specs.Workers.{Round, ReachOnTable}
-use Rattle.outlines.proofs.Reaching.{round-more, round-all}
+use Rattle.outlines.proofs.Reaching.{held, reading, is-reading, round-more, round-all}
 use Rattle.outlines.proofs.reach.widened.Statement.{statement}
 use Rattle.outlines.proofs.reach.widened.Tie as tie
-
--- a rectangle of the numbers that the program holds
-abbrev held : (left bottom right top : ℕ) → Window
-held left bottom right top = record { left = toZ w32 left; bottom = toZ w32 bottom; right = toZ w32 right; top = toZ w32 top }
 
 abbrev Inv-loop : tie.InvT-loop
 Inv-loop outline from left₀ bottom₀ right₀ top₀ n k₀ left bottom right top k =
@@ -43,15 +37,12 @@ module _ (r x : ℤ) {a : ℤ} (hr : mag r < 2 ^ 31) (hx : mag x < 2 ^ 31) where
   upper-most : {c : ℤ} → ((c : ℤ) → a ≤ℤ c → toZ w32 (ofZ w32 x) ≤ℤ c → r ≤ℤ c) → a ≤ℤ c → x ≤ℤ c → toZ w32 (ofZ w32 r) ≤ℤ c
   upper-most {c} p h k = let e = back w32 r hr in let f = back w32 x hx in let q = p c h (omega zarith) in omega zarith
 
--- the given rectangle is what is held of it
-is-held : (c : tie.After-struct-told4 Inv-loop μ-loop) → let b = c .before .before .before .before .args .b in b ≡ held (ofZ w32 (b .left)) (ofZ w32 (b .bottom)) (ofZ w32 (b .right)) (ofZ w32 (b .top))
-is-held c =
-    let b = c .before .before .before .before .args .b in
-    let g = c .before .before .before .struct-told .given in
-    λ i. record { left = sym (back w32 (b .left) (g .0 .1)) i; bottom = sym (back w32 (b .bottom) (g .1 .0 .1)) i; right = sym (back w32 (b .right) (g .1 .1 .0 .1)) i; top = sym (back w32 (b .top) (g .1 .1 .1 .0 .1)) i }
+-- the given rectangle, as it is read
+is-read : (c : tie.After-struct-told4 Inv-loop μ-loop) → let b = c .before .before .before .before .args .b in b ≡ reading b
+is-read c = let g = c .before .before .before .struct-told .given in is-reading _ (g .0 .1) (g .1 .0 .1) (g .1 .1 .0 .1) (g .1 .1 .1 .0 .1)
 
 loop-holds : tie.Need-loop-holds Inv-loop μ-loop
-loop-holds c = let a = c .before .before .before .before in (subst (Round (now (a .args .outline)) (a .args .from)) (is-held c) (a .pre), λ _ t. t)
+loop-holds c = let a = c .before .before .before .before in (subst (Round (now (a .args .outline)) (a .args .from)) (is-read c) (a .pre), λ _ t. t)
 
 mul-x : tie.Need-mul-x Inv-loop μ-loop
 mul-x c = search needs
@@ -120,7 +111,7 @@ loop-again c =
     )
 
 returns : tie.Need-returns Inv-loop μ-loop
-returns c = let i = c .before .loop .inv in (round-all (c .loop-test .left) (i .0), λ on t. i .1 on (subst ReachOnTable (is-held (c .before .before)) t))
+returns c = let i = c .before .loop .inv in (round-all (c .loop-test .left) (i .0), λ on t. i .1 on (subst ReachOnTable (is-read (c .before .before)) t))
 
 pub widened-spec : {M : Type 1} → statement M
 widened-spec =
