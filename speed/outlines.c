@@ -133,14 +133,13 @@ static void check_outlines(const struct Outlines *in, int convex) {
     for (usize i = 0; i < in->many; i++) check_outline(in->w[i], in->order[i], in->c[i], in->count, ROOM, convex);
 }
 
-// The same outlines with the last corner twice, or the first: the test of convexity goes on to the last edge, or ends at the first turn.
-static const struct Outlines *spoilt(const struct Outlines *from, int early) {
+// The same outlines against a window that is refused: the test of convexity comes before it, unless a number is off the table, too.
+static const struct Outlines *refused(const struct Outlines *from, int tested) {
     struct Outlines *in = lent(1, sizeof *in);
     *in = *from;
     for (usize i = 0; i < in->many; i++) {
-        i32 *c = in->c[i] + (early ? 2 : in->count - 2);
-        c[0] = c[-2];
-        c[1] = c[-1];
+        in->w[i].left = -16384;
+        if (!tested) in->c[i][1] = 16384;
     }
     return in;
 }
@@ -172,15 +171,15 @@ static void rows_of(usize n, const char *const names[9]) {
     add_row((struct Row){ names[4], run_outlines, in, in->many, ours, (Call *)tuned_clip_convex, in->many });
     add_row((struct Row){ names[5], run_outlines, in, in->many, ours, (Call *)tuned_clip_plainly, in->many });
     add_row((struct Row){ names[6], run_outlines, cut, cut->many, ours, (Call *)tuned_clip_plainly, cut->many });
-    for (int early = 0; early <= 1; early++) {
-        const struct Outlines *bad = spoilt(in, early);
+    for (int tested = 0; tested <= 1; tested++) {
+        const struct Outlines *bad = refused(in, tested);
         check_outlines(bad, 0);
-        add_row((struct Row){ names[7 + early], run_outlines, bad, bad->many, ours, tuned, bad->many });
+        add_row((struct Row){ names[7 + tested], run_outlines, bad, bad->many, ours, tuned, bad->many });
     }
 }
 
 #define NAMES(n) { "outline " n " whole", "outline " n " cut", "outline " n " outside", "outline " n " mixed", "outline " n " untested", \
-    "outline " n " plain", "outline " n " plain cut", "refused late " n, "refused early " n }
+    "outline " n " plain", "outline " n " plain cut", "refused " n, "refused tested " n }
 
 void outline_rows(void) {
     static const char *const three[] = NAMES("3"), *const eight[] = NAMES("8"), *const sixteen[] = NAMES("16"), *const most[] = NAMES("64");

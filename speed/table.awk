@@ -10,12 +10,10 @@ FILENAME == ARGV[1] { count[$1, $2] = $3; next }
         instructions[who, $1] = NF > 4 ? $(4 + k) : count[who, $1] / $2
     }
 }
-# Ours has no call without the test of convexity. An outline with its last corner twice is refused (7) at the last edge, one with its first corner
-# twice at the first turn: between them lie all turns of the test but two, which give what a turn costs; a turn a corner is taken off. Of three
-# corners all turns are alike, so there it is the cost of a turn of eight.
-function without_test(table, corners, row,    some) {
-    some = corners == 3 ? 8 : corners
-    return table["ours", "outline " corners " " row] - corners * (table["ours", "refused late " some] - table["ours", "refused early " some]) / (some - 2)
+# Ours has no call without the test of convexity. What the test costs is told by the same outlines against a window that is refused: the test comes
+# before that refusal, but not where a corner is off the table, too.
+function without_test(table, corners, row) {
+    return table["ours", "outline " corners " " row] - (table["ours", "refused tested " corners] - table["ours", "refused " corners])
 }
 function line(name) {
     printf "%-24s %9.1f %9.1f %6.2f", name, ns["ours", name], ns["tuned", name], ns["ours", name] / ns["tuned", name]

@@ -10,7 +10,7 @@ ghost use lib.IntN.{ℤ, pos};
 ghost use lib.ListN.{length};
 ghost use lib.Signed.{_<ℤ_};
 ghost use Rattle.whole.specs.Choice.{Decides};
-ghost use Rattle.grid.specs.Calls.{answered};
+ghost use Rattle.grid.specs.Calls.{answered, Given};
 ghost use Rattle.grid.specs.Table.{WindowOnTable, NumbersOnTable};
 ghost use Rattle.rings.specs.Lists.{All};
 ghost use Rattle.rings.specs.Points.{Proper, Before};
@@ -261,31 +261,6 @@ fn cut_by_passes(
     cut_in(numbers, cuts, order, outline, &mut most, out)
 }
 
-// How many numbers there are of what the window leaves of an outline in which nothing is refused; they are written where they have room.
-// The plain cases come first: they need no pass. The passes are given the sides' numbers, and which of them cut, by the sides' places.
-fn clipped(w: Window, order: u32, outline: &[i32], reach: Window, out: &mut [i32]) -> usize
-    requires { ⌜ WindowOnTable w ⌝ }
-    requires { ⌜ order ≤ 23 ⌝ }
-    requires { ⌜ OutlineOnTable (now outline) ⌝ }
-    requires { ⌜ Reaches (now outline) reach ⌝ }
-    ensures { λ r. ⌜ GaveNumbers (Clipped w order (now (outline .entry))) r (now (out .entry)) (now (out .exit)) ⌝ }
-{
-    if reach::inside(w, reach) {
-        return uncut::give_whole(outline, out);
-    }
-    if reach::apart(w, reach) {
-        return 0;
-    }
-    let numbers = [w.left, w.right, w.bottom, w.top];
-    let cuts = [
-        reach.left < w.left,
-        w.right < reach.right,
-        reach.bottom < w.bottom,
-        w.top < reach.top,
-    ];
-    cut_by_passes(&numbers, &cuts, order, outline, out)
-}
-
 // The answer of a call that gives so many numbers into an output of some room.
 fn given(need: usize, room: usize) -> Answer
     ensures { λ r. ⌜ ((xs : List ℤ) → need ≡ length xs → r ≡ answered xs room) ⌝ }
@@ -304,6 +279,32 @@ fn given(need: usize, room: usize) -> Answer
     }
 }
 
+// The answer for an outline in which nothing is refused. The plain cases come first: they need no pass. The passes are given the sides' numbers, and
+// which of them cut, by the sides' places.
+fn clipped(w: Window, order: u32, outline: &[i32], reach: Window, out: &mut [i32]) -> Answer
+    requires { ⌜ WindowOnTable w ⌝ }
+    requires { ⌜ order ≤ 23 ⌝ }
+    requires { ⌜ OutlineOnTable (now outline) ⌝ }
+    requires { ⌜ Reaches (now outline) reach ⌝ }
+    ensures { λ r. ⌜ Given (Clipped w order (now (outline .entry))) r (now (out .entry)) (now (out .exit)) ⌝ }
+{
+    let room = out.len();
+    if reach::inside(w, reach) {
+        return given(uncut::give_whole(outline, out), room);
+    }
+    if reach::apart(w, reach) {
+        return given(0, room);
+    }
+    let numbers = [w.left, w.right, w.bottom, w.top];
+    let cuts = [
+        reach.left < w.left,
+        w.right < reach.right,
+        reach.bottom < w.bottom,
+        w.top < reach.top,
+    ];
+    given(cut_by_passes(&numbers, &cuts, order, outline, out), room)
+}
+
 // What a window keeps of a strictly convex outline, cut along the window's sides in one of the 24 orders. The outline is x y x y ..,
 // counterclockwise; the ring is written as four numbers a corner.
 pub fn clip_outline(w: Window, order: u32, outline: &[i32], out: &mut [i32]) -> Answer
@@ -312,8 +313,7 @@ pub fn clip_outline(w: Window, order: u32, outline: &[i32], out: &mut [i32]) -> 
     if right_count(outline.len()) {
         let reach = reach::reach_of(outline);
         if takes(w, order, outline, reach) {
-            let need = clipped(w, order, outline, reach, out);
-            return given(need, out.len());
+            return clipped(w, order, outline, reach, out);
         }
     }
     let bad = refusal(w, order, outline);

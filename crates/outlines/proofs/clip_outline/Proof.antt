@@ -1,5 +1,5 @@
--- `outlines::clip_outline` meets its contract: where nothing is refused, the answer for what `clipped` gives into an output whose room it keeps; refused elsewhere. Assumes nothing.
-use mathlib.Core.Path.{_≡_, sym, ap, _∙_, subst}
+-- `outlines::clip_outline` meets its contract: where nothing is refused, the answer of `clipped`; refused elsewhere. Assumes nothing.
+use mathlib.Core.Path.{_≡_, sym, _∙_, subst}
 use mathlib.Core.Bool.{true}
 use mathlib.Core.Logic.{⊎-elim}
 use native.Mathlib.Omega.{arith}
@@ -7,7 +7,6 @@ use borrow.Author.Needs.{needs}
 use denote.Ref.{now}
 use lib.ListN.{length}
 use Rattle.whole.proofs.Comparisons.{ff-tt}
-use Rattle.grid.specs.Calls.{answered}
 use Rattle.grid.specs.declared.Refusal.{Refusal}
 use Rattle.grid.proofs.Calls.{call-refused}
 use Rattle.outlines.specs.Outlines.{rightCount, outlineRefusal}
@@ -45,24 +44,11 @@ clipped-requires c κs =
       ),
     )
 
-given-requires : tie.Need-given-requires
-given-requires c κs = search needs
-
 same-length : tie.Need-same-length
 same-length c = search needs
 
 returns : tie.Need-returns
-returns c =
-    let k = c .before .before .clipped in
-    let g = k .ensures in record {
-      refused = λ n. absurd (n (taken (c .before .before .before .before)));
-      given = λ _. record {
-        numbers = g .numbers;
-        gives = g .gives;
-        answer = c .given .ensures (g .numbers) (g .count) ∙ ap (answered (g .numbers)) (k .kept .1 .1 .1 .1 .0);
-        output = g .output;
-      };
-    }
+returns c = record { refused = λ n. absurd (n (taken (c .before .before .before))); given = λ _. c .before .clipped .ensures }
 
 -- something is refused
 refused : (c : tie.Joined1) → let a = c .before .before .args in outlineRefusal (a .w) (a .order) (now (a .outline)) .number ≡ 0 → ⊥
@@ -81,4 +67,4 @@ returns-2 c = call-refused (sym (c .refusal .ensures)) (subst (λ (r : Refusal).
 pub clip-outline-spec : {M : Type 1} → statement M
 clip-outline-spec =
     tie.close
-    (tie.spec right-count-requires reach-of-requires takes-requires clipped-requires given-requires same-length returns refusal-requires returns-2)
+    (tie.spec right-count-requires reach-of-requires takes-requires clipped-requires same-length returns refusal-requires returns-2)

@@ -1,4 +1,4 @@
--- `outlines::clipped` meets its contract: where no side cuts anything off, the outline is what is left; where one leaves nothing there is no area; else what the passes leave is given. Assumes nothing.
+-- `outlines::clipped` meets its contract: where no side cuts anything off, the outline is what is left; where one leaves nothing there is no area; else what the passes leave is given. Each time the answer is that of the numbers given. Assumes nothing.
 use mathlib.Core.Path.{_≡_, sym, subst, transport}
 use borrow.Author.Needs.{needs}
 use denote.Ref.{now}
@@ -9,7 +9,7 @@ use Rattle.passes.proofs.Outlines.{outline-ring}
 use Rattle.outlines.specs.Outlines.{Clipped}
 use Rattle.outlines.specs.Workers.{GaveNumbers}
 use Rattle.outlines.proofs.Clear.{cutting, cutting-is}
-use Rattle.outlines.proofs.Giving.{give-ring, give-nothing}
+use Rattle.outlines.proofs.Giving.{answer-given, give-ring, give-nothing}
 use Rattle.outlines.proofs.Reaching.{reading, is-reading, whole-left, nothing-left}
 use Rattle.outlines.proofs.clipped.Statement.{statement}
 use Rattle.outlines.proofs.clipped.Tie as tie
@@ -20,25 +20,34 @@ inside-requires c κs = search needs
 give-whole-requires : tie.Need-give-whole-requires
 give-whole-requires c κs = let t = c .before .before .before .pre .1 .1 .0 in (t .corners .even, (t .corners .few, outline-ring t))
 
+given-requires : tie.Need-given-requires
+given-requires c κs = search needs
+
 same-length : tie.Need-same-length
 same-length c = search needs
 
 returns : tie.Need-returns
 returns c =
-    let i = c .before .before .before in
+    let g = c .before .before in
+    let i = g .before .before in
     let s = i .before .before in
     let p = s .pre in
-    let g = outline-ring (p .1 .1 .0) in
-    give-ring (p .1 .0) (p .1 .1 .0) (whole-left (s .args .w) (p .1 .1 .1) (s .args .order) (g .three) (i .before .inside .ensures (i .if1 .taken))) (c .before .give-whole .ensures)
+    answer-given (c .given .ensures)
+    (give-ring (p .1 .0) (p .1 .1 .0) (whole-left (s .args .w) (p .1 .1 .1) (s .args .order) (outline-ring (p .1 .1 .0) .three) (i .before .inside .ensures (i .if1 .taken))) (g .give-whole .ensures))
 
 apart-requires : tie.Need-apart-requires
 apart-requires c κs = search needs
 
+given-requires-2 : tie.Need-given-requires-2
+given-requires-2 c κs = search needs
+
 returns-2 : tie.Need-returns-2
 returns-2 c =
-    let s = c .before .before .before .before in
+    let b = c .before in
+    let s = b .before .before .before .before in
     let p = s .pre in
-    give-nothing (p .1 .0) (p .1 .1 .0) (nothing-left (s .args .w) (p .1 .1 .1) (p .1 .0) (outline-ring (p .1 .1 .0)) (c .before .apart .ensures (c .if2 .taken)))
+    answer-given (c .given2 .ensures)
+    (give-nothing (p .1 .0) (p .1 .1 .0) (nothing-left (s .args .w) (p .1 .1 .1) (p .1 .0) (outline-ring (p .1 .1 .0)) (b .before .apart .ensures (b .if2 .taken))))
 
 module _ (c : tie.After-cut-by-passes-arg) where
   abbrev reach-told : tie.After-struct-told5
@@ -70,15 +79,19 @@ cut-by-passes-requires c κs =
       ),
     )
 
+given-requires-3 : tie.Need-given-requires-3
+given-requires-3 c κs = search needs
+
 same-length-2 : tie.Need-same-length-2
 same-length-2 c = search needs
 
 returns-3 : tie.Need-returns-3
 returns-3 c =
-    let a = c .before .before in
+    let done = c .before .before .cut-by-passes in
+    let a = c .before .before .before in
     let s = start a in
-    let done = c .before .cut-by-passes in
-    subst (λ (w : Window). GaveNumbers (Clipped w (s .args .order) (now (s .args .outline))) (done .result) (now (s .args .out)) (done .last .1 .1 .1 .1 .0)) (sym (is-w a)) (done .ensures)
+    answer-given (c .given3 .ensures)
+    (subst (λ (w : Window). GaveNumbers (Clipped w (s .args .order) (now (s .args .outline))) (done .result) (now (s .args .out)) (done .last .1 .1 .1 .1 .0)) (sym (is-w a)) (done .ensures))
 
 pub clipped-spec : {M : Type 1} → statement M
 clipped-spec =
@@ -86,10 +99,13 @@ clipped-spec =
     (tie.spec
     inside-requires
     give-whole-requires
+    given-requires
     same-length
     returns
     apart-requires
+    given-requires-2
     returns-2
     cut-by-passes-requires
+    given-requires-3
     same-length-2
     returns-3)
