@@ -1,4 +1,5 @@
-// The first pass, over the outline itself: of its corners only those that are left come into the memory.
+// The first pass, over the outline itself: of its corners only those that are left come into the memory. Its crossings are those of the outline's own
+// edges, so that the window's numbers serve its statements only.
 use crate::Corner;
 use crate::Places;
 use crate::limit::Limit;
