@@ -1,4 +1,4 @@
--- The corners of an outline lie inside each side that is clear of the rectangle it reaches; a side that is not clear cuts.
+-- The corners of an outline lie inside each side that is clear of the rectangle it reaches, and a side that does not cut is clear.
 use mathlib.Core.Path.{_≡_, refl, sym, subst}
 use mathlib.Core.Bool.{Bool, false}
 use mathlib.Core.List.{List, [], _∷_}

@@ -1,4 +1,4 @@
--- How far an outline reaches: found corner by corner; where no side cuts anything off, the passes leave the outline; where one side leaves only what is on its line, they leave nothing.
+-- How far an outline reaches: a rectangle as it is read, and found corner by corner; where no side cuts anything off, the passes leave the outline; where one side leaves only what is on its line, they leave nothing.
 use mathlib.Core.Path.{_≡_, refl, sym, subst}
 use mathlib.Core.Bool.{Bool, true, false}
 use mathlib.Core.List.{List, [], _∷_, map, Permᴰ·symm}

@@ -7,7 +7,7 @@ use native.Mathlib.Nat.{add-zero, zero-add, suc-add}
 use native.Mathlib.Omega.{arith}
 use lib.IntN.{ℤ, pos}
 use lib.ListN.{length, getD, set, length-set}
-use lib.Seq.{sets, getD-set-same, getD-set-other, length-sets}
+use lib.Seq.{sets, getD-set-same, getD-set-other}
 use Rattle.rings.specs.Lists.{All, ∅, _◂_}
 use Rattle.rings.specs.Points.{Point}
 use Rattle.rings.specs.Rings.{at}
@@ -55,9 +55,6 @@ put-at m n p t h = record {
 -- a corner copied, where the program reads it back
 pub copied : {m m′ : List ℤ} (n i : ℕ) → 4 * n + 4 ≤ length m → m′ ≡ putAt m n (pointIn m i) (tagIn m i) → Put m m′ n (cornerIn m i)
 copied {m} n i h e = subst (λ (k : List ℤ). Put m k n (cornerIn m i)) (sym e) (put-at m n (pointIn m i) (tagIn m i) h)
-
-pub put-length : (m : List ℤ) (n : ℕ) (p : Point) (t : ℤ) → length (putAt m n p t) ≡ length m
-put-length m n p t = length-sets m (4 * n) (p .X ∷ p .Y ∷ p .W ∷ t ∷ [])
 
 -- ---- the ring in a memory
 pub ring-length : (m : List ℤ) (i n : ℕ) → length (ringFrom m i n) ≡ n
