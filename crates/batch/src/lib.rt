@@ -97,7 +97,7 @@ pub fn batch(w: Window, s: &[i32], out: &mut [i32]) -> Answer
     let needed = count_rows(w, s);
     if out.len() < needed {
         return Answer {
-            number: grid::OUTPUT_SHORT,
+            number: grid::NO_ROOM,
             place: needed,
             count: 0,
         };

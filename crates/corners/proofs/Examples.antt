@@ -14,7 +14,7 @@ use Rattle.rings.specs.Points.{value, through}
 use Rattle.rings.proofs.Lists.{all-map}
 use Rattle.spans.specs.Parts.{zeroth, unit}
 use Rattle.spans.proofs.Computed.{cutBy}
-use Rattle.corners.specs.Corners.{cornersOf, every, next, joins, isLeft, strictlyConvex, rightCount, badCount, notConvex, cyrusBeckRefusal, blankAnswer, CyrusBeck}
+use Rattle.corners.specs.Corners.{cornersOf, every, next, joins, isLeft, strictlyConvex, rightCount, badCount, unlessConvex, cyrusBeckRefusal, blankAnswer, CyrusBeck}
 use Rattle.corners.specs.declared.CornerAnswer.{CornerAnswer}
 use Rattle.corners.proofs.Computed.{spanOf, clipOf, answer, computed}
 
@@ -66,7 +66,7 @@ table =
     ∷ []
 
 computes : All (λ e. answer (e .corners) (e .stroke) ≡ e .expected) table
-unfolding table answer spanOf clipOf cutBy lessThan euclid lowestOf cyrusBeckRefusal first badCount rightCount offTable firstOff onTable notConvex strictlyConvex every next joins isLeft cornersOf value through strokeRefusal
+unfolding table answer spanOf clipOf cutBy lessThan euclid lowestOf cyrusBeckRefusal first badCount rightCount offTable firstOff onTable unlessConvex strictlyConvex every next joins isLeft cornersOf value through strokeRefusal
 computes = refl ◂ refl ◂ refl ◂ refl ◂ refl ◂ refl ◂ refl ◂ refl ◂ refl ◂ refl ◂ refl ◂ refl ◂ refl ◂ refl ◂ ∅
 
 pub examples : All (λ e. (a : CornerAnswer) → CyrusBeck (e .corners) (e .stroke) a → a ≡ e .expected) table

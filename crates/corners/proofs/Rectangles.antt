@@ -26,7 +26,7 @@ use Rattle.rings.proofs.Convex.{CCW, ∅ᶜ, _◂ᶜ_, ccw-turned}
 use Rattle.rings.proofs.Plane.{nought}
 use Rattle.rings.proofs.Theorems.{convex-ccw}
 use Rattle.spans.specs.Parts.{Time, Part}
-use Rattle.corners.specs.Corners.{gridPoint, cornersOf, strictlyConvex, rightCount, badCount, notConvex, cyrusBeckRefusal, pointAt, KeepsIn, CyrusBeck}
+use Rattle.corners.specs.Corners.{gridPoint, cornersOf, strictlyConvex, rightCount, badCount, unlessConvex, cyrusBeckRefusal, pointAt, KeepsIn, CyrusBeck}
 use Rattle.corners.specs.declared.CornerAnswer.{CornerAnswer}
 use Rattle.corners.proofs.Convexity.{is-true, convex-same}
 use Rattle.corners.proofs.Places.{side-by}
@@ -183,7 +183,7 @@ module _ {w : Window} {s : Stroke} (hw : WindowOnTable w) (hs : StrokeOnTable s)
   within k = turned-all (numbers w k) (hw .left ◂ hw .bottom ◂ hw .right ◂ hw .bottom ◂ hw .right ◂ hw .top ◂ hw .left ◂ hw .top ◂ ∅)
 
   taken : {zs : List ℤ} → RectangleCorners w zs → cyrusBeckRefusal zs s .number ≡ 0
-  unfolding cyrusBeckRefusal first badCount notConvex strokeRefusal rightCount
+  unfolding cyrusBeckRefusal first badCount unlessConvex strokeRefusal rightCount
   taken k = simp (turned-length (numbers w k), none-off windowOff (within k), convex w (hw .wide) (hw .tall) k, none-off numberOff (hs .x1 ◂ hs .y1 ◂ hs .x2 ◂ hs .y2 ◂ ∅))
 
   -- ---- the call's answer for the corners says what K, the window's own condition, keeps

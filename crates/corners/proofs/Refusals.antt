@@ -9,12 +9,12 @@ use lib.Dec.{eqb, leb, ltb}
 use lib.IntN.{ℤ}
 use lib.ListN.{length}
 use Rattle.whole.specs.Choice.{if_then_else_}
-use Rattle.grid.specs.Refusals.{windowOff, windowBad, numberOff, refuse, none, first, offTable, strokeRefusal}
+use Rattle.grid.specs.Refusals.{windowOff, noWindow, numberOff, refuse, none, first, offTable, strokeRefusal}
 use Rattle.grid.specs.Table.{firstOff, ends, StrokeOnTable}
 use Rattle.grid.specs.declared.Stroke.{Stroke}
 use Rattle.grid.proofs.Ranges.{before-off}
 use Rattle.grid.proofs.Refusals.{all-done, stroke-on-table}
-use Rattle.corners.specs.Corners.{rightCount, badCount, notConvex, cyrusBeckRefusal}
+use Rattle.corners.specs.Corners.{rightCount, badCount, unlessConvex, cyrusBeckRefusal}
 use Rattle.corners.specs.Workers.{CornersOnTable}
 
 pub corners-on-table : (zs : List ℤ) → rightCount (length zs) ≡ true → length zs ≤ firstOff zs → CornersOnTable zs
@@ -28,7 +28,7 @@ counted : (zs : List ℤ) → badCount zs .number ≡ 0 → rightCount (length z
 unfolding badCount
 counted zs e = go (rightCount (length zs)) e
   where
-    go : (b : Bool) → (if b then none else refuse windowBad 0) .number ≡ 0 → b ≡ true
+    go : (b : Bool) → (if b then none else refuse noWindow 0) .number ≡ 0 → b ≡ true
     go true e = refl
     go false e = absurd (omega arith)
 
@@ -45,7 +45,7 @@ unfolding cyrusBeckRefusal
 nothing-refused zs s e =
     let p = all-done (badCount zs) _ e in
     let q = all-done (offTable windowOff zs) _ (p .1) in
-    let r = all-done (notConvex zs) _ (q .1) in
+    let r = all-done (unlessConvex zs) _ (q .1) in
     (corners-on-table zs (counted zs (p .0)) (none-off zs (q .0)), stroke-on-table s (all-done (strokeRefusal s) [] (r .1) .0))
 
 -- the last of a list is given as it is

@@ -9,7 +9,7 @@
 --   fewest, most           a window has 3 to 16 corners
 --   rightCount n           so many numbers are a window's corners, two numbers each
 --   badCount zs            3 where a list is of odd length or wrong count
---   notConvex zs           3 where its corners are not strictly convex counterclockwise
+--   unlessConvex zs           3 where its corners are not strictly convex counterclockwise
 --   cyrusBeckRefusal zs s  what the call refuses: 3 for length and count, 2, 3 for convexity, then 6
 --   pointAt s n d          the stroke's point at n/d of its way
 --   KeepsIn cs s n d       n/d is a fraction from 0 to 1, and the stroke's point there lies left of or on every edge
@@ -28,7 +28,7 @@ use Rattle.whole.specs.Choice.{if_then_else_}
 use Rattle.fraction.specs.Rounding.{along}
 use Rattle.grid.specs.declared.Refusal.{Refusal}
 use Rattle.grid.specs.declared.Stroke.{Stroke}
-use Rattle.grid.specs.Refusals.{windowOff, windowBad, refuse, none, first, offTable, strokeRefusal}
+use Rattle.grid.specs.Refusals.{windowOff, noWindow, refuse, none, first, offTable, strokeRefusal}
 use Rattle.rings.specs.Points.{Point, det}
 use Rattle.rings.specs.Rings.{at, InRing}
 use Rattle.spans.specs.Parts.{Time, Part, zeroth}
@@ -71,13 +71,13 @@ unfoldable pub rightCount : ℕ → Bool
 rightCount n = eqb (n % 2) 0 && (leb (2 * fewest) n && leb n (2 * most))
 
 unfoldable pub badCount : List ℤ → Refusal
-badCount zs = if rightCount (length zs) then none else refuse windowBad 0
+badCount zs = if rightCount (length zs) then none else refuse noWindow 0
 
-unfoldable pub notConvex : List ℤ → Refusal
-notConvex zs = if strictlyConvex (cornersOf zs) then none else refuse windowBad 0
+unfoldable pub unlessConvex : List ℤ → Refusal
+unlessConvex zs = if strictlyConvex (cornersOf zs) then none else refuse noWindow 0
 
 unfoldable pub cyrusBeckRefusal : List ℤ → Stroke → Refusal
-cyrusBeckRefusal zs s = first (badCount zs ∷ offTable windowOff zs ∷ notConvex zs ∷ strokeRefusal s ∷ [])
+cyrusBeckRefusal zs s = first (badCount zs ∷ offTable windowOff zs ∷ unlessConvex zs ∷ strokeRefusal s ∷ [])
 
 -- ---- the answer
 abbrev pub pointAt : Stroke → ℤ → ℤ → Point

@@ -212,7 +212,7 @@ fn refusal(c: &[i32], s: Stroke) -> Refusal
 {
     if !right_count(c.len()) {
         return Refusal {
-            number: grid::WINDOW_BAD,
+            number: grid::NO_WINDOW,
             place: 0,
         };
     }
@@ -225,7 +225,7 @@ fn refusal(c: &[i32], s: Stroke) -> Refusal
     }
     if !strictly_convex(c) {
         return Refusal {
-            number: grid::WINDOW_BAD,
+            number: grid::NO_WINDOW,
             place: 0,
         };
     }

@@ -11,7 +11,7 @@ use lib.IntN.{ℤ, pos}
 use lib.ListN.{length, take}
 use Rattle.batch.specs.Batches.{RowsOf}
 use Rattle.drawing.specs.Drawings.{fault, drawn, Means, numbersOf}
-use Rattle.grid.specs.Refusals.{drawingBad, noArea}
+use Rattle.grid.specs.Refusals.{badDrawing, noArea}
 use Rattle.grid.specs.declared.Stroke.{Stroke}
 use Rattle.grid.specs.declared.Window.{Window}
 use Rattle.cutting.specs.declared.Sheet.{Sheet}
@@ -33,7 +33,7 @@ pub record Cut (bytes : List ℕ) (sheet : Sheet) (strokes rows : List ℤ) : Ty
   pub rows-start : take (sheet .kept * 5) rows ≡ kept-rows
 
 pub data CutDrawing (bytes : List ℕ) : Sheet → List ℤ → List ℤ → Type 0 where
-  faulty : {strokes rows : List ℤ} {place : ℕ} → Means bytes (fault place) → CutDrawing bytes (refusedSheet drawingBad 0) strokes rows
+  faulty : {strokes rows : List ℤ} {place : ℕ} → Means bytes (fault place) → CutDrawing bytes (refusedSheet badDrawing 0) strokes rows
   no-area : {strokes rows : List ℤ} {w : Window} {ss : List Stroke} → Means bytes (drawn w ss) → (noArea w .number ≡ 0 → ⊥)
       → CutDrawing bytes (refusedSheet (noArea w .number) (noArea w .place)) strokes rows
   cut : {sheet : Sheet} {strokes rows : List ℤ} → Cut bytes sheet strokes rows → CutDrawing bytes sheet strokes rows

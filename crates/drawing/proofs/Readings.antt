@@ -9,7 +9,7 @@ use lib.IntN.{ℤ}
 use lib.ListN.{length}
 use Rattle.whole.specs.Choice.{if_then_else_}
 use Rattle.whole.proofs.Comparisons.{by-test}
-use Rattle.grid.specs.Refusals.{outputShort, refuse, none, noArea}
+use Rattle.grid.specs.Refusals.{noRoom, refuse, none, noArea}
 use Rattle.grid.specs.Calls.{refusedBy, answered, written, Call}
 use Rattle.grid.specs.declared.Answer.{Answer}
 use Rattle.grid.specs.declared.Refusal.{Refusal}
@@ -73,7 +73,7 @@ seen (drawn w ss) a e n =
 
 -- what is refused of a drawing: 3, or else 8
 abbrev pub decision : Window → ℕ → ℕ → Refusal
-decision w needed room = if eqb (noArea w .number) 0 then (if leb needed room then none else refuse outputShort needed) else noArea w
+decision w needed room = if eqb (noArea w .number) 0 then (if leb needed room then none else refuse noRoom needed) else noArea w
 
 module _ (w : Window) (ss : List Stroke) (out : List ℤ) where
   abbrev Refuses : Refusal → Type 0

@@ -6,7 +6,7 @@ use native.Mathlib.Nat.{zero-add, add-zero}
 use native.Mathlib.Omega.{arith}
 use borrow.Author.Tests.{le-leb}
 use lib.ListN.{length}
-use Rattle.grid.specs.Refusals.{refuse, drawingBad}
+use Rattle.grid.specs.Refusals.{refuse, badDrawing}
 use Rattle.grid.specs.declared.Window.{Window}
 use Rattle.grid.specs.declared.Stroke.{Stroke}
 use Rattle.drawing.specs.Intake.{Intake}
@@ -75,5 +75,5 @@ module _ (intake : Intake) (bs : List ℕ) (w : Window) (at : ℕ) (pen : Pen) w
   pub count-ends : turnAt intake bs at pen ≡ Turn.End → record { number = 0; place = 0; window = w; count = pen .strokes } ≡ counted (pen .strokes) (rest intake bs w at pen)
   count-ends e = simp (turned intake bs w at pen e, add-zero)
 
-  pub count-fails : {place : ℕ} → turnAt intake bs at pen ≡ Turn.Fault place → refused (refuse drawingBad 0) ≡ counted (pen .strokes) (rest intake bs w at pen)
+  pub count-fails : {place : ℕ} → turnAt intake bs at pen ≡ Turn.Fault place → refused (refuse badDrawing 0) ≡ counted (pen .strokes) (rest intake bs w at pen)
   count-fails e = simp (turned intake bs w at pen e)

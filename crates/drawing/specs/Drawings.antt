@@ -20,7 +20,7 @@ use lib.IntN.{ℤ, pos}
 use lib.ListN.{length}
 use Rattle.whole.specs.Choice.{if_then_else_}
 use Rattle.grid.specs.Table.{ends}
-use Rattle.grid.specs.Refusals.{refuse, noArea, drawingBad}
+use Rattle.grid.specs.Refusals.{refuse, noArea, badDrawing}
 use Rattle.grid.specs.Calls.{Call}
 use Rattle.grid.specs.declared.Window.{Window}
 use Rattle.grid.specs.declared.Stroke.{Stroke}
@@ -77,14 +77,14 @@ numbers (fault place) = []
 numbers (drawn w ss) = numbersOf ss
 
 abbrev pub refusal : Drawing → Refusal
-refusal (fault place) = refuse drawingBad 0
+refusal (fault place) = refuse badDrawing 0
 refusal (drawn w ss) = noArea w
 
 abbrev pub refused : Refusal → DrawingAnswer
 refused r = record { number = r .number; place = r .place; window = record { left = pos 0; bottom = pos 0; right = pos 0; top = pos 0 }; count = 0 }
 
 abbrev pub told : Drawing → DrawingAnswer
-told (fault place) = refused (refuse drawingBad 0)
+told (fault place) = refused (refuse badDrawing 0)
 told (drawn w ss) = record { number = 0; place = 0; window = w; count = length ss }
 
 pub record Drawable (bs : List ℕ) (room : ℕ) : Type 0 where

@@ -6,7 +6,7 @@ ghost use lib.ListN.{length};
 ghost use lib.Seq.{sets};
 ghost use Rattle.whole.specs.Choice.{if_then_else_};
 ghost use Rattle.grid.specs.Table.{ends};
-ghost use Rattle.grid.specs.Refusals.{outputShort, refuse, none};
+ghost use Rattle.grid.specs.Refusals.{noRoom, refuse, none};
 ghost use Rattle.grid.specs.Calls.{written};
 ghost use Rattle.drawing.specs.Intake.{ByIntake};
 ghost use Rattle.drawing.specs.Format.{mostBytes, headSize};
@@ -66,7 +66,7 @@ fn count_strokes(bytes: &[u8], window: Window) -> DrawingAnswer
                 };
             }
             Turn::Fault(_) => {
-                return refused(grid::DRAWING_BAD, 0);
+                return refused(grid::BAD_DRAWING, 0);
             }
             Turn::Goes(to, next) | Turn::Draws(to, next) => {
                 pen = to;
@@ -81,11 +81,11 @@ fn survey(bytes: &[u8]) -> DrawingAnswer
     ensures { λ r. ⌜ ByIntake (λ intake. told (meaning intake (now (bytes .entry)))) r ⌝ }
 {
     if format::head_fault(bytes) != format::HEAD_SIZE {
-        return refused(grid::DRAWING_BAD, 0);
+        return refused(grid::BAD_DRAWING, 0);
     }
     let w = intake::window_to_grid(format::window_at(bytes));
     if w.number != 0 {
-        return refused(grid::DRAWING_BAD, 0);
+        return refused(grid::BAD_DRAWING, 0);
     }
     count_strokes(bytes, w.window)
 }
@@ -136,11 +136,11 @@ fn write_strokes(bytes: &[u8], out: &mut [i32])
 
 // The refusal of an output that is shorter than needed.
 fn no_room(needed: usize, room: usize) -> Refusal
-    ensures { λ r. ⌜ r ≡ (if leb needed room then none else refuse outputShort needed) ⌝ }
+    ensures { λ r. ⌜ r ≡ (if leb needed room then none else refuse noRoom needed) ⌝ }
 {
     if room < needed {
         return Refusal {
-            number: grid::OUTPUT_SHORT,
+            number: grid::NO_ROOM,
             place: needed,
         };
     }

@@ -8,7 +8,7 @@ use lib.Dec.{eqb}
 use lib.IntN.{ℤ}
 use lib.ListN.{length}
 use Rattle.grid.specs.Calls.{refusedBy, answered, written, Call}
-use Rattle.grid.specs.Refusals.{outputShort}
+use Rattle.grid.specs.Refusals.{noRoom}
 use Rattle.grid.specs.declared.Refusal.{Refusal}
 use Rattle.grid.specs.declared.Answer.{Answer}
 
@@ -19,7 +19,7 @@ module _ {r : Refusal} {Gives : List ℤ → Type 0} {before : List ℤ} where
     given = λ z. absurd (n (ap (λ (s : Refusal). s .number) (sym e) ∙ z));
   }
 
-  pub call-short : (xs : List ℤ) → r .number ≡ 0 → Gives xs → length before < length xs → Call r Gives (record { number = outputShort; place = length xs; count = 0 }) before before
+  pub call-short : (xs : List ℤ) → r .number ≡ 0 → Gives xs → length before < length xs → Call r Gives (record { number = noRoom; place = length xs; count = 0 }) before before
   unfolding answered written
   call-short xs z g h = record {
     refused = λ n. absurd (n z);

@@ -14,7 +14,7 @@ use Rattle.whole.specs.Within.{Within}
 use Rattle.whole.proofs.Comparisons.{true-T}
 use Rattle.whole.specs.Choice.{if_then_else_}
 use Rattle.grid.specs.Table.{farthest, firstOff, sides, ends, WindowOnTable, StrokeOnTable, StrokesOnTable, NumbersOnTable}
-use Rattle.grid.specs.Refusals.{windowOff, windowBad, lengthBad, numberOff, refuse, none, first, offTable, noArea, badStrokes, windowRefusal, strokeRefusal, strokesRefusal}
+use Rattle.grid.specs.Refusals.{windowOff, noWindow, wrongLength, numberOff, refuse, none, first, offTable, noArea, badStrokes, windowRefusal, strokeRefusal, strokesRefusal}
 use Rattle.grid.specs.declared.Window.{Window}
 use Rattle.grid.specs.declared.Stroke.{Stroke}
 use Rattle.grid.specs.declared.Refusal.{Refusal}
@@ -53,7 +53,7 @@ unfolding noArea
 has-area w e = go (ltZ (w .left) (w .right)) (ltZ (w .bottom) (w .top)) refl refl e
   where
     go : (a b : Bool) → ltZ (w .left) (w .right) ≡ a → ltZ (w .bottom) (w .top) ≡ b
-        → (if a && b then none else refuse windowBad 0) .number ≡ 0 → (w .left <ℤ w .right) × (w .bottom <ℤ w .top)
+        → (if a && b then none else refuse noWindow 0) .number ≡ 0 → (w .left <ℤ w .right) × (w .bottom <ℤ w .top)
     go true true p q e = (ltZ-yes (true-T p), ltZ-yes (true-T q))
     go true false p q e = absurd (omega arith)
     go false b p q e = absurd (omega arith)
@@ -74,14 +74,14 @@ window-fine w h =
     simp (off, is-true (ltZ (w .left) (w .right)) (h .wide .lt), is-true (ltZ (w .bottom) (w .top)) (h .tall .lt))
 
 -- all numbers of a bad window are on the table: its area is bad
-pub bad-area : (w : Window) → 4 ≤ firstOff (sides w) → (WindowOnTable w → ⊥) → noArea w ≡ refuse windowBad 0
+pub bad-area : (w : Window) → 4 ≤ firstOff (sides w) → (WindowOnTable w → ⊥) → noArea w ≡ refuse noWindow 0
 unfolding noArea
 bad-area w on bad = go (ltZ (w .left) (w .right)) (ltZ (w .bottom) (w .top)) refl refl
   where
     at : (k : ℕ) → k < 4 → Within farthest (getD (sides w) k (pos 0))
     at k h = before-off (sides w) k (omega arith) h
 
-    go : (a b : Bool) → ltZ (w .left) (w .right) ≡ a → ltZ (w .bottom) (w .top) ≡ b → (if a && b then none else refuse windowBad 0) ≡ refuse windowBad 0
+    go : (a b : Bool) → ltZ (w .left) (w .right) ≡ a → ltZ (w .bottom) (w .top) ≡ b → (if a && b then none else refuse noWindow 0) ≡ refuse noWindow 0
     go true true p q = absurd (bad (record { left = at 0 (omega arith); bottom = at 1 (omega arith); right = at 2 (omega arith); top = at 3 (omega arith); wide = ltZ-yes (true-T p); tall = ltZ-yes (true-T q) }))
     go true false p q = refl
     go false b p q = refl
@@ -105,7 +105,7 @@ strokes-on-table zs e = go (eqb (length zs % 4) 0) refl (leb (length zs) 16384) 
     p : ((badStrokes zs .number ≡ 0)) × (first (offTable numberOff zs ∷ []) .number ≡ 0)
     p = all-done (badStrokes zs) (offTable numberOff zs ∷ []) e
 
-    go : (a : Bool) → eqb (length zs % 4) 0 ≡ a → (b : Bool) → leb (length zs) 16384 ≡ b → (if a && b then none else refuse lengthBad 0) .number ≡ 0 → StrokesOnTable zs
+    go : (a : Bool) → eqb (length zs % 4) 0 ≡ a → (b : Bool) → leb (length zs) 16384 ≡ b → (if a && b then none else refuse wrongLength 0) .number ≡ 0 → StrokesOnTable zs
     go true t true u q = record { by-four = eqb-true (length zs % 4) 0 t; few = leb-true (length zs) 16384 u; on = nothing-off numberOff zs (omega arith) (all-done (offTable numberOff zs) [] (p .1) .0) }
     go true t false u q = absurd (omega arith)
     go false t b u q = absurd (omega arith)

@@ -10,7 +10,7 @@ use lib.Dec.{leb}
 use lib.IntN.{ℤ}
 use lib.ListN.{length, drop}
 use Rattle.whole.specs.Choice.{if_then_else_}
-use Rattle.grid.specs.Refusals.{outputShort}
+use Rattle.grid.specs.Refusals.{noRoom}
 use Rattle.grid.specs.declared.Refusal.{Refusal}
 use Rattle.grid.specs.declared.Answer.{Answer}
 
@@ -21,7 +21,7 @@ unfoldable pub answered : List ℤ → ℕ → Answer
 answered xs room =
     if leb (length xs) room
     then record { number = 0; place = 0; count = length xs }
-    else record { number = outputShort; place = length xs; count = 0 }
+    else record { number = noRoom; place = length xs; count = 0 }
 
 unfoldable pub written : List ℤ → List ℤ → List ℤ
 written xs out = if leb (length xs) (length out) then xs ++ drop (length xs) out else out

@@ -1,3 +1,4 @@
 pub mod Table
+pub mod Sides
 pub mod Refusals
 pub mod Calls

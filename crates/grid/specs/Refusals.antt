@@ -1,5 +1,5 @@
 -- The numbers that a caller may get back, and the refusals that several calls share.
---   windowOff .. drawingBad   the numbers of the table of refusals
+--   windowOff .. badDrawing   the numbers of the table of refusals
 --   refuse n k     refusal n at place k;  none: nothing is refused
 --   first rs       of the refusals rs the first that applies. A call lists its refusals by rising number, so the lowest that applies is given
 --   offTable n zs  n at the first number of zs that is off the table, if one is
@@ -19,38 +19,38 @@ use Rattle.grid.specs.declared.Window.{Window}
 use Rattle.grid.specs.declared.Stroke.{Stroke}
 use Rattle.grid.specs.declared.Refusal.{Refusal}
 
--- No.                    given exactly when                                                      place
+-- No.                     given exactly when                                                     place
 abbrev pub windowOff : ℕ
-windowOff = 2  --          a window number is off the grid range                                   index of the first
+windowOff = 2  --          a window number is off the grid range                                  index of the first
 
-abbrev pub windowBad : ℕ
-windowBad = 3  --          left >= right or bottom >= top; a corner window of odd length,          0
-    --          of wrong count, or not strictly convex
+abbrev pub noWindow : ℕ
+noWindow = 3  --           left >= right or bottom >= top; a corner window of odd length,         0
+    --                     of wrong count, or not strictly convex
 
-abbrev pub orderBad : ℕ
-orderBad = 4  --           side order above 23                                                     0
+abbrev pub noOrder : ℕ
+noOrder = 4  --            side order above 23                                                    0
 
-abbrev pub lengthBad : ℕ
-lengthBad = 5  --          stroke list not a multiple of four or too long;                         0
-    --          outline of odd length or wrong count
+abbrev pub wrongLength : ℕ
+wrongLength = 5  --        stroke list not a multiple of four or too long;                        0
+    --                     outline of odd length or wrong count
 
 abbrev pub numberOff : ℕ
-numberOff = 6  --          a stroke or outline number is off the grid range                        index of the first
+numberOff = 6  --          a stroke or outline number is off the grid range                       index of the first
 
-abbrev pub outlineBad : ℕ
-outlineBad = 7  --         outline not strictly convex counterclockwise                            0
+abbrev pub notConvex : ℕ
+notConvex = 7  --          outline not strictly convex counterclockwise                           0
 
-abbrev pub outputShort : ℕ
-outputShort = 8  --        output shorter than needed                                              numbers needed
+abbrev pub noRoom : ℕ
+noRoom = 8  --             output shorter than needed                                             numbers needed
 
 abbrev pub notANumber : ℕ
-notANumber = 9  --         a millimetre number is NaN                                              index
+notANumber = 9  --         a millimetre number is NaN                                             index
 
 abbrev pub tooFar : ℕ
-tooFar = 10  --            a millimetre number is infinite or falls off the range                  index
+tooFar = 10  --            a millimetre number is infinite or falls off the range                 index
 
-abbrev pub drawingBad : ℕ
-drawingBad = 11  --        any fault in a drawing file                                             0
+abbrev pub badDrawing : ℕ
+badDrawing = 11  --        any fault in a drawing file                                            0
 
 abbrev pub refuse : ℕ → ℕ → Refusal
 refuse n k = record { number = n; place = k }
@@ -66,13 +66,13 @@ unfoldable pub offTable : ℕ → List ℤ → Refusal
 offTable n zs = if ltb (firstOff zs) (length zs) then refuse n (firstOff zs) else none
 
 unfoldable pub noArea : Window → Refusal
-noArea w = if ltZ (w .left) (w .right) && ltZ (w .bottom) (w .top) then none else refuse windowBad 0
+noArea w = if ltZ (w .left) (w .right) && ltZ (w .bottom) (w .top) then none else refuse noWindow 0
 
 abbrev pub mostStrokes : ℕ
 mostStrokes = 4096
 
 unfoldable pub badStrokes : List ℤ → Refusal
-badStrokes zs = if eqb (length zs % 4) 0 && leb (length zs) (4 * mostStrokes) then none else refuse lengthBad 0
+badStrokes zs = if eqb (length zs % 4) 0 && leb (length zs) (4 * mostStrokes) then none else refuse wrongLength 0
 
 unfoldable pub windowRefusal : Window → Refusal
 windowRefusal w = first (offTable windowOff (sides w) ∷ noArea w ∷ [])

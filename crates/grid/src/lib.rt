@@ -11,23 +11,23 @@ ghost use Rattle.grid.specs.Calls.{answered, written};
 // The numbers of the refusals, as specs/Refusals.antt defines them.
 pub const WINDOW_OFF: u8 = 2;
 
-pub const WINDOW_BAD: u8 = 3;
+pub const NO_WINDOW: u8 = 3;
 
-pub const ORDER_BAD: u8 = 4;
+pub const NO_ORDER: u8 = 4;
 
-pub const LENGTH_BAD: u8 = 5;
+pub const WRONG_LENGTH: u8 = 5;
 
 pub const NUMBER_OFF: u8 = 6;
 
-pub const OUTLINE_BAD: u8 = 7;
+pub const NOT_CONVEX: u8 = 7;
 
-pub const OUTPUT_SHORT: u8 = 8;
+pub const NO_ROOM: u8 = 8;
 
 pub const NOT_A_NUMBER: u8 = 9;
 
 pub const TOO_FAR: u8 = 10;
 
-pub const DRAWING_BAD: u8 = 11;
+pub const BAD_DRAWING: u8 = 11;
 
 // A rectangle: its left, bottom, right and top side.
 #[repr(C)]
@@ -135,7 +135,7 @@ fn bad_window(w: Window) -> Refusal
         };
     }
     Refusal {
-        number: WINDOW_BAD,
+        number: NO_WINDOW,
         place: 0,
     }
 }
@@ -191,13 +191,13 @@ pub fn strokes_refusal(s: &[i32]) -> Refusal
 {
     if s.len() % 4 != 0 {
         return Refusal {
-            number: LENGTH_BAD,
+            number: WRONG_LENGTH,
             place: 0,
         };
     }
     if 16384 < s.len() {
         return Refusal {
-            number: LENGTH_BAD,
+            number: WRONG_LENGTH,
             place: 0,
         };
     }
@@ -247,7 +247,7 @@ pub fn give(xs: &[i32], out: &mut [i32]) -> Answer
     let n = xs.len();
     if out.len() < n {
         return Answer {
-            number: OUTPUT_SHORT,
+            number: NO_ROOM,
             place: n,
             count: 0,
         };

@@ -14,7 +14,7 @@ use lib.IntN.{ℤ, pos}
 use lib.ListN.{length, getD}
 use Rattle.batch.specs.Batches.{RowsOf}
 use Rattle.drawing.specs.Drawings.{fault, drawn, Means, numbersOf}
-use Rattle.grid.specs.Refusals.{drawingBad, noArea}
+use Rattle.grid.specs.Refusals.{badDrawing, noArea}
 use Rattle.grid.specs.Table.{sides}
 use Rattle.grid.specs.declared.Stroke.{Stroke}
 use Rattle.grid.specs.declared.Window.{Window}
@@ -46,7 +46,7 @@ abbrev pub refusalLine : ℕ → ℕ → List ℕ
 refusalLine n p = refusal n p ++ ascii "\n"
 
 pub data Listing (bytes : List ℕ) : List ℕ → Type 0 where
-  faulty : {place : ℕ} → Means bytes (fault place) → Listing bytes (refusalLine drawingBad 0)
+  faulty : {place : ℕ} → Means bytes (fault place) → Listing bytes (refusalLine badDrawing 0)
   no-area : {w : Window} {ss : List Stroke} → Means bytes (drawn w ss) → (noArea w .number ≡ 0 → ⊥) → Listing bytes (refusalLine (noArea w .number) (noArea w .place))
   listed : {w : Window} {ss : List Stroke} {xs : List ℤ} → Means bytes (drawn w ss) → noArea w .number ≡ 0 → RowsOf w (numbersOf ss) xs
       → Listing bytes (stripLine w ++ rowLines xs ++ keptLine (length xs / 5) (length ss))

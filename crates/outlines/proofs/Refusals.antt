@@ -9,7 +9,7 @@ use lib.Dec.{eqb, leb}
 use lib.IntN.{ℤ}
 use lib.ListN.{length}
 use Rattle.whole.specs.Choice.{if_then_else_}
-use Rattle.grid.specs.Refusals.{numberOff, outlineBad, refuse, none, first, offTable, windowRefusal}
+use Rattle.grid.specs.Refusals.{numberOff, notConvex, refuse, none, first, offTable, windowRefusal}
 use Rattle.grid.specs.Table.{firstOff, WindowOnTable, NumbersOnTable}
 use Rattle.grid.specs.declared.Refusal.{Refusal}
 use Rattle.grid.specs.declared.Window.{Window}
@@ -19,7 +19,7 @@ use Rattle.rings.specs.Rings.{Ring}
 use Rattle.corners.specs.Corners.{cornersOf, strictlyConvex}
 use Rattle.corners.specs.Workers.{CornersOnTable}
 use Rattle.corners.proofs.Convexity.{ring-same}
-use Rattle.outlines.specs.Outlines.{badOrder, rightCount, badOutline, notConvex, outlineRefusal}
+use Rattle.outlines.specs.Outlines.{badOrder, rightCount, badOutline, unlessConvex, outlineRefusal}
 
 -- ---- no number is off the table
 pub first-on : (zs : List ℤ) → NumbersOnTable zs → length zs ≤ firstOff zs
@@ -58,13 +58,13 @@ pub record Taken (w : Window) (o : ℕ) (zs : List ℤ) : Type 0 where
   pub ring : Ring (cornersOf zs)
 
 pub nothing-refused : (w : Window) (o : ℕ) (zs : List ℤ) → outlineRefusal w o zs .number ≡ 0 → Taken w o zs
-unfolding outlineRefusal badOrder badOutline notConvex
+unfolding outlineRefusal badOrder badOutline unlessConvex
 nothing-refused w o zs e =
     let a = all-done (windowRefusal w) _ e in
     let b = all-done (badOrder o) _ (a .1) in
     let c = all-done (badOutline zs) _ (b .1) in
     let d = all-done (offTable numberOff zs) _ (c .1) in
-    let f = all-done (notConvex zs) [] (d .1) in
+    let f = all-done (unlessConvex zs) [] (d .1) in
     let n = passed (rightCount (length zs)) (omega arith) (c .0) in
     let k = few-corners zs n (nothing-off numberOff zs (omega arith) (d .0)) in record {
       window = window-on-table w (a .0);
@@ -76,18 +76,18 @@ nothing-refused w o zs e =
 
 -- ---- the test of convexity comes last
 module _ (w : Window) (o : ℕ) (zs : List ℤ) (hw : windowRefusal w .number ≡ 0) (ho : o ≤ 23) (hc : rightCount (length zs) ≡ true) (on : length zs ≤ firstOff zs) where
-  last : outlineRefusal w o zs ≡ first (notConvex zs ∷ [])
+  last : outlineRefusal w o zs ≡ first (unlessConvex zs ∷ [])
   unfolding outlineRefusal first badOrder badOutline offTable
-  last = goes-on (windowRefusal w) (badOrder o ∷ badOutline zs ∷ offTable numberOff zs ∷ notConvex zs ∷ []) hw ∙ simp (le-leb _ _ ho, hc, le-ltb _ _ on)
+  last = goes-on (windowRefusal w) (badOrder o ∷ badOutline zs ∷ offTable numberOff zs ∷ unlessConvex zs ∷ []) hw ∙ simp (le-leb _ _ ho, hc, le-ltb _ _ on)
 
   pub convex-taken : strictlyConvex (cornersOf zs) ≡ true → outlineRefusal w o zs .number ≡ 0
-  unfolding first notConvex
+  unfolding first unlessConvex
   convex-taken e = ap (λ (r : Refusal). r .number) last ∙ simp e
 
-  pub not-convex : (outlineRefusal w o zs .number ≡ 0 → ⊥) → outlineRefusal w o zs ≡ refuse outlineBad 0
-  unfolding first notConvex
+  pub not-convex : (outlineRefusal w o zs .number ≡ 0 → ⊥) → outlineRefusal w o zs ≡ refuse notConvex 0
+  unfolding first unlessConvex
   not-convex n = go (strictlyConvex (cornersOf zs)) refl
     where
-      go : (b : Bool) → strictlyConvex (cornersOf zs) ≡ b → outlineRefusal w o zs ≡ refuse outlineBad 0
+      go : (b : Bool) → strictlyConvex (cornersOf zs) ≡ b → outlineRefusal w o zs ≡ refuse notConvex 0
       go true e = absurd (n (convex-taken e))
       go false e = last ∙ simp e

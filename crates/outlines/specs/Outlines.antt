@@ -3,7 +3,7 @@
 --   badOrder o             4 where the side order is above 23
 --   rightCount n           so many numbers are 3 to 64 corners
 --   badOutline zs          5 where an outline is of odd length or wrong count
---   notConvex zs           7 where its corners are not strictly convex counterclockwise
+--   unlessConvex zs           7 where its corners are not strictly convex counterclockwise
 --   outlineRefusal w o zs  what the call refuses: 2, 3, 4, 5, 6, then 7
 --   CornerNumbers p a b c d  a/b and c/d are x and y of the corner p, as fractions in lowest terms
 --   RingNumbers r xs       xs are the numbers of the corners r one after the other, four a corner
@@ -28,7 +28,7 @@ use lib.Signed.{_≤ℤ_}
 use Rattle.whole.specs.Choice.{if_then_else_}
 use Rattle.fraction.specs.Fraction.{LowestOf}
 use Rattle.grid.specs.Calls.{Call}
-use Rattle.grid.specs.Refusals.{orderBad, lengthBad, numberOff, outlineBad, refuse, first, offTable, windowRefusal}
+use Rattle.grid.specs.Refusals.{noOrder, wrongLength, numberOff, notConvex, refuse, first, offTable, windowRefusal}
 use Rattle.grid.specs.Refusals as grid
 use Rattle.grid.specs.declared.Answer.{Answer}
 use Rattle.grid.specs.declared.Refusal.{Refusal}
@@ -48,19 +48,19 @@ abbrev pub most : ℕ
 most = 64
 
 unfoldable pub badOrder : ℕ → Refusal
-badOrder o = if leb o lastOrder then grid.none else refuse orderBad 0
+badOrder o = if leb o lastOrder then grid.none else refuse noOrder 0
 
 unfoldable pub rightCount : ℕ → Bool
 rightCount n = eqb (n % 2) 0 && (leb (2 * fewest) n && leb n (2 * most))
 
 unfoldable pub badOutline : List ℤ → Refusal
-badOutline zs = if rightCount (length zs) then grid.none else refuse lengthBad 0
+badOutline zs = if rightCount (length zs) then grid.none else refuse wrongLength 0
 
-unfoldable pub notConvex : List ℤ → Refusal
-notConvex zs = if strictlyConvex (cornersOf zs) then grid.none else refuse outlineBad 0
+unfoldable pub unlessConvex : List ℤ → Refusal
+unlessConvex zs = if strictlyConvex (cornersOf zs) then grid.none else refuse notConvex 0
 
 unfoldable pub outlineRefusal : Window → ℕ → List ℤ → Refusal
-outlineRefusal w o zs = first (windowRefusal w ∷ badOrder o ∷ badOutline zs ∷ offTable numberOff zs ∷ notConvex zs ∷ [])
+outlineRefusal w o zs = first (windowRefusal w ∷ badOrder o ∷ badOutline zs ∷ offTable numberOff zs ∷ unlessConvex zs ∷ [])
 
 -- ---- the numbers of a ring
 pub record CornerNumbers (p : Point) (a b c d : ℤ) : Type 0 where

@@ -66,13 +66,13 @@ fn refusal(w: Window, order: u32, outline: &[i32]) -> Refusal
     }
     if 23 < order {
         return Refusal {
-            number: grid::ORDER_BAD,
+            number: grid::NO_ORDER,
             place: 0,
         };
     }
     if !right_count(outline.len()) {
         return Refusal {
-            number: grid::LENGTH_BAD,
+            number: grid::WRONG_LENGTH,
             place: 0,
         };
     }
@@ -84,7 +84,7 @@ fn refusal(w: Window, order: u32, outline: &[i32]) -> Refusal
         };
     }
     Refusal {
-        number: grid::OUTLINE_BAD,
+        number: grid::NOT_CONVEX,
         place: 0,
     }
 }
@@ -267,7 +267,7 @@ fn given(need: usize, room: usize) -> Answer
 {
     if room < need {
         return Answer {
-            number: grid::OUTPUT_SHORT,
+            number: grid::NO_ROOM,
             place: need,
             count: 0,
         };

@@ -26,7 +26,7 @@ use lib.ListN.{length, getD}
 use Rattle.whole.specs.Choice.{if_then_else_}
 use Rattle.batch.specs.Batches.{RowsOf}
 use Rattle.drawing.specs.Drawings.{fault, drawn, Means, numbersOf}
-use Rattle.grid.specs.Refusals.{drawingBad, noArea}
+use Rattle.grid.specs.Refusals.{badDrawing, noArea}
 use Rattle.grid.specs.declared.Stroke.{Stroke}
 use Rattle.grid.specs.declared.Window.{Window}
 use Rattle.text.specs.Pages.{ascii, natural, integer, refusal}
@@ -114,7 +114,7 @@ refusedPicture n p =
     ++ (refusal n p ++ ascii "<") ++ ascii "/title>\n<text x=\"160\" y=\"38\" font-size=\"18\" fill=\"#8c2f23\" text-anchor=\"middle\">" ++ (refusal n p ++ ascii "<") ++ ascii "/text>\n</svg>\n"
 
 pub data Picture (bytes : List ℕ) : List ℕ → Type 0 where
-  faulty : {place : ℕ} → Means bytes (fault place) → Picture bytes (refusedPicture drawingBad 0)
+  faulty : {place : ℕ} → Means bytes (fault place) → Picture bytes (refusedPicture badDrawing 0)
   no-area : {w : Window} {ss : List Stroke} → Means bytes (drawn w ss) → (noArea w .number ≡ 0 → ⊥) → Picture bytes (refusedPicture (noArea w .number) (noArea w .place))
   drawn-out : {w : Window} {ss : List Stroke} {xs : List ℤ} → Means bytes (drawn w ss) → noArea w .number ≡ 0 → RowsOf w (numbersOf ss) xs
       → Picture bytes (picture w (numbersOf ss) (length ss) xs (length xs / 5))

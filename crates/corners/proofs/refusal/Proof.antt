@@ -8,7 +8,7 @@ use denote.Ref.{now}
 use lib.ListN.{length}
 use Rattle.grid.specs.Refusals.{first, offTable}
 use Rattle.grid.specs.Table.{firstOff}
-use Rattle.corners.specs.Corners.{rightCount, badCount, notConvex, cyrusBeckRefusal}
+use Rattle.corners.specs.Corners.{rightCount, badCount, unlessConvex, cyrusBeckRefusal}
 use Rattle.corners.proofs.Refusals.{corners-on-table, only-stroke}
 use Rattle.corners.proofs.refusal.Statement.{statement}
 use Rattle.corners.proofs.refusal.Tie as tie
@@ -37,7 +37,7 @@ strictly-convex-requires : tie.Need-strictly-convex-requires
 strictly-convex-requires c κs = corners-on-table _ (counted (c .before .before)) (on c)
 
 returns-3 : tie.Need-returns-3
-unfolding cyrusBeckRefusal first badCount offTable notConvex
+unfolding cyrusBeckRefusal first badCount offTable unlessConvex
 returns-3 c =
     let a = c .before .before in
     simp (counted (a .before .before), le-ltb _ _ (on a), sym (c .before .strictly-convex .ensures) ∙ not-true _ (c .if3 .taken))
@@ -46,7 +46,7 @@ stroke-refusal-requires : tie.Need-stroke-refusal-requires
 stroke-refusal-requires c κs = search needs
 
 returns-4 : tie.Need-returns-4
-unfolding cyrusBeckRefusal first badCount offTable notConvex
+unfolding cyrusBeckRefusal first badCount offTable unlessConvex
 returns-4 c =
     let a = c .before .before .before in
     simp (c .stroke-refusal .ensures, counted (a .before .before), le-ltb _ _ (on a), sym (c .before .before .strictly-convex .ensures) ∙ not-false _ (c .before .if3 .left), only-stroke (a .before .before .before .before .args .s))

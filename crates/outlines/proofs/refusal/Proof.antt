@@ -8,7 +8,7 @@ use denote.Ref.{now}
 use Rattle.grid.specs.Refusals.{numberOff, first, offTable, windowRefusal}
 use Rattle.grid.specs.declared.Refusal.{Refusal}
 use Rattle.grid.proofs.Refusals.{stops, goes-on}
-use Rattle.outlines.specs.Outlines.{badOrder, badOutline, notConvex, outlineRefusal}
+use Rattle.outlines.specs.Outlines.{badOrder, badOutline, unlessConvex, outlineRefusal}
 use Rattle.outlines.proofs.Refusals.{not-convex}
 use Rattle.outlines.proofs.refusal.Statement.{statement}
 use Rattle.outlines.proofs.refusal.Tie as tie
@@ -18,7 +18,7 @@ good-window : (c : tie.Else1) → windowRefusal (c .before .before .before .args
 good-window c = ap (λ (r : Refusal). r .number) (sym (c .before .before .window-refusal .ensures)) ∙ c .if1 .left
 
 past-window : (c : tie.Else1) {r : Refusal} → let a = c .before .before .before .args in let zs = now (a .outline) in
-    r ≡ first (badOrder (a .order) ∷ badOutline zs ∷ offTable numberOff zs ∷ notConvex zs ∷ []) → r ≡ outlineRefusal (a .w) (a .order) zs
+    r ≡ first (badOrder (a .order) ∷ badOutline zs ∷ offTable numberOff zs ∷ unlessConvex zs ∷ []) → r ≡ outlineRefusal (a .w) (a .order) zs
 unfolding outlineRefusal
 past-window c h = h ∙ sym (goes-on _ _ (good-window c))
 
