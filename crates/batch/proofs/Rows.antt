@@ -16,7 +16,7 @@ use Rattle.grid.specs.Table.{strokeAt, strokesOf, WindowOnTable, StrokesOnTable
 use Rattle.grid.proofs.Calls.{call-unique}
 use Rattle.grid.proofs.StrokeLists.{strokes-more, strokes-none, stroke-of-list}
 use Rattle.strokes.specs.Strokes.{Clipped}
-use Rattle.strokes.specs.Workers.{CutIs, Touches}
+use Rattle.strokes.specs.Workers.{CutIs, KeepsAny}
 use Rattle.strokes.specs.declared.Cut.{Cut}
 use Rattle.strokes.specs.declared.StrokeAnswer.{StrokeAnswer}
 use Rattle.strokes.proofs.Answers.{nothing-kept}
@@ -83,15 +83,15 @@ module _ {w : Window} {zs : List ℤ} {c : Cut} {s : Stroke} (p : ℕ) (on : Win
 row-length : (n : ℕ) (a : StrokeAnswer) {k : Bool} → a .kept ≡ k → length (row n a) ≡ length (if k then pos n ∷ a .ax ∷ a .ay ∷ a .bx ∷ a .by ∷ [] else [])
 row-length n a q = ap (λ (k : Bool). length (if k then pos n ∷ a .ax ∷ a .ay ∷ a .bx ∷ a .by ∷ [] else [])) q
 
-module _ {w : Window} {zs : List ℤ} {b : Bool} {s : Stroke} (p : ℕ) (on : WindowOnTable w) (t : StrokesOnTable zs) (h : p + 4 ≤ length zs) (e : s ≡ strokeAt zs p) (k : Touches w s b) where
+module _ {w : Window} {zs : List ℤ} {b : Bool} {s : Stroke} (p : ℕ) (on : WindowOnTable w) (t : StrokesOnTable zs) (h : p + 4 ≤ length zs) (e : s ≡ strokeAt zs p) (k : KeepsAny w s b) where
   abbrev answer : StrokeAnswer
   answer = clippedOf w (strokeAt zs p)
 
   clipped : Clipped w (strokeAt zs p) answer
   clipped = clippedOf-is on (stroke-of-list p t h)
 
-  touched : Touches w (strokeAt zs p) b
-  touched = subst (λ (s : Stroke). Touches w s b) e k
+  touched : KeepsAny w (strokeAt zs p) b
+  touched = subst (λ (s : Stroke). KeepsAny w s b) e k
 
   more : length (rowsFrom w zs p) ≡ length (row (p / 4) answer) + length (rowsFrom w zs (p + 4))
   more = ap length (rows-more w zs p h) ∙ length-append (row (p / 4) answer) (rowsFrom w zs (p + 4))

@@ -36,7 +36,7 @@ fn count_rows(w: Window, s: &[i32]) -> usize
     let mut needed = 0;
     let mut at = 0;
     while at < s.len() {
-        if strokes::touches(w, grid::stroke_at(s, at)) {
+        if strokes::keeps_any(w, grid::stroke_at(s, at)) {
             needed += 5;
         }
         at += 4;

@@ -12,7 +12,7 @@ use Rattle.grid.specs.declared.Stroke.{Stroke}
 use Rattle.grid.specs.declared.Window.{Window}
 use Rattle.spans.specs.declared.Span.{Span}
 use Rattle.spans.specs.Parts.{Time, zeroth, unit}
-use Rattle.spans.specs.Spans.{In, Proper, SpanOf}
+use Rattle.spans.specs.Spans.{InSpan, ProperSpan, SpanOf}
 use Rattle.spans.proofs.Cutting.{in-time}
 use Rattle.spans.proofs.Parts.{all-proper, in-all, time-within}
 use Rattle.strokes.specs.Strokes.{Keeps}
@@ -26,7 +26,7 @@ abbrev pub span : Fraction → Fraction → Span
 span f g = record { first = f; last = g }
 
 pub record Ordered (f g : Fraction) : Type 0 where
-  pub proper : Proper (span f g)
+  pub proper : ProperSpan (span f g)
   pub order : f ≼ g
 
 module _ {f g : Fraction} (o : Ordered f g) where
@@ -46,7 +46,7 @@ module _ (w : Window) (s : Stroke) (k : Side) where
       mixed (slope w s k) (base w s k) x y c hx hy (on .den) (beyond-form w s k x beyond) (inside-form w s k y inside) (on-form w s k c (on .on))
 
 module _ {f g c : Fraction} (m : Mixed f g c) where
-  mixed-in : f ≼ g → In (span f g) (c .num) (c .den)
+  mixed-in : f ≼ g → InSpan (span f g) (c .num) (c .den)
   mixed-in o = record {
     from = form-from c f (m (negℤ (f .den)) (f .num) (from-form f f (≼-refl f)) (from-form g f o));
     upto = form-upto c g (m (g .den) (negℤ (g .num)) (upto-form f g o) (upto-form g g (≼-refl g)));
@@ -80,7 +80,7 @@ module _ {w : Window} {s : Stroke} where
       }
 
   -- a kept fraction lies beyond no side, so it stays between the two
-  shortened-stays : {f g f′ g′ : Fraction} → Ordered f g → Shortening w s f g f′ g′ → (n d : ℤ) → Keeps w s n d → In (span f g) n d → In (span f′ g′) n d
+  shortened-stays : {f g f′ g′ : Fraction} → Ordered f g → Shortening w s f g f′ g′ → (n d : ℤ) → Keeps w s n d → InSpan (span f g) n d → InSpan (span f′ g′) n d
   shortened-stays {f} {g} o (start {h = c} k e on) n d h i =
       let t = fraction n d in
       let m = side-mixed w s k f t c (o .proper .den0) (h .time .den) (start-beyond w s f g k e .0) (keeps-inside w s n d h k) on in
@@ -110,7 +110,7 @@ module _ {w : Window} {s : Stroke} where
 -- ---- as the rule runs: after n shortenings the part from f to g is left
 pub record Reached (w : Window) (s : Stroke) (f g : Fraction) (n : ℕ) : Type 0 where
   pub ordered : Ordered f g
-  pub stays : (p q : ℤ) → Keeps w s p q → In (span f g) p q
+  pub stays : (p q : ℤ) → Keeps w s p q → InSpan (span f g) p q
   pub resumed : (m : ℕ) → Run w s f g m → Run w s zeroth unit (n + m)
   pub few : n + open-sides (shut w s f g) ≤ 4
 
@@ -150,7 +150,7 @@ module _ {w : Window} {s : Stroke} where
       keeps = λ p q h i. inside-keeps w s p q (in-time (r .ordered .proper) h i) (λ k. let u = keep-inside w s f g e k in inside p q h i k (u .0) (u .1));
     }
       where
-        inside : (p q : ℤ) → pos 0 <ℤ q → In (span f g) p q → (k : Side) → past w s k f ≤ℤ pos 0 → past w s k g ≤ℤ pos 0 → past w s k (fraction p q) ≤ℤ pos 0
+        inside : (p q : ℤ) → pos 0 <ℤ q → InSpan (span f g) p q → (k : Side) → past w s k f ≤ℤ pos 0 → past w s k g ≤ℤ pos 0 → past w s k (fraction p q) ≤ℤ pos 0
         inside p q h i k x y =
             form-inside w s k (fraction p q)
             (between-≤ f (fraction p q) g (r .ordered .proper .den0) h (r .ordered .proper .den1) (i .from) (i .upto) (slope w s k) (base w s k) (inside-form w s k f x) (inside-form w s k g y))

@@ -18,7 +18,7 @@ use Rattle.rings.specs.Points.{Point, LeftOn, value, through, det}
 use Rattle.rings.specs.Rings.{at}
 use Rattle.spans.specs.declared.Span.{Span}
 use Rattle.spans.specs.Parts.{Time}
-use Rattle.spans.specs.Spans.{largest, CutBy, SpanOf}
+use Rattle.spans.specs.Spans.{largest, SpanCut, SpanOf}
 use Rattle.spans.proofs.Cutting.{in-time}
 use Rattle.spans.proofs.Parts.{all, all-proper, all-sized, in-all}
 use Rattle.corners.specs.Corners.{cornersOf, pointAt, KeepsIn}
@@ -90,7 +90,7 @@ module _ {cs : List Point} {s : Stroke} where
 
   pub span-more : {k : ℕ} {a b : Corner} {span after : Span}
       → pointOf a ≡ at cs (before k (length cs)) → pointOf b ≡ at cs k → CornerOnTable a → CornerOnTable b → StrokeOnTable s
-      → SpanOf largest (Entered cs s k) span → CutBy (edgeP a b s) (edgeQ a b s) span after → SpanOf largest (Entered cs s (suc k)) after
+      → SpanOf largest (Entered cs s k) span → SpanCut (edgeP a b s) (edgeQ a b s) span after → SpanOf largest (Entered cs s (suc k)) after
   span-more {k} {a} {b} {span} {after} ea eb ha hb hs g c = record {
     proper = c .proper;
     sized = c .sized largest (omega arith) (p-within a b s ha hb hs) (q-within a b s ha hb hs) (g .sized);
@@ -131,7 +131,7 @@ module _ {zs : List ℤ} (g : CornersOnTable zs) where
     pub corner-before : CornerOnTable a
     corner-before = subst CornerOnTable (sym (f .corner-is)) (corner-on g _ earlier)
 
-    pub folded-more : {b : Corner} {after : Span} → StrokeOnTable s → i < length zs → b ≡ cornerAt zs i → CutBy (edgeP a b s) (edgeQ a b s) span after → Folded zs s b after (i + 2)
+    pub folded-more : {b : Corner} {after : Span} → StrokeOnTable s → i < length zs → b ≡ cornerAt zs i → SpanCut (edgeP a b s) (edgeQ a b s) span after → Folded zs s b after (i + 2)
     folded-more {b} {after} hs h e c = record {
       k = suc (f .k);
       place = omega (arith, f .place);

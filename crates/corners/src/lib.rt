@@ -7,7 +7,7 @@ ghost use mathlib.Core.Path.{_≡_};
 ghost use Prim.Native.Nat.{_+_, _<_};
 ghost use lib.ListN.{length};
 ghost use Rattle.grid.specs.Table.{StrokeOnTable};
-ghost use Rattle.spans.specs.Spans.{largest, Proper, Sized, CutBy, SpanOf};
+ghost use Rattle.spans.specs.Spans.{largest, ProperSpan, Sized, SpanCut, SpanOf};
 ghost use Rattle.corners.specs.Corners.{cornersOf, strictlyConvex, rightCount, cyrusBeckRefusal, KeepsIn, CornerClipped, CyrusBeck, blankAnswer};
 ghost use Rattle.corners.specs.Workers.{CornersOnTable, CornerOnTable, Short, cornerAt, wayFrom, crossOf, turnsLeft, changeOf, edgeP, edgeQ};
 
@@ -125,9 +125,9 @@ fn cut_by_edge(a: Corner, b: Corner, s: Stroke, span: Span) -> Span
     requires { ⌜ CornerOnTable a ⌝ }
     requires { ⌜ CornerOnTable b ⌝ }
     requires { ⌜ StrokeOnTable s ⌝ }
-    requires { ⌜ Proper span ⌝ }
+    requires { ⌜ ProperSpan span ⌝ }
     requires { ⌜ Sized largest span ⌝ }
-    ensures { λ r. ⌜ CutBy (edgeP a b s) (edgeQ a b s) span r ⌝ }
+    ensures { λ r. ⌜ SpanCut (edgeP a b s) (edgeQ a b s) span r ⌝ }
 {
     let edge = way_from(a, b);
     let start = Corner { x: s.x1, y: s.y1 };

@@ -6,7 +6,7 @@ use Rattle.whole.specs.Choice.{if_then_else_}
 use Rattle.whole.proofs.Comparisons.{by-test, lt-yes, lt-no}
 use Rattle.whole.proofs.Order.{zarith}
 use Rattle.spans.specs.declared.Span.{Span}
-use Rattle.spans.specs.Spans.{Proper, CutBy}
+use Rattle.spans.specs.Spans.{ProperSpan, SpanCut}
 use Rattle.spans.proofs.Cutting.{comes-later, comes-sooner, never, leaves-sooner, leaves-later, untouched}
 
 unfoldable pub cutBy : ℤ → ℤ → Span → Span
@@ -17,7 +17,7 @@ cutBy p q s =
     else record { first = record { num = pos 1; den = pos 1 }; last = record { num = pos 0; den = pos 1 } })
     else (if ltZ q p then (if ltZ (q *ℤ s .last .den) (s .last .num *ℤ p) then record { first = s .first; last = record { num = q; den = p } } else s) else s)
 
-pub cutBy-is : (p q : ℤ) (s : Span) → Proper s → CutBy p q s (cutBy p q s)
+pub cutBy-is : (p q : ℤ) (s : Span) → ProperSpan s → SpanCut p q s (cutBy p q s)
 unfolding cutBy
 cutBy-is p q s g =
     by-test (ltZ q (pos 0)) C
@@ -37,4 +37,4 @@ cutBy-is p q s g =
     (λ b. untouched p q s g hq (lt-no refl refl b)))
   where
     C : Span → Type 0
-    C r = CutBy p q s r
+    C r = SpanCut p q s r

@@ -10,7 +10,7 @@ use Rattle.whole.specs.Within.{Within}
 use Rattle.whole.proofs.Certificates.{ge, ge-by, clash, po, nn, le, lt, _⊞_, _⊠_}
 use Rattle.spans.specs.declared.Span.{Span}
 use Rattle.spans.specs.Parts.{Time}
-use Rattle.spans.specs.Spans.{In, Proper, CutBy}
+use Rattle.spans.specs.Spans.{InSpan, ProperSpan, SpanCut}
 
 pub minus-within : {A : ℕ} {z : ℤ} → Within A z → Within A (pos 0 -ℤ z)
 minus-within {A} {z} h = record { low = omega (zarith, sub-is (pos 0) z, h .high, h .low, neg-plus (pos A), neg-minus (pos A)); high = omega (zarith, sub-is (pos 0) z, h .low, neg-plus (pos A), neg-minus (pos A)) }
@@ -22,7 +22,7 @@ pub zero-within : {A : ℕ} → Within A (pos 0)
 zero-within {A} = record { low = omega (zarith, neg-plus (pos A), neg-minus (pos A)); high = omega zarith }
 
 -- a fraction of a proper span is from 0 to 1
-pub in-time : {s : Span} {n d : ℤ} → Proper s → pos 0 <ℤ d → In s n d → Time n d
+pub in-time : {s : Span} {n d : ℤ} → ProperSpan s → pos 0 <ℤ d → InSpan s n d → Time n d
 in-time {s} {n} {d} p h i =
     let ρ = s .first .num ∷ s .first .den ∷ s .last .num ∷ s .last .den ∷ n ∷ d ∷ [] in record {
       den = h;
@@ -31,7 +31,7 @@ in-time {s} {n} {d} p h i =
     }
 
 -- the numbers of a cut: the span's four, p, q, and n, d
-module _ (p q : ℤ) (s : Span) (g : Proper s) where
+module _ (p q : ℤ) (s : Span) (g : ProperSpan s) where
   abbrev ρ : ℤ → ℤ → Env
   ρ n d = s .first .num ∷ s .first .den ∷ s .last .num ∷ s .last .den ∷ p ∷ q ∷ n ∷ d ∷ []
 
@@ -60,7 +60,7 @@ module _ (p q : ℤ) (s : Span) (g : Proper s) where
   D = var 7
 
   -- the start is beyond the side, and it comes in later than the span does
-  pub comes-later : q <ℤ pos 0 → p <ℤ pos 0 → (s .first .num *ℤ (pos 0 -ℤ p)) <ℤ ((pos 0 -ℤ q) *ℤ s .first .den) → CutBy p q s (record { first = record { num = pos 0 -ℤ q; den = pos 0 -ℤ p }; last = s .last })
+  pub comes-later : q <ℤ pos 0 → p <ℤ pos 0 → (s .first .num *ℤ (pos 0 -ℤ p)) <ℤ ((pos 0 -ℤ q) *ℤ s .first .den) → SpanCut p q s (record { first = record { num = pos 0 -ℤ q; den = pos 0 -ℤ p }; last = s .last })
   comes-later hq hp l = record {
     proper = record {
       low = omega (zarith, sub-is (pos 0) q);
@@ -82,7 +82,7 @@ module _ (p q : ℤ) (s : Span) (g : Proper s) where
   }
 
   -- it comes in no later
-  pub comes-sooner : p <ℤ pos 0 → ((pos 0 -ℤ q) *ℤ s .first .den) ≤ℤ (s .first .num *ℤ (pos 0 -ℤ p)) → CutBy p q s s
+  pub comes-sooner : p <ℤ pos 0 → ((pos 0 -ℤ q) *ℤ s .first .den) ≤ℤ (s .first .num *ℤ (pos 0 -ℤ p)) → SpanCut p q s s
   comes-sooner hp l = record {
     proper = g;
     sized = λ A one wp wq z. z;
@@ -93,7 +93,7 @@ module _ (p q : ℤ) (s : Span) (g : Proper s) where
   }
 
   -- the start is beyond the side, and no later point is nearer: none is left
-  pub never : q <ℤ pos 0 → pos 0 ≤ℤ p → CutBy p q s (record { first = record { num = pos 1; den = pos 1 }; last = record { num = pos 0; den = pos 1 } })
+  pub never : q <ℤ pos 0 → pos 0 ≤ℤ p → SpanCut p q s (record { first = record { num = pos 1; den = pos 1 }; last = record { num = pos 0; den = pos 1 } })
   never hq hp = record {
     proper = record {
       low = omega zarith;
@@ -108,12 +108,12 @@ module _ (p q : ℤ) (s : Span) (g : Proper s) where
     side = λ n d h i. absurd (none n d h i);
   }
     where
-      none : (n d : ℤ) → pos 0 <ℤ d → In (record { first = record { num = pos 1; den = pos 1 }; last = record { num = pos 0; den = pos 1 } }) n d → ⊥
+      none : (n d : ℤ) → pos 0 <ℤ d → InSpan (record { first = record { num = pos 1; den = pos 1 }; last = record { num = pos 0; den = pos 1 } }) n d → ⊥
       none n d h i = clash (n ∷ d ∷ [])
           (le (con (pos 1) ⊗ x1) (x0 ⊗ con (pos 1)) (i .from) ⊞ le (x0 ⊗ con (pos 1)) (con (pos 0) ⊗ x1) (i .upto) ⊞ po x1 h) tt
 
   -- the end is beyond the side, and it leaves sooner than the span does
-  pub leaves-sooner : pos 0 ≤ℤ q → q <ℤ p → (q *ℤ s .last .den) <ℤ (s .last .num *ℤ p) → CutBy p q s (record { first = s .first; last = record { num = q; den = p } })
+  pub leaves-sooner : pos 0 ≤ℤ q → q <ℤ p → (q *ℤ s .last .den) <ℤ (s .last .num *ℤ p) → SpanCut p q s (record { first = s .first; last = record { num = q; den = p } })
   leaves-sooner hq hp l = record {
     proper = record {
       low = g .low;
@@ -135,7 +135,7 @@ module _ (p q : ℤ) (s : Span) (g : Proper s) where
   }
 
   -- it leaves no sooner
-  pub leaves-later : pos 0 ≤ℤ p → (s .last .num *ℤ p) ≤ℤ (q *ℤ s .last .den) → CutBy p q s s
+  pub leaves-later : pos 0 ≤ℤ p → (s .last .num *ℤ p) ≤ℤ (q *ℤ s .last .den) → SpanCut p q s s
   leaves-later hp l = record {
     proper = g;
     sized = λ A one wp wq z. z;
@@ -146,7 +146,7 @@ module _ (p q : ℤ) (s : Span) (g : Proper s) where
   }
 
   -- both ends are on the right side
-  pub untouched : pos 0 ≤ℤ q → p ≤ℤ q → CutBy p q s s
+  pub untouched : pos 0 ≤ℤ q → p ≤ℤ q → SpanCut p q s s
   untouched hq hp = record {
     proper = g;
     sized = λ A one wp wq z. z;

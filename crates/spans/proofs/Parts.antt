@@ -17,7 +17,7 @@ use Rattle.fraction.specs.Fraction.{LowestOf, Comparable}
 use Rattle.fraction.proofs.LowestTerms.{lowest-unique, lowest-over-one}
 use Rattle.spans.specs.declared.Span.{Span}
 use Rattle.spans.specs.Parts.{Time, First, Last, Part, zeroth, unit}
-use Rattle.spans.specs.Spans.{largest, In, Proper, Sized, SpanOf}
+use Rattle.spans.specs.Spans.{largest, InSpan, ProperSpan, Sized, SpanOf}
 use Rattle.spans.proofs.Cutting.{one-within, zero-within}
 
 -- ---- fractions of such sizes can be compared
@@ -62,7 +62,7 @@ lowest-unit {n} {d} e = record { lowest = lowest-over-one (pos 1); same = eq-by 
 abbrev pub all : Span
 all = record { first = record { num = pos 0; den = pos 1 }; last = record { num = pos 1; den = pos 1 } }
 
-pub all-proper : Proper all
+pub all-proper : ProperSpan all
 all-proper = record {
   low = omega zarith;
   high = omega zarith;
@@ -73,7 +73,7 @@ all-proper = record {
 pub all-sized : (A : ℕ) → 1 ≤ A → Sized A all
 all-sized A h = record { n0 = zero-within; d0 = one-within h; n1 = one-within h; d1 = one-within h }
 
-pub in-all : {n d : ℤ} → Time n d → In all n d
+pub in-all : {n d : ℤ} → Time n d → InSpan all n d
 in-all {n} {d} t = record {
   from = ge (n ∷ d ∷ []) (con (pos 0) ⊗ x1) (x0 ⊗ con (pos 1)) (nn x0 (t .low)) tt;
   upto = ge (n ∷ d ∷ []) (x0 ⊗ con (pos 1)) (con (pos 1) ⊗ x1) (le x0 x1 (t .high)) tt;
@@ -91,10 +91,10 @@ module _ {A : ℕ} {K : ℤ → ℤ → Type 0} {s : Span} (g : SpanOf A K s) wh
       (le (x0 ⊗ var 5) (var 4 ⊗ x1) (i .from) ⊠ po x3 (g .proper .den1) ⊞ le (var 4 ⊗ x3) (x2 ⊗ var 5) (i .upto) ⊠ po x1 (g .proper .den0) ⊞ lt (x2 ⊗ x1) (x0 ⊗ x3) l ⊠ po (var 5) (pos-den n d k)) tt
 
   module _ (l : (s .first .num *ℤ s .last .den) ≤ℤ (s .last .num *ℤ s .first .den)) where
-    pub in-first : In s (s .first .num) (s .first .den)
+    pub in-first : InSpan s (s .first .num) (s .first .den)
     in-first = record { from = omega zarith; upto = l }
 
-    pub in-last : In s (s .last .num) (s .last .den)
+    pub in-last : InSpan s (s .last .num) (s .last .den)
     in-last = record { from = l; upto = omega zarith }
 
     pub span-first : {e : Fraction} → LowestOf (s .first .num) (s .first .den) e → First K e

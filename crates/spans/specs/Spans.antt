@@ -1,9 +1,9 @@
 -- A span of fractions, from its first to its last, and what a condition p·t ≤ q leaves of it. Where the first is the greater no fraction lies in it.
---   largest       2 · 32,766², the largest number that a condition may have; a product of two fits 64 bits
---   In s n d      n/d lies in the span s
---   Proper s      s lies in 0 to 1, unless it is empty, and its denominators are positive
---   Sized A s     its numbers are not above A
---   CutBy p q s r  r is what of s has p·t ≤ q, with numbers no larger than those of s, p and q
+--   largest        2 · 32,766², the largest number that a condition may have; a product of two fits 64 bits
+--   InSpan s n d   n/d lies in the span s
+--   ProperSpan s   s lies in 0 to 1, unless it is empty, and its denominators are positive
+--   Sized A s      its numbers are not above A
+--   SpanCut p q s r   r is what of s has p·t ≤ q, with numbers no larger than those of s, p and q
 --   SpanOf A K s   s is proper, its numbers are not above A, and its fractions are those that are kept
 use Prim.Native.Nat.{ℕ, _≤_}
 use lib.IntN.{ℤ, pos, _*ℤ_}
@@ -14,11 +14,11 @@ use Rattle.spans.specs.declared.Span.{Span}
 abbrev pub largest : ℕ
 largest = 2147221512
 
-pub record In (s : Span) (n d : ℤ) : Type 0 where
+pub record InSpan (s : Span) (n d : ℤ) : Type 0 where
   pub from : (s .first .num *ℤ d) ≤ℤ (n *ℤ s .first .den)
   pub upto : (n *ℤ s .last .den) ≤ℤ (s .last .num *ℤ d)
 
-pub record Proper (s : Span) : Type 0 where
+pub record ProperSpan (s : Span) : Type 0 where
   pub low : pos 0 ≤ℤ s .first .num
   pub high : s .last .num ≤ℤ s .last .den
   pub den0 : pos 0 <ℤ s .first .den
@@ -30,15 +30,15 @@ pub record Sized (A : ℕ) (s : Span) : Type 0 where
   pub n1 : Within A (s .last .num)
   pub d1 : Within A (s .last .den)
 
-pub record CutBy (p q : ℤ) (s r : Span) : Type 0 where
-  pub proper : Proper r
+pub record SpanCut (p q : ℤ) (s r : Span) : Type 0 where
+  pub proper : ProperSpan r
   pub sized : (A : ℕ) → 1 ≤ A → Within A p → Within A q → Sized A s → Sized A r
-  pub stays : (n d : ℤ) → pos 0 <ℤ d → In s n d → (p *ℤ n) ≤ℤ (q *ℤ d) → In r n d
-  pub part : (n d : ℤ) → pos 0 <ℤ d → In r n d → In s n d
-  pub side : (n d : ℤ) → pos 0 <ℤ d → In r n d → (p *ℤ n) ≤ℤ (q *ℤ d)
+  pub stays : (n d : ℤ) → pos 0 <ℤ d → InSpan s n d → (p *ℤ n) ≤ℤ (q *ℤ d) → InSpan r n d
+  pub part : (n d : ℤ) → pos 0 <ℤ d → InSpan r n d → InSpan s n d
+  pub side : (n d : ℤ) → pos 0 <ℤ d → InSpan r n d → (p *ℤ n) ≤ℤ (q *ℤ d)
 
 pub record SpanOf (A : ℕ) (K : ℤ → ℤ → Type 0) (s : Span) : Type 0 where
-  pub proper : Proper s
+  pub proper : ProperSpan s
   pub sized : Sized A s
-  pub stays : (n d : ℤ) → K n d → In s n d
-  pub keeps : (n d : ℤ) → pos 0 <ℤ d → In s n d → K n d
+  pub stays : (n d : ℤ) → K n d → InSpan s n d
+  pub keeps : (n d : ℤ) → pos 0 <ℤ d → InSpan s n d → K n d

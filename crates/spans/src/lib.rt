@@ -4,7 +4,7 @@ ghost use mathlib.Core.Path.{_≡_};
 ghost use Rattle.whole.specs.Within.{Within};
 ghost use Rattle.fraction.specs.Fraction.{LowestOf, lessThan};
 ghost use Rattle.spans.specs.Parts.{Time};
-ghost use Rattle.spans.specs.Spans.{largest, Proper, Sized, CutBy};
+ghost use Rattle.spans.specs.Spans.{largest, ProperSpan, Sized, SpanCut};
 
 // The fractions from the first to the last; none, where the first is the greater.
 pub struct Span {
@@ -16,9 +16,9 @@ pub struct Span {
 pub fn cut(p: i64, q: i64, s: Span) -> Span
     requires { ⌜ Within largest p ⌝ }
     requires { ⌜ Within largest q ⌝ }
-    requires { ⌜ Proper s ⌝ }
+    requires { ⌜ ProperSpan s ⌝ }
     requires { ⌜ Sized largest s ⌝ }
-    ensures { λ r. ⌜ CutBy p q s r ⌝ }
+    ensures { λ r. ⌜ SpanCut p q s r ⌝ }
 {
     let first = s.first;
     let last = s.last;
@@ -48,7 +48,7 @@ pub fn cut(p: i64, q: i64, s: Span) -> Span
 
 // Whether nothing is left.
 pub fn is_empty(s: Span) -> bool
-    requires { ⌜ Proper s ⌝ }
+    requires { ⌜ ProperSpan s ⌝ }
     requires { ⌜ Sized largest s ⌝ }
     ensures { λ r. ⌜ r ≡ lessThan (s .last) (s .first) ⌝ }
 {

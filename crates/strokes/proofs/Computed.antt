@@ -21,7 +21,7 @@ use Rattle.grid.specs.Refusals.{none}
 use Rattle.grid.specs.Table.{farthest, WindowOnTable, StrokeOnTable}
 use Rattle.grid.proofs.Refusals.{window-on-table, stroke-on-table}
 use Rattle.spans.specs.declared.Span.{Span}
-use Rattle.spans.specs.Spans.{Proper, Sized, SpanOf}
+use Rattle.spans.specs.Spans.{ProperSpan, Sized, SpanOf}
 use Rattle.spans.proofs.Computed.{cutBy, cutBy-is}
 use Rattle.spans.proofs.Parts.{all, all-proper, all-sized}
 use Rattle.strokes.specs.Strokes.{Keeps, Clipped, Clipping, strokeCallRefusal, blank}
@@ -37,7 +37,7 @@ use Rattle.strokes.proofs.Ways.{CutAcross, cut-across, span-of}
 unfoldable pub acrossOf : ℤ → ℤ → ℤ → ℤ → Span → Span
 acrossOf lo hi a b s = cutBy (b -ℤ a) (hi -ℤ a) (cutBy (pos 0 -ℤ (b -ℤ a)) (a -ℤ lo) s)
 
-acrossOf-is : {lo hi a b : ℤ} {s : Span} → Within farthest lo → Within farthest hi → Within farthest a → Within farthest b → Proper s → Sized 32766 s → CutAcross lo hi a b s (acrossOf lo hi a b s)
+acrossOf-is : {lo hi a b : ℤ} {s : Span} → Within farthest lo → Within farthest hi → Within farthest a → Within farthest b → ProperSpan s → Sized 32766 s → CutAcross lo hi a b s (acrossOf lo hi a b s)
 unfolding acrossOf
 acrossOf-is {lo} {hi} {a} {b} {s} wl wh wa wb g z =
     let β : List ℕ = farthest ∷ farthest ∷ farthest ∷ farthest ∷ [] in

@@ -19,7 +19,7 @@ use Rattle.fraction.proofs.Rounding.{rounded-exact}
 use Rattle.grid.specs.declared.Stroke.{Stroke}
 use Rattle.grid.specs.declared.Window.{Window}
 use Rattle.spans.specs.Parts.{zeroth, unit}
-use Rattle.spans.specs.Spans.{Proper, SpanOf}
+use Rattle.spans.specs.Spans.{ProperSpan, SpanOf}
 use Rattle.spans.proofs.Cutting.{in-time}
 use Rattle.spans.proofs.Parts.{time-within}
 use Rattle.strokes.specs.declared.End.{End}
@@ -136,7 +136,7 @@ module _ {w : Window} {s : Stroke} {x y : Way} (f : WayOf (w .left) (w .right) (
   none-kept never n d k = never n d (k .time .den) (kept-on k .0) (kept-on k .1)
 
   module _ {a b : End} (p : StartOf s x y a) (q : FinishOf s x y b) where
-    proper : Proper (record { first = a .t; last = b .t })
+    proper : ProperSpan (record { first = a .t; last = b .t })
     proper = record { low = p .way .time .low; high = q .way .time .high; den0 = p .way .time .den; den1 = q .way .time .den }
 
     pub ends-span : SpanOf 32766 (Keeps w s) (record { first = a .t; last = b .t })

@@ -11,7 +11,7 @@ use Rattle.grid.specs.declared.Stroke.{Stroke}
 use Rattle.grid.specs.declared.Window.{Window}
 use Rattle.spans.specs.declared.Span.{Span}
 use Rattle.spans.specs.Parts.{Time}
-use Rattle.spans.specs.Spans.{In, Proper, Sized, CutBy, SpanOf}
+use Rattle.spans.specs.Spans.{InSpan, ProperSpan, Sized, SpanCut, SpanOf}
 use Rattle.spans.proofs.Cutting.{in-time}
 use Rattle.spans.proofs.Parts.{all, in-all}
 use Rattle.strokes.specs.Strokes.{Across, Keeps}
@@ -68,13 +68,13 @@ module _ {lo hi a b n d : ℤ} where
   }
 
 pub record CutAcross (lo hi a b : ℤ) (s r : Span) : Type 0 where
-  pub proper : Proper r
+  pub proper : ProperSpan r
   pub sized : Sized 32766 r
-  pub stays : (n d : ℤ) → pos 0 <ℤ d → In s n d → Across lo hi a b n d → In r n d
-  pub part : (n d : ℤ) → pos 0 <ℤ d → In r n d → In s n d
-  pub between : (n d : ℤ) → pos 0 <ℤ d → In r n d → Across lo hi a b n d
+  pub stays : (n d : ℤ) → pos 0 <ℤ d → InSpan s n d → Across lo hi a b n d → InSpan r n d
+  pub part : (n d : ℤ) → pos 0 <ℤ d → InSpan r n d → InSpan s n d
+  pub between : (n d : ℤ) → pos 0 <ℤ d → InSpan r n d → Across lo hi a b n d
 
-pub cut-across : {lo hi a b : ℤ} {s m r : Span} → CutBy (pos 0 -ℤ (b -ℤ a)) (a -ℤ lo) s m → CutBy (b -ℤ a) (hi -ℤ a) m r → Sized 32766 r → CutAcross lo hi a b s r
+pub cut-across : {lo hi a b : ℤ} {s m r : Span} → SpanCut (pos 0 -ℤ (b -ℤ a)) (a -ℤ lo) s m → SpanCut (b -ℤ a) (hi -ℤ a) m r → Sized 32766 r → CutAcross lo hi a b s r
 cut-across f g z = record {
   proper = g .proper;
   sized = z;

@@ -16,7 +16,7 @@
 --   missedCut, wholeCut s   what is left of a stroke that is missed, and of one that is kept whole
 --   Ends w s c           the points of a kept cut are those of an answer
 --   CutIs w s c          c is what the window leaves of the stroke
---   Touches w s b        b says whether it leaves anything
+--   KeepsAny w s b        b says whether it leaves anything
 use mathlib.Core.Path.{_≡_}
 use mathlib.Core.Bool.{Bool, true, false}
 use Prim.Native.Nat.{_*_, _<_, _≤_}
@@ -161,6 +161,6 @@ pub record CutIs (w : Window) (s : Stroke) (c : Cut) : Type 0 where
   pub missed : c .kept ≡ false → (n d : ℤ) → Keeps w s n d → ⊥
   pub kept : c .kept ≡ true → Ends w s c
 
-pub record Touches (w : Window) (s : Stroke) (b : Bool) : Type 0 where
+pub record KeepsAny (w : Window) (s : Stroke) (b : Bool) : Type 0 where
   pub missed : b ≡ false → (n d : ℤ) → Keeps w s n d → ⊥
   pub kept : b ≡ true → ((n d : ℤ) → Keeps w s n d → ⊥) → ⊥

@@ -10,7 +10,7 @@ ghost use Rattle.whole.specs.Within.{Within};
 ghost use Rattle.grid.specs.Table.{farthest, WindowOnTable, StrokeOnTable};
 ghost use Rattle.spans.specs.Parts.{Time};
 ghost use Rattle.strokes.specs.Strokes.{Across, Keeps, Clipped, Clipping, blank as Strokes·blank};
-ghost use Rattle.strokes.specs.Workers.{Between, Reaches, Inside, Reaching, Ranged, Risen, Fallen, Short, WayAt, WayOf, On, Overlap, StartOf, FinishOf, OnWay, KeptAnswer, wholeAnswer, missedCut, wholeCut, CutIs, Touches};
+ghost use Rattle.strokes.specs.Workers.{Between, Reaches, Inside, Reaching, Ranged, Risen, Fallen, Short, WayAt, WayOf, On, Overlap, StartOf, FinishOf, OnWay, KeptAnswer, wholeAnswer, missedCut, wholeCut, CutIs, KeepsAny};
 
 // What a stroke call answers: a refusal's number and place, or whether the stroke is kept, from which fraction of its way to which,
 // and the two points there, rounded to the grid.
@@ -416,10 +416,10 @@ pub fn cut_stroke(w: Window, s: Stroke) -> Cut
 }
 
 // Whether the window leaves anything of the stroke.
-pub fn touches(w: Window, s: Stroke) -> bool
+pub fn keeps_any(w: Window, s: Stroke) -> bool
     requires { ⌜ WindowOnTable w ⌝ }
     requires { ⌜ StrokeOnTable s ⌝ }
-    ensures { λ r. ⌜ Touches w s r ⌝ }
+    ensures { λ r. ⌜ KeepsAny w s r ⌝ }
 {
     if inside(w, s) {
         return true;

@@ -27,8 +27,8 @@ loop-holds c = (omega arith, omega arith, omega arith, omega arith)
 stroke-at-requires : tie.Need-stroke-at-requires Inv-loop μ-loop
 stroke-at-requires c κs = whole c
 
-touches-requires : tie.Need-touches-requires Inv-loop μ-loop
-touches-requires c κs =
+keeps_any-requires : tie.Need-keeps_any-requires Inv-loop μ-loop
+keeps_any-requires c κs =
     let a = c .before .before .before in
     (a .pre .0, subst StrokeOnTable (sym (c .stroke-at .ensures)) (stroke-of-list (c .before .before .loop .at) (a .pre .1) (whole (c .before))))
 
@@ -48,8 +48,8 @@ loop-again c =
     let a = b .before .before in
     let p = b .before .loop .at in
     ⊎-elim
-    (λ o. omega (arith, whole b, o .1, length-kept p (a .pre .0) (a .pre .1) (whole b) (k .before .stroke-at .ensures) (k .touches .ensures) (o .0 .taken)))
-    (λ o. omega (arith, whole b, o .1, length-missed p (a .pre .0) (a .pre .1) (whole b) (k .before .stroke-at .ensures) (k .touches .ensures) (o .0 .left)))
+    (λ o. omega (arith, whole b, o .1, length-kept p (a .pre .0) (a .pre .1) (whole b) (k .before .stroke-at .ensures) (k .keeps_any .ensures) (o .0 .taken)))
+    (λ o. omega (arith, whole b, o .1, length-missed p (a .pre .0) (a .pre .1) (whole b) (k .before .stroke-at .ensures) (k .keeps_any .ensures) (o .0 .left)))
     (c .if1 .came)
 
 returns : tie.Need-returns Inv-loop μ-loop
@@ -59,4 +59,4 @@ returns c xs r =
     omega (arith, l .inv .3, ap length (rows-none (a .args .w) (now (a .args .s)) (l .at) (c .loop-test .left)), ap length (rows-unique (computed-rows (a .pre .0) (a .pre .1)) r))
 
 pub count-rows-spec : {M : Type 1} → statement M
-count-rows-spec = tie.close (tie.spec Inv-loop μ-loop loop-holds stroke-at-requires touches-requires add-needed add-at loop-less loop-again returns)
+count-rows-spec = tie.close (tie.spec Inv-loop μ-loop loop-holds stroke-at-requires keeps_any-requires add-needed add-at loop-less loop-again returns)

@@ -8,7 +8,7 @@ use mir.Syntax.{w32, w64}
 use mir.Val.{toZ, ofZ}
 use Rattle.whole.specs.Within.{Within}
 use Rattle.whole.proofs.Comparisons.{back}
-use Rattle.spans.specs.Spans.{largest, CutBy}
+use Rattle.spans.specs.Spans.{largest, SpanCut}
 use Rattle.corners.specs.Workers.{wayFrom, crossOf, start, finish, edgeP, edgeQ}
 use Rattle.corners.specs.declared.Corner.{Corner}
 use Rattle.corners.proofs.Edges.{p-within, q-within}
@@ -60,7 +60,7 @@ cut-requires c κs =
     )
 
 returns : tie.Need-returns
-returns c = let s = c .before .before .before .before .before .before .before .before .args .span in subst₂ (λ (p q : ℤ). CutBy p q s (c .cut .result)) (p-is (c .before)) (q-is (c .before)) (c .cut .ensures)
+returns c = let s = c .before .before .before .before .before .before .before .before .args .span in subst₂ (λ (p q : ℤ). SpanCut p q s (c .cut .result)) (p-is (c .before)) (q-is (c .before)) (c .cut .ensures)
 
 pub cut-by-edge-spec : {M : Type 1} → statement M
 cut-by-edge-spec = tie.close (tie.spec way-from-requires way-from-requires-2 cross-requires way-from-requires-3 cross-requires-2 cut-requires returns)

@@ -15,7 +15,7 @@ use Rattle.whole.proofs.Ranges.{Bounds}
 use Rattle.fraction.specs.declared.Fraction.{Fraction}
 use Rattle.fraction.specs.Fraction.{Comparable, lessThan}
 use Rattle.fraction.proofs.Comparing.{less-taken, less-left}
-use Rattle.spans.specs.Spans.{largest, CutBy}
+use Rattle.spans.specs.Spans.{largest, SpanCut}
 use Rattle.spans.proofs.Cutting.{minus-within, comes-later, comes-sooner, never, leaves-sooner, leaves-later, untouched}
 use Rattle.spans.proofs.Parts.{comparable}
 use Rattle.spans.proofs.cut.Statement.{statement}
@@ -82,7 +82,7 @@ returns c =
     let t = c .before .before in
     let s = t .before .before .before .before in
     let f = s .args .s in
-    subst (λ (g : Fraction). CutBy (s .args .p) (s .args .q) f (record { first = g; last = f .last })) (comes-in s)
+    subst (λ (g : Fraction). SpanCut (s .args .p) (s .args .q) f (record { first = g; last = f .last })) (comes-in s)
     (comes-later (s .args .p) (s .args .q) f (s .pre .1 .1 .0) (q-below (t .before)) (p-below t) (less-taken (f .first) (in-at s) (later (c .before) (c .if3 .taken))))
 
 returns-2 : tie.Need-returns-2
@@ -110,7 +110,7 @@ returns-4 c =
     let t = c .before .before in
     let s = t .before .before .before .before in
     let f = s .args .s in
-    subst (λ (g : Fraction). CutBy (s .args .p) (s .args .q) f (record { first = f .first; last = g })) (goes-out s)
+    subst (λ (g : Fraction). SpanCut (s .args .p) (s .args .q) f (record { first = f .first; last = g })) (goes-out s)
     (leaves-sooner (s .args .p) (s .args .q) f (s .pre .1 .1 .0) (q-not-below (t .before)) (p-above t) (less-taken (out-at s) (f .last) (sooner (c .before) (c .if5 .taken))))
 
 returns-5 : tie.Need-returns-5

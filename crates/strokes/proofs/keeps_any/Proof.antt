@@ -1,4 +1,4 @@
--- `strokes::touches` meets its contract: the plain cases, and whether the two ways overlap. Assumes nothing.
+-- `strokes::keeps_any` meets its contract: the plain cases, and whether the two ways overlap. Assumes nothing.
 use lib.IntN.{pos}
 use borrow.Author.Needs.{needs}
 use borrow.Author.Tests.{not-true, not-false}
@@ -8,8 +8,8 @@ use Rattle.strokes.specs.Workers.{WayOf}
 use Rattle.strokes.proofs.Answers.{inside-always}
 use Rattle.strokes.proofs.Meetings.{none-kept, some-kept}
 use Rattle.strokes.proofs.Reading.{passage-asks, way-plain}
-use Rattle.strokes.proofs.touches.Statement.{statement}
-use Rattle.strokes.proofs.touches.Tie as tie
+use Rattle.strokes.proofs.keeps_any.Statement.{statement}
+use Rattle.strokes.proofs.keeps_any.Tie as tie
 
 inside-requires : tie.Need-inside-requires
 inside-requires c κs = search needs
@@ -48,5 +48,5 @@ returns-3 c = let k = c .before in record {
   kept = λ e. some-kept (way-x k) (way-y k) (c .apart .ensures .1 (not-true _ e));
 }
 
-pub touches-spec : {M : Type 1} → statement M
-touches-spec = tie.close (tie.spec inside-requires returns outside-requires returns-2 passage-requires passage-requires-2 apart-requires returns-3)
+pub keeps_any-spec : {M : Type 1} → statement M
+keeps_any-spec = tie.close (tie.spec inside-requires returns outside-requires returns-2 passage-requires passage-requires-2 apart-requires returns-3)
