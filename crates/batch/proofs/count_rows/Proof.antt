@@ -27,8 +27,8 @@ loop-holds c = (omega arith, omega arith, omega arith, omega arith)
 stroke-at-requires : tie.Need-stroke-at-requires Inv-loop μ-loop
 stroke-at-requires c κs = whole c
 
-keeps_any-requires : tie.Need-keeps_any-requires Inv-loop μ-loop
-keeps_any-requires c κs =
+keeps-any-requires : tie.Need-keeps-any-requires Inv-loop μ-loop
+keeps-any-requires c κs =
     let a = c .before .before .before in
     (a .pre .0, subst StrokeOnTable (sym (c .stroke-at .ensures)) (stroke-of-list (c .before .before .loop .at) (a .pre .1) (whole (c .before))))
 
@@ -59,4 +59,4 @@ returns c xs r =
     omega (arith, l .inv .3, ap length (rows-none (a .args .w) (now (a .args .s)) (l .at) (c .loop-test .left)), ap length (rows-unique (computed-rows (a .pre .0) (a .pre .1)) r))
 
 pub count-rows-spec : {M : Type 1} → statement M
-count-rows-spec = tie.close (tie.spec Inv-loop μ-loop loop-holds stroke-at-requires keeps_any-requires add-needed add-at loop-less loop-again returns)
+count-rows-spec = tie.close (tie.spec Inv-loop μ-loop loop-holds stroke-at-requires keeps-any-requires add-needed add-at loop-less loop-again returns)

@@ -48,5 +48,5 @@ returns-3 c = let k = c .before in record {
   kept = λ e. some-kept (way-x k) (way-y k) (c .apart .ensures .1 (not-true _ e));
 }
 
-pub keeps_any-spec : {M : Type 1} → statement M
-keeps_any-spec = tie.close (tie.spec inside-requires returns outside-requires returns-2 passage-requires passage-requires-2 apart-requires returns-3)
+pub keeps-any-spec : {M : Type 1} → statement M
+keeps-any-spec = tie.close (tie.spec inside-requires returns outside-requires returns-2 passage-requires passage-requires-2 apart-requires returns-3)
