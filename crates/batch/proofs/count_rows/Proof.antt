@@ -48,8 +48,8 @@ loop-again c =
     let a = b .before .before in
     let p = b .before .loop .at in
     ⊎-elim
-    (λ o. omega (arith, whole b, o .1, length-kept p (a .pre .0) (a .pre .1) (whole b) (k .before .stroke-at .ensures) (k .keeps_any .ensures) (o .0 .taken)))
-    (λ o. omega (arith, whole b, o .1, length-missed p (a .pre .0) (a .pre .1) (whole b) (k .before .stroke-at .ensures) (k .keeps_any .ensures) (o .0 .left)))
+    (λ o. omega (arith, whole b, o .1, length-kept p (a .pre .0) (a .pre .1) (whole b) (k .before .stroke-at .ensures) (k .keeps-any .ensures) (o .0 .taken)))
+    (λ o. omega (arith, whole b, o .1, length-missed p (a .pre .0) (a .pre .1) (whole b) (k .before .stroke-at .ensures) (k .keeps-any .ensures) (o .0 .left)))
     (c .if1 .came)
 
 returns : tie.Need-returns Inv-loop μ-loop
