@@ -16,14 +16,16 @@ use Rattle.grid.specs.Refusals.{none}
 use Rattle.grid.specs.Table.{StrokeOnTable}
 use Rattle.grid.specs.declared.Stroke.{Stroke}
 use Rattle.rings.specs.Points.{Point}
+use Rattle.convex.specs.Corners.{cornersOf, CornersOnTable}
+use Rattle.convex.proofs.Places.{corner, count}
 use Rattle.spans.specs.declared.Span.{Span}
 use Rattle.spans.specs.Spans.{SpanOf}
 use Rattle.spans.proofs.Computed.{cutBy, cutBy-is}
 use Rattle.spans.proofs.Parts.{all}
-use Rattle.corners.specs.Corners.{cornersOf, cyrusBeckRefusal, KeepsIn, blankAnswer, CornerClipped, CyrusBeck}
-use Rattle.corners.specs.Workers.{CornersOnTable, edgeP, edgeQ}
+use Rattle.corners.specs.Corners.{cyrusBeckRefusal, KeepsIn, blankAnswer, CornerClipped, CyrusBeck}
+use Rattle.corners.specs.Edges.{edgeP, edgeQ}
 use Rattle.corners.specs.declared.CornerAnswer.{CornerAnswer}
-use Rattle.corners.proofs.Places.{corner, count, before}
+use Rattle.corners.proofs.Places.{before}
 use Rattle.corners.proofs.Edges.{Folded, span-start, folded-more, folded-end}
 use Rattle.corners.proofs.Refusals.{nothing-refused}
 use Rattle.corners.proofs.Answers.{clip-missed, first-time, last-time, clip-kept, unique}

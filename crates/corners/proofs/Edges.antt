@@ -16,15 +16,18 @@ use Rattle.grid.specs.Table.{farthest, StrokeOnTable}
 use Rattle.grid.specs.declared.Stroke.{Stroke}
 use Rattle.rings.specs.Points.{Point, LeftOn, value, through, det}
 use Rattle.rings.specs.Rings.{at}
+use Rattle.convex.specs.declared.Corner.{Corner}
+use Rattle.convex.specs.Corners.{cornersOf, CornersOnTable}
+use Rattle.convex.specs.Ways.{CornerOnTable, cornerAt}
+use Rattle.convex.proofs.Places.{side-by, cross-by, pointOf, corner, count, point-at, three-corners, corner-on}
 use Rattle.spans.specs.declared.Span.{Span}
 use Rattle.spans.specs.Parts.{Time}
 use Rattle.spans.specs.Spans.{largest, SpanCut, SpanOf}
 use Rattle.spans.proofs.Cutting.{in-time}
 use Rattle.spans.proofs.Parts.{all, all-proper, all-sized, in-all}
-use Rattle.corners.specs.Corners.{cornersOf, pointAt, KeepsIn}
-use Rattle.corners.specs.Workers.{CornersOnTable, CornerOnTable, cornerAt, edgeP, edgeQ}
-use Rattle.corners.specs.declared.Corner.{Corner}
-use Rattle.corners.proofs.Places.{side-by, cross-by, pointOf, corner, count, point-at, before, before-first, before-below, edges-of, edges-at, three-corners, corner-on}
+use Rattle.corners.specs.Corners.{pointAt, KeepsIn}
+use Rattle.corners.specs.Edges.{edgeP, edgeQ}
+use Rattle.corners.proofs.Places.{before, before-first, before-below, edges-of, edges-at}
 
 -- ---- one edge
 module _ (a b : Corner) (s : Stroke) where

@@ -12,9 +12,10 @@ use Rattle.grid.specs.declared.Stroke.{Stroke}
 use Rattle.rings.specs.Lists.{All, ∅, _◂_}
 use Rattle.rings.specs.Points.{value, through}
 use Rattle.rings.proofs.Lists.{all-map}
+use Rattle.convex.specs.Corners.{cornersOf, every, next, joins, isLeft, strictlyConvex, rightCount, countRefusal, convexRefusal}
 use Rattle.spans.specs.Parts.{zeroth, unit}
 use Rattle.spans.proofs.Computed.{cutBy}
-use Rattle.corners.specs.Corners.{cornersOf, every, next, joins, isLeft, strictlyConvex, rightCount, badCount, unlessConvex, cyrusBeckRefusal, blankAnswer, CyrusBeck}
+use Rattle.corners.specs.Corners.{cyrusBeckRefusal, blankAnswer, CyrusBeck}
 use Rattle.corners.specs.declared.CornerAnswer.{CornerAnswer}
 use Rattle.corners.proofs.Computed.{spanOf, clipOf, answer, computed}
 
@@ -66,7 +67,7 @@ table =
     ∷ []
 
 computes : All (λ e. answer (e .corners) (e .stroke) ≡ e .expected) table
-unfolding table answer spanOf clipOf cutBy lessThan euclid lowestOf cyrusBeckRefusal first badCount rightCount offTable firstOff onTable unlessConvex strictlyConvex every next joins isLeft cornersOf value through strokeRefusal
+unfolding table answer spanOf clipOf cutBy lessThan euclid lowestOf cyrusBeckRefusal first countRefusal rightCount offTable firstOff onTable convexRefusal strictlyConvex every next joins isLeft cornersOf value through strokeRefusal
 computes = refl ◂ refl ◂ refl ◂ refl ◂ refl ◂ refl ◂ refl ◂ refl ◂ refl ◂ refl ◂ refl ◂ refl ◂ refl ◂ refl ◂ ∅
 
 pub examples : All (λ e. (a : CornerAnswer) → CyrusBeck (e .corners) (e .stroke) a → a ≡ e .expected) table

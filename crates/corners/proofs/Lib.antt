@@ -1,10 +1,4 @@
 pub mod Places
-pub mod Convexity
-pub mod Sums
-pub mod Slopes
-pub mod Rounds
-pub mod Changes
-pub mod Walking
 pub mod Edges
 pub mod Refusals
 pub mod Answers

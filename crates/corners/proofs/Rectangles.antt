@@ -6,6 +6,7 @@ use mathlib.Core.Logic.{_↔_}
 use Prim.Native.Nat.{ℕ}
 use native.Mathlib.Omega.{arith}
 use borrow.Author.Tests.{le-ltb}
+use lib.Ieee.Bits.{is-true}
 use lib.IntN.{ℤ, pos, negℤ, _*ℤ_}
 use lib.ListN.{length}
 use lib.Signed.{_≤ℤ_, _<ℤ_, leZ}
@@ -25,11 +26,12 @@ use Rattle.rings.proofs.Lists.{∅ᵖ, _◂ᵖ_, edges-turned, turned-all, turn
 use Rattle.rings.proofs.Convex.{CCW, ∅ᶜ, _◂ᶜ_, ccw-turned}
 use Rattle.rings.proofs.Plane.{nought}
 use Rattle.rings.proofs.Theorems.{convex-ccw}
+use Rattle.convex.specs.Corners.{gridPoint, cornersOf, strictlyConvex, rightCount, countRefusal, convexRefusal}
+use Rattle.convex.proofs.Convexity.{convex-same}
+use Rattle.convex.proofs.Places.{side-by}
 use Rattle.spans.specs.Parts.{Time, Part}
-use Rattle.corners.specs.Corners.{gridPoint, cornersOf, strictlyConvex, rightCount, badCount, unlessConvex, cyrusBeckRefusal, pointAt, KeepsIn, CyrusBeck}
+use Rattle.corners.specs.Corners.{cyrusBeckRefusal, pointAt, KeepsIn, CyrusBeck}
 use Rattle.corners.specs.declared.CornerAnswer.{CornerAnswer}
-use Rattle.corners.proofs.Convexity.{is-true, convex-same}
-use Rattle.corners.proofs.Places.{side-by}
 
 -- the numbers of the four corners, from the lowest leftmost, and from each of the others
 pub data RectangleCorners (w : Window) : List ℤ → Type 0 where
@@ -183,7 +185,7 @@ module _ {w : Window} {s : Stroke} (hw : WindowOnTable w) (hs : StrokeOnTable s)
   within k = turned-all (numbers w k) (hw .left ◂ hw .bottom ◂ hw .right ◂ hw .bottom ◂ hw .right ◂ hw .top ◂ hw .left ◂ hw .top ◂ ∅)
 
   taken : {zs : List ℤ} → RectangleCorners w zs → cyrusBeckRefusal zs s .number ≡ 0
-  unfolding cyrusBeckRefusal first badCount unlessConvex strokeRefusal rightCount
+  unfolding cyrusBeckRefusal first countRefusal convexRefusal strokeRefusal rightCount
   taken k = simp (turned-length (numbers w k), none-off windowOff (within k), convex w (hw .wide) (hw .tall) k, none-off numberOff (hs .x1 ◂ hs .y1 ◂ hs .x2 ◂ hs .y2 ◂ ∅))
 
   -- ---- the call's answer for the corners says what K, the window's own condition, keeps

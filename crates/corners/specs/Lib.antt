@@ -1,2 +1,2 @@
 pub mod Corners
-pub mod Workers
+pub mod Edges

@@ -1,15 +1,17 @@
-// Strokes against a corner window by the Cyrus-Beck rule, and the test of strict convexity.
+// Strokes against a corner window by the Cyrus-Beck rule.
+use convex::Corner;
+use convex::Way;
 use fraction::Fraction;
 use grid::Refusal;
 use grid::Stroke;
 use spans::Span;
 ghost use mathlib.Core.Path.{_≡_};
-ghost use Prim.Native.Nat.{_+_, _<_};
-ghost use lib.ListN.{length};
 ghost use Rattle.grid.specs.Table.{StrokeOnTable};
+ghost use Rattle.convex.specs.Corners.{cornersOf, CornersOnTable};
+ghost use Rattle.convex.specs.Ways.{CornerOnTable, Short, crossOf};
 ghost use Rattle.spans.specs.Spans.{largest, ProperSpan, Sized, SpanCut, SpanOf};
-ghost use Rattle.corners.specs.Corners.{cornersOf, strictlyConvex, rightCount, cyrusBeckRefusal, KeepsIn, CornerClipped, CyrusBeck, blankAnswer};
-ghost use Rattle.corners.specs.Workers.{CornersOnTable, CornerOnTable, Short, cornerAt, wayFrom, crossOf, turnsLeft, changeOf, edgeP, edgeQ};
+ghost use Rattle.corners.specs.Corners.{cyrusBeckRefusal, KeepsIn, CornerClipped, CyrusBeck, blankAnswer};
+ghost use Rattle.corners.specs.Edges.{edgeP, edgeQ};
 
 // What the call answers: a refusal's number and place, or whether the stroke is kept, and from which fraction of its way to which.
 #[repr(C)]
@@ -21,41 +23,6 @@ pub struct CornerAnswer {
     pub t1: Fraction,
 }
 
-// A point of the table.
-struct Corner {
-    x: i32,
-    y: i32,
-}
-
-// The way from one point of the table to another.
-struct Way {
-    x: i32,
-    y: i32,
-}
-
-// The corner whose two numbers stand at i.
-fn corner_at(c: &[i32], i: usize) -> Corner
-    requires { ⌜ i + 1 < length (now c) ⌝ }
-    ensures { λ r. ⌜ r ≡ cornerAt (now (c .entry)) i ⌝ }
-{
-    Corner {
-        x: c[i],
-        y: c[i + 1],
-    }
-}
-
-fn way_from(a: Corner, b: Corner) -> Way
-    requires { ⌜ CornerOnTable a ⌝ }
-    requires { ⌜ CornerOnTable b ⌝ }
-    ensures { λ r. ⌜ r ≡ wayFrom a b ⌝ }
-    ensures { λ r. ⌜ Short r ⌝ }
-{
-    Way {
-        x: b.x - a.x,
-        y: b.y - a.y,
-    }
-}
-
 // Positive where b turns left from a, 0 where they are parallel.
 fn cross(a: Way, b: Way) -> i64
     requires { ⌜ Short a ⌝ }
@@ -63,61 +30,6 @@ fn cross(a: Way, b: Way) -> i64
     ensures { λ r. ⌜ r ≡ crossOf a b ⌝ }
 {
     (a.x as i64) * (b.y as i64) - (a.y as i64) * (b.x as i64)
-}
-
-// The two products are compared, since their difference may need more than 32 bits.
-fn turns_left(a: Way, b: Way) -> bool
-    requires { ⌜ Short a ⌝ }
-    requires { ⌜ Short b ⌝ }
-    ensures { λ r. ⌜ r ≡ turnsLeft a b ⌝ }
-{
-    a.y * b.x < a.x * b.y
-}
-
-// 1 where one of two edges goes down and the other does not.
-fn change(a: Way, b: Way) -> u32
-    ensures { λ r. ⌜ r ≡ changeOf a b ⌝ }
-{
-    if (a.y < 0) ^ (b.y < 0) {
-        return 1;
-    }
-    0
-}
-
-// Whether corners are strictly convex counterclockwise: every turn goes left, and the edges begin to go down once and to go up
-// once, so they go round once. The closing edge is the first, and again the last.
-pub fn strictly_convex(c: &[i32]) -> bool
-    requires { ⌜ CornersOnTable (now c) ⌝ }
-    ensures { λ r. ⌜ r ≡ strictlyConvex (cornersOf (now (c .entry))) ⌝ }
-{
-    let n = c.len();
-    let closing = way_from(corner_at(c, n - 2), corner_at(c, 0));
-    let mut edge_x = closing.x;
-    let mut edge_y = closing.y;
-    let mut changes = 0;
-    let mut i = 2;
-    while i < n {
-        let edge = Way {
-            x: edge_x,
-            y: edge_y,
-        };
-        let next = way_from(corner_at(c, i - 2), corner_at(c, i));
-        if !turns_left(edge, next) {
-            return false;
-        }
-        changes += change(edge, next);
-        edge_x = next.x;
-        edge_y = next.y;
-        i += 2;
-    }
-    let edge = Way {
-        x: edge_x,
-        y: edge_y,
-    };
-    if !turns_left(edge, closing) {
-        return false;
-    }
-    changes + change(edge, closing) == 2
 }
 
 // What of the span lies left of or on the edge from a to b, by its condition p t <= q.
@@ -129,10 +41,14 @@ fn cut_by_edge(a: Corner, b: Corner, s: Stroke, span: Span) -> Span
     requires { ⌜ Sized largest span ⌝ }
     ensures { λ r. ⌜ SpanCut (edgeP a b s) (edgeQ a b s) span r ⌝ }
 {
-    let edge = way_from(a, b);
+    let edge = convex::way_from(a, b);
     let start = Corner { x: s.x1, y: s.y1 };
-    let run = way_from(start, Corner { x: s.x2, y: s.y2 });
-    spans::cut(cross(run, edge), cross(edge, way_from(a, start)), span)
+    let run = convex::way_from(start, Corner { x: s.x2, y: s.y2 });
+    spans::cut(
+        cross(run, edge),
+        cross(edge, convex::way_from(a, start)),
+        span,
+    )
 }
 
 // The kept fractions, edge by edge, beginning with the closing one.
@@ -146,10 +62,10 @@ fn kept_span(c: &[i32], s: Stroke) -> Span
         last: Fraction { num: 1, den: 1 },
     };
     let n = c.len();
-    let mut a = corner_at(c, n - 2);
+    let mut a = convex::corner_at(c, n - 2);
     let mut i = 0;
     while i < n {
-        let b = corner_at(c, i);
+        let b = convex::corner_at(c, i);
         span = cut_by_edge(a, b, s, span);
         a = b;
         i += 2;
@@ -194,23 +110,11 @@ fn clipped(c: &[i32], s: Stroke) -> CornerAnswer
     }
 }
 
-// Whether so many numbers are a corner window.
-fn right_count(n: usize) -> bool
-    ensures { λ r. ⌜ r ≡ rightCount n ⌝ }
-{
-    if n % 2 == 0 {
-        if 6 <= n {
-            return n <= 32;
-        }
-    }
-    false
-}
-
 // What the call refuses; length and count come before the range.
 fn refusal(c: &[i32], s: Stroke) -> Refusal
     ensures { λ r. ⌜ r ≡ cyrusBeckRefusal (now (c .entry)) s ⌝ }
 {
-    if !right_count(c.len()) {
+    if !convex::right_count(16, c.len()) {
         return Refusal {
             number: grid::NO_WINDOW,
             place: 0,
@@ -223,7 +127,7 @@ fn refusal(c: &[i32], s: Stroke) -> Refusal
             place: off,
         };
     }
-    if !strictly_convex(c) {
+    if !convex::strictly_convex(c) {
         return Refusal {
             number: grid::NO_WINDOW,
             place: 0,

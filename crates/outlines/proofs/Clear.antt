@@ -16,7 +16,7 @@ use Rattle.rings.specs.Lists.{All}
 use Rattle.rings.specs.Points.{value, In}
 use Rattle.rings.specs.Windows.{left-side, right-side, bottom-side, top-side}
 use Rattle.rings.proofs.Plane.{nought}
-use Rattle.corners.specs.Corners.{gridPoint, cornersOf}
+use Rattle.convex.specs.Corners.{gridPoint, cornersOf}
 use Rattle.passes.specs.Orders.{sideLine}
 use Rattle.passes.specs.Outlines.{Cutting}
 use Rattle.passes.proofs.Outlines.{corners-all}

@@ -27,7 +27,7 @@ use Rattle.rings.proofs.Lists.{all-zip, all-tail, turned-all}
 use Rattle.rings.proofs.Passes.{meet, meet-crossing, flip-crossing}
 use Rattle.rings.proofs.Start.{turned-ring}
 use Rattle.rings.proofs.Theorems.{starts-at}
-use Rattle.corners.specs.Corners.{cornersOf}
+use Rattle.convex.specs.Corners.{cornersOf}
 use Rattle.passes.specs.Orders.{linesIn}
 use Rattle.outlines.specs.Outlines.{outlineRefusal, Clipped, Outline}
 use Rattle.outlines.proofs.Lowest.{by-width}

@@ -29,7 +29,7 @@ use Rattle.rings.proofs.Lists.{Pairs, _◂ᵖ_, all-map, edges-zip, turned-all}
 use Rattle.rings.proofs.Convex.{CCW, _◂ᶜ_}
 use Rattle.rings.proofs.Orders.{all-order}
 use Rattle.rings.proofs.Theorems.{convex-ccw, some-result}
-use Rattle.corners.specs.Corners.{gridPoint, cornersOf}
+use Rattle.convex.specs.Corners.{gridPoint, cornersOf}
 use Rattle.passes.specs.Orders.{linesIn}
 use Rattle.passes.proofs.Orders.{lines-arranged}
 use Rattle.outlines.specs.Outlines.{RingNumbers, no-corner, corner, outlineRefusal, SmallDenominators, no-fraction, fraction, OutlineGives}

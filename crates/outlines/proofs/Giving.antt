@@ -13,7 +13,7 @@ use Rattle.grid.specs.declared.Window.{Window}
 use Rattle.rings.specs.Points.{Point}
 use Rattle.rings.specs.Rings.{Ring}
 use Rattle.rings.specs.Cuts.{Cuts}
-use Rattle.corners.specs.Corners.{cornersOf}
+use Rattle.convex.specs.Corners.{cornersOf}
 use Rattle.passes.specs.Orders.{linesIn}
 use Rattle.passes.specs.Outlines.{OutlineOnTable}
 use Rattle.passes.specs.Passes.{ringAt, Ran}

@@ -19,8 +19,8 @@ use Rattle.rings.proofs.Lists.{all-tail, turned-all}
 use Rattle.rings.proofs.Linear.{all-of-places}
 use Rattle.rings.proofs.Start.{turned-ring}
 use Rattle.rings.proofs.Theorems.{starts-at}
-use Rattle.corners.specs.Corners.{gridPoint, cornersOf}
-use Rattle.corners.proofs.Places.{count, point-at}
+use Rattle.convex.specs.Corners.{gridPoint, cornersOf}
+use Rattle.convex.proofs.Places.{count, point-at}
 use Rattle.outlines.specs.Outlines.{RingNumbers, no-corner, corner}
 use Rattle.outlines.specs.Workers.{LowestIn, cornerIn, LowestPlace}
 

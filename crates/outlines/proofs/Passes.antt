@@ -16,7 +16,7 @@ use Rattle.rings.specs.Windows.{InWindow}
 use Rattle.rings.proofs.Lists.{turned-length}
 use Rattle.rings.proofs.Orders.{all-order}
 use Rattle.rings.proofs.Theorems.{all-cuts, cuts-length, result-outcome, sides-real, in-window}
-use Rattle.corners.specs.Corners.{cornersOf}
+use Rattle.convex.specs.Corners.{cornersOf}
 use Rattle.passes.specs.Orders.{linesIn}
 use Rattle.passes.proofs.Orders.{lines-arranged, lines-length}
 use Rattle.outlines.specs.Outlines.{RingNumbers, OutlineGives, area, no-area, ring-left, none-left, Clipped}

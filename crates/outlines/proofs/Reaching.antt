@@ -31,7 +31,7 @@ use Rattle.rings.proofs.Lists.{all-map}
 use Rattle.rings.proofs.OneCut.{few-on}
 use Rattle.rings.proofs.Orders.{some-result, all-order}
 use Rattle.rings.proofs.Theorems.{convex-ccw, fan, result-outcome}
-use Rattle.corners.specs.Corners.{cornersOf}
+use Rattle.convex.specs.Corners.{cornersOf}
 use Rattle.passes.specs.Orders.{sideLine, sidesIn, linesIn}
 use Rattle.passes.proofs.Orders.{lines-arranged}
 use Rattle.passes.proofs.Outlines.{corners-all}

@@ -16,9 +16,8 @@ use Rattle.grid.specs.declared.Window.{Window}
 use Rattle.grid.proofs.Ranges.{off-later, off-none, within-on}
 use Rattle.grid.proofs.Refusals.{goes-on, all-done, window-on-table, nothing-off}
 use Rattle.rings.specs.Rings.{Ring}
-use Rattle.corners.specs.Corners.{cornersOf, strictlyConvex}
-use Rattle.corners.specs.Workers.{CornersOnTable}
-use Rattle.corners.proofs.Convexity.{ring-same}
+use Rattle.convex.specs.Corners.{cornersOf, strictlyConvex, CornersOnTable}
+use Rattle.convex.proofs.Convexity.{ring-same}
 use Rattle.outlines.specs.Outlines.{badOrder, rightCount, badOutline, unlessConvex, outlineRefusal}
 
 -- ---- no number is off the table

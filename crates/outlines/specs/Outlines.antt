@@ -37,7 +37,7 @@ use Rattle.rings.specs.Points.{Point, Line, On, Real, Proper}
 use Rattle.rings.specs.Rings.{Ring, InRing, Starts}
 use Rattle.rings.specs.Cuts.{Result}
 use Rattle.rings.specs.Windows.{InWindow}
-use Rattle.corners.specs.Corners.{cornersOf, strictlyConvex, fewest}
+use Rattle.convex.specs.Corners.{cornersOf, strictlyConvex, fewest}
 use Rattle.passes.specs.Orders.{linesIn}
 
 -- ---- refusals

@@ -29,7 +29,7 @@ use Rattle.grid.specs.declared.Window.{Window}
 use Rattle.rings.specs.Lists.{All, Turned}
 use Rattle.rings.specs.Points.{Point, Before}
 use Rattle.rings.specs.Rings.{at, Starts}
-use Rattle.corners.specs.Corners.{gridPoint, cornersOf}
+use Rattle.convex.specs.Corners.{gridPoint, cornersOf}
 use Rattle.passes.specs.Memory.{ringFrom}
 use Rattle.outlines.specs.Outlines.{RingNumbers}
 

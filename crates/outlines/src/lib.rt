@@ -46,7 +46,7 @@ fn takes(w: Window, order: u32, outline: &[i32], reach: Window) -> bool
     if !reach::on_table(reach) {
         return false;
     }
-    if !corners::strictly_convex(outline) {
+    if !convex::strictly_convex(outline) {
         return false;
     }
     if grid::window_refusal(w).number != 0 {

@@ -5,7 +5,7 @@ ghost use lib.ListN.{length};
 ghost use Rattle.whole.specs.Choice.{Decides};
 ghost use Rattle.rings.specs.Points.{Before};
 ghost use Rattle.rings.specs.Rings.{Ring};
-ghost use Rattle.corners.specs.Corners.{cornersOf};
+ghost use Rattle.convex.specs.Corners.{cornersOf};
 ghost use Rattle.outlines.specs.Workers.{LowestIn, Forward, cornerIn, LowestPlace, Wrote, GaveRing};
 
 // Whether the corner i of an outline lies lower than the corner j, or as low and further left.

@@ -22,7 +22,7 @@ use Rattle.rings.specs.Points.{Point, Line, value, through, Over, Out, On, Real
 use Rattle.rings.specs.Cuts.{Across, leaves, enters}
 use Rattle.rings.specs.Windows.{left-side, bottom-side}
 use Rattle.rings.proofs.Plane.{nought, with-line, value-of, det-of, w-of}
-use Rattle.corners.specs.Corners.{gridPoint}
+use Rattle.convex.specs.Corners.{gridPoint}
 use Rattle.passes.specs.Memory.{largestNumber}
 use Rattle.passes.specs.Tags.{stroke, lineOf, numberOf, sideOf}
 use Rattle.passes.specs.Limits.{LimitOnTable, limitLine}

@@ -10,8 +10,8 @@ use lib.Seq.{drop-cons}
 use Rattle.whole.proofs.Comparisons.{true-T}
 use Rattle.grid.specs.declared.Window.{Window}
 use Rattle.rings.specs.Windows.{sides}
-use Rattle.corners.specs.Corners.{every}
-use Rattle.corners.proofs.Places.{every-at}
+use Rattle.convex.specs.Corners.{every}
+use Rattle.convex.proofs.Places.{every-at}
 use Rattle.passes.specs.Orders.{sideLine, member, without, sidesIn, linesIn, packed}
 
 -- ---- one taken out

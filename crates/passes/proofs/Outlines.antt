@@ -18,7 +18,7 @@ use Rattle.grid.specs.Table.{StrokeOnTable}
 use Rattle.rings.specs.Lists.{All, ∅, _◂_}
 use Rattle.rings.specs.Points.{Point, through, Real, Proper}
 use Rattle.rings.specs.Rings.{at, Edge, along, closing, Ring}
-use Rattle.corners.specs.Corners.{gridPoint, cornersOf, next}
+use Rattle.convex.specs.Corners.{gridPoint, cornersOf, next}
 use Rattle.passes.specs.Outlines.{OutlineOnTable}
 use Rattle.passes.specs.Tags.{stroke, lineOf, edgeOf, Names, edge, side}
 use Rattle.passes.proofs.Sides.{side-real}

@@ -24,7 +24,7 @@ use Rattle.whole.proofs.Machine.{par, lit, add, need}
 use Rattle.whole.proofs.Comparisons.{bits-eq, plain}
 use Rattle.grid.specs.Table.{farthest}
 use Rattle.rings.specs.Points.{Point, value, In, Out, On}
-use Rattle.corners.specs.Corners.{gridPoint}
+use Rattle.convex.specs.Corners.{gridPoint}
 use Rattle.passes.specs.Memory.{pointIn}
 use Rattle.passes.specs.Tags.{tagIn, loadedFrom, loadedOf}
 use Rattle.passes.specs.Limits.{LimitOnTable, lineBy, limitLine, LiesSo, RunTo}

@@ -21,7 +21,7 @@ use Rattle.rings.proofs.Plane.{corners, det-of, nought}
 use Rattle.rings.proofs.Lists.{all-map}
 use Rattle.rings.proofs.Fan.{corners-in}
 use Rattle.rings.proofs.Theorems.{convex-ccw, fan, one-cut}
-use Rattle.corners.specs.Corners.{cornersOf}
+use Rattle.convex.specs.Corners.{cornersOf}
 use Rattle.passes.specs.Memory.{pointIn, ringFrom, Small}
 use Rattle.passes.specs.Orders.{sideLine, sidesIn, linesIn}
 use Rattle.passes.specs.Outlines.{OutlineOnTable}

@@ -13,8 +13,7 @@ use Rattle.grid.specs.Table.{WindowOnTable}
 use Rattle.rings.specs.Lists.{All}
 use Rattle.rings.specs.Points.{In}
 use Rattle.rings.specs.Rings.{StrictlyConvex}
-use Rattle.corners.specs.Corners.{cornersOf}
-use Rattle.corners.specs.Workers.{CornersOnTable}
+use Rattle.convex.specs.Corners.{cornersOf, CornersOnTable}
 use Rattle.passes.specs.Orders.{sideLine}
 
 pub record OutlineOnTable (zs : List ℤ) : Type 0 where

@@ -19,7 +19,7 @@ use Rattle.rings.specs.Lists.{All}
 use Rattle.rings.specs.Points.{Point, Line, In}
 use Rattle.rings.specs.Rings.{Ring}
 use Rattle.rings.specs.Cuts.{CutBy, Cuts}
-use Rattle.corners.specs.Corners.{cornersOf}
+use Rattle.convex.specs.Corners.{cornersOf}
 use Rattle.passes.specs.Memory.{ringFrom, Small}
 use Rattle.passes.specs.Orders.{sideLine, linesIn}
 use Rattle.passes.specs.Tags.{loadedOf}

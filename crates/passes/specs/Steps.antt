@@ -19,7 +19,7 @@ use lib.Seq.{sets}
 use Rattle.grid.specs.declared.Window.{Window}
 use Rattle.grid.specs.declared.Stroke.{Stroke}
 use Rattle.rings.specs.Points.{Point, Line, value, On}
-use Rattle.corners.specs.Corners.{gridPoint}
+use Rattle.convex.specs.Corners.{gridPoint}
 use Rattle.passes.specs.Memory.{pointIn, Small}
 use Rattle.passes.specs.Orders.{sideLine}
 use Rattle.passes.specs.Tags.{tagIn, lineOf, edgeOf, Names}

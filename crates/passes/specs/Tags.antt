@@ -18,7 +18,7 @@ use Rattle.whole.specs.Choice.{if_then_else_}
 use Rattle.grid.specs.declared.Window.{Window}
 use Rattle.grid.specs.declared.Stroke.{Stroke}
 use Rattle.rings.specs.Points.{Point, Line, through, On}
-use Rattle.corners.specs.Corners.{gridPoint, next}
+use Rattle.convex.specs.Corners.{gridPoint, next}
 
 abbrev pub stroke : ℤ → ℤ → ℤ → ℤ → Stroke
 stroke ax ay bx by = record { x1 = ax; y1 = ay; x2 = bx; y2 = by }

@@ -12,7 +12,7 @@ ghost use Rattle.whole.specs.Within.{Within};
 ghost use Rattle.grid.specs.Table.{farthest, WindowOnTable, StrokeOnTable};
 ghost use Rattle.rings.specs.Points.{Out};
 ghost use Rattle.rings.specs.Windows.{«left-side»};
-ghost use Rattle.corners.specs.Corners.{next};
+ghost use Rattle.convex.specs.Corners.{next};
 ghost use Rattle.passes.specs.Memory.{pointIn};
 ghost use Rattle.grid.specs.declared.Window.{Window};
 ghost use Rattle.passes.specs.Orders.{windowOf, sideLine, sidesIn, packed, InOrder};

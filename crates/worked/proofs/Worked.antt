@@ -11,7 +11,7 @@ use Rattle.codes.specs.Workers.{sideOf}
 use Rattle.codes.specs.declared.CountedAnswer.{CountedAnswer}
 use Rattle.codes.proofs.Computed.{meetingOf, stepOf, countOf, countedOf, countedOf-is, computed}
 use Rattle.codes.proofs.Runs.{same-two}
-use Rattle.corners.specs.Corners.{cornersOf, every, next, joins, isLeft, strictlyConvex}
+use Rattle.convex.specs.Corners.{cornersOf, every, next, joins, isLeft, strictlyConvex}
 use Rattle.fraction.specs.Fraction.{lessThan}
 use Rattle.fraction.proofs.Computed.{euclid, lowestOf, nearestToZero, roundedAt}
 use Rattle.grid.specs.declared.Answer.{Answer}

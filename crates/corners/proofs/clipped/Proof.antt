@@ -4,7 +4,8 @@ use mathlib.Core.Bool.{false}
 use borrow.Author.Needs.{needs}
 use denote.Ref.{now}
 use Rattle.fraction.specs.Fraction.{lessThan}
-use Rattle.corners.specs.Corners.{cornersOf, CornerClipped}
+use Rattle.convex.specs.Corners.{cornersOf}
+use Rattle.corners.specs.Corners.{CornerClipped}
 use Rattle.corners.proofs.Answers.{clip-missed, first-time, last-time, clip-kept}
 use Rattle.corners.proofs.clipped.Statement.{statement}
 use Rattle.corners.proofs.clipped.Tie as tie

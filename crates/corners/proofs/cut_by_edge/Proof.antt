@@ -9,8 +9,9 @@ use mir.Val.{toZ, ofZ}
 use Rattle.whole.specs.Within.{Within}
 use Rattle.whole.proofs.Comparisons.{back}
 use Rattle.spans.specs.Spans.{largest, SpanCut}
-use Rattle.corners.specs.Workers.{wayFrom, crossOf, start, finish, edgeP, edgeQ}
-use Rattle.corners.specs.declared.Corner.{Corner}
+use Rattle.convex.specs.declared.Corner.{Corner}
+use Rattle.convex.specs.Ways.{wayFrom, crossOf}
+use Rattle.corners.specs.Edges.{start, finish, edgeP, edgeQ}
 use Rattle.corners.proofs.Edges.{p-within, q-within}
 use Rattle.corners.proofs.cut_by_edge.Statement.{statement}
 use Rattle.corners.proofs.cut_by_edge.Tie as tie

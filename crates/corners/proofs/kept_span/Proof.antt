@@ -3,7 +3,7 @@ use Prim.Native.Nat.{_+_, _-_, _<_}
 use native.Mathlib.Omega.{arith}
 use denote.Ref.{now}
 use lib.ListN.{length}
-use Rattle.corners.proofs.Places.{read-on}
+use Rattle.convex.proofs.Places.{read-on}
 use Rattle.corners.proofs.Edges.{Folded, folded-start, corner-before, folded-more, folded-end}
 use Rattle.corners.proofs.kept_span.Statement.{statement}
 use Rattle.corners.proofs.kept_span.Tie as tie

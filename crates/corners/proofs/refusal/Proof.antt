@@ -2,42 +2,48 @@
 use mathlib.Core.Path.{_≡_, sym, _∙_, subst}
 use mathlib.Core.Bool.{true}
 use Prim.Native.Nat.{ℕ, _≤_}
+use native.Mathlib.Omega.{arith}
 use borrow.Author.Needs.{needs}
 use borrow.Author.Tests.{lt-ltb, le-ltb, not-true, not-false}
 use denote.Ref.{now}
 use lib.ListN.{length}
 use Rattle.grid.specs.Refusals.{first, offTable}
 use Rattle.grid.specs.Table.{firstOff}
-use Rattle.corners.specs.Corners.{rightCount, badCount, unlessConvex, cyrusBeckRefusal}
-use Rattle.corners.proofs.Refusals.{corners-on-table, only-stroke}
+use Rattle.grid.proofs.Ranges.{before-off}
+use Rattle.convex.specs.Corners.{rightCount, countRefusal, convexRefusal}
+use Rattle.convex.proofs.Refusals.{counted-on-table}
+use Rattle.corners.specs.Corners.{mostWindowCorners, cyrusBeckRefusal}
+use Rattle.corners.proofs.Refusals.{only-stroke}
 use Rattle.corners.proofs.refusal.Statement.{statement}
 use Rattle.corners.proofs.refusal.Tie as tie
 
-counted : (c : tie.Else1) → rightCount (length (now (c .before .before .args .c))) ≡ true
+counted : (c : tie.Else1) → rightCount mostWindowCorners (length (now (c .before .before .args .c))) ≡ true
 counted c = sym (c .before .right-count .ensures) ∙ not-false _ (c .if1 .left)
 
 on : (c : tie.Else2) → length (now (c .before .before .before .before .args .c)) ≤ firstOff (now (c .before .before .before .before .args .c))
 on c = subst (λ (k : ℕ). length (now (c .before .before .before .before .args .c)) ≤ k) (c .before .first-off .ensures) (c .if2 .left)
 
 right-count-requires : tie.Need-right-count-requires
-right-count-requires c κs = search needs
+right-count-requires c κs = omega arith
 
 returns : tie.Need-returns
-unfolding cyrusBeckRefusal first badCount
+unfolding cyrusBeckRefusal first countRefusal
 returns c = simp (sym (c .before .right-count .ensures) ∙ not-true _ (c .if1 .taken))
 
 first-off-requires : tie.Need-first-off-requires
 first-off-requires c κs = search needs
 
 returns-2 : tie.Need-returns-2
-unfolding cyrusBeckRefusal first badCount offTable
+unfolding cyrusBeckRefusal first countRefusal offTable
 returns-2 c = simp (counted (c .before .before), ← c .before .first-off .ensures, lt-ltb _ _ (c .if2 .taken))
 
 strictly-convex-requires : tie.Need-strictly-convex-requires
-strictly-convex-requires c κs = corners-on-table _ (counted (c .before .before)) (on c)
+strictly-convex-requires c κs =
+    let zs = now (c .before .before .before .before .args .c) in
+    counted-on-table mostWindowCorners zs (omega arith) (counted (c .before .before)) (λ k h. before-off zs k (omega (arith, on c)) h)
 
 returns-3 : tie.Need-returns-3
-unfolding cyrusBeckRefusal first badCount offTable unlessConvex
+unfolding cyrusBeckRefusal first countRefusal offTable convexRefusal
 returns-3 c =
     let a = c .before .before in
     simp (counted (a .before .before), le-ltb _ _ (on a), sym (c .before .strictly-convex .ensures) ∙ not-true _ (c .if3 .taken))
@@ -46,7 +52,7 @@ stroke-refusal-requires : tie.Need-stroke-refusal-requires
 stroke-refusal-requires c κs = search needs
 
 returns-4 : tie.Need-returns-4
-unfolding cyrusBeckRefusal first badCount offTable unlessConvex
+unfolding cyrusBeckRefusal first countRefusal offTable convexRefusal
 returns-4 c =
     let a = c .before .before .before in
     simp (c .stroke-refusal .ensures, counted (a .before .before), le-ltb _ _ (on a), sym (c .before .before .strictly-convex .ensures) ∙ not-false _ (c .before .if3 .left), only-stroke (a .before .before .before .before .args .s))

@@ -9,7 +9,7 @@ use Rattle.whole.proofs.Comparisons.{ff-tt}
 use Rattle.grid.specs.Refusals.{windowRefusal}
 use Rattle.grid.specs.declared.Refusal.{Refusal}
 use Rattle.grid.proofs.Refusals.{all-done}
-use Rattle.corners.proofs.Convexity.{ring-same}
+use Rattle.convex.proofs.Convexity.{ring-same}
 use Rattle.outlines.specs.Outlines.{outlineRefusal}
 use Rattle.outlines.proofs.Reaching.{numbers-on}
 use Rattle.outlines.proofs.Refusals.{right-even, first-on, few-corners, nothing-refused, convex-taken}

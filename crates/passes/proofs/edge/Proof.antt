@@ -6,7 +6,7 @@ use borrow.Author.Needs.{needs}
 use denote.Ref.{now}
 use lib.IntN.{pos}
 use lib.ListN.{length, getD}
-use Rattle.corners.specs.Corners.{next}
+use Rattle.convex.specs.Corners.{next}
 use Rattle.passes.specs.Tags.{stroke, edgeOf}
 use Rattle.passes.proofs.Outlines.{read-stroke, next-below}
 use Rattle.passes.proofs.edge.Statement.{statement}

@@ -16,7 +16,7 @@ use Rattle.whole.proofs.Comparisons.{back}
 use Rattle.grid.specs.Table.{farthest}
 use Rattle.grid.specs.declared.Window.{Window}
 use Rattle.rings.specs.Cuts.{Cuts}
-use Rattle.corners.specs.Corners.{cornersOf}
+use Rattle.convex.specs.Corners.{cornersOf}
 use Rattle.passes.specs.Orders.{windowOf, linesIn, sidesIn, packed}
 use Rattle.passes.specs.Outlines.{Cutting, Job}
 use Rattle.passes.specs.Tags.{numberOf}

@@ -7,7 +7,7 @@ use lib.ListN.{getD}
 use mir.Syntax.{w32}
 use mir.Val.{toZ, ofZ}
 use Rattle.whole.proofs.Comparisons.{back}
-use Rattle.corners.specs.Corners.{gridPoint}
+use Rattle.convex.specs.Corners.{gridPoint}
 use Rattle.passes.specs.Orders.{windowOf}
 use Rattle.passes.specs.Tags.{numberOf, sideOf}
 use Rattle.passes.specs.Limits.{limitLine}

@@ -6,8 +6,8 @@ use lib.ListN.{length}
 use Rattle.whole.specs.Choice.{Decides}
 use Rattle.rings.specs.Points.{Before}
 use Rattle.rings.specs.Rings.{at}
-use Rattle.corners.specs.Corners.{cornersOf}
-use Rattle.corners.proofs.Places.{count}
+use Rattle.convex.specs.Corners.{cornersOf}
+use Rattle.convex.proofs.Places.{count}
 use Rattle.outlines.proofs.Downhill.{decides-same, ends-inside, FellBack, back-first, back-more, back-on, back-no-more}
 use Rattle.outlines.proofs.OwnCorners.{two-a-corner, own-at}
 use Rattle.outlines.proofs.uncut.down_back.Statement.{statement}

@@ -5,8 +5,8 @@ use denote.Ref.{now}
 use Rattle.whole.specs.Choice.{Decides}
 use Rattle.rings.specs.Points.{Before}
 use Rattle.rings.specs.Rings.{at}
-use Rattle.corners.specs.Corners.{cornersOf}
-use Rattle.corners.proofs.Places.{count}
+use Rattle.convex.specs.Corners.{cornersOf}
+use Rattle.convex.proofs.Places.{count}
 use Rattle.outlines.proofs.Downhill.{decides-same, Fell, falls-first, falls-on, falls-no-more}
 use Rattle.outlines.proofs.OwnCorners.{own-at}
 use Rattle.outlines.proofs.uncut.down_forward.Statement.{statement}

@@ -3,7 +3,7 @@ use mathlib.Core.Path.{subst}
 use native.Mathlib.Omega.{arith}
 use borrow.Author.Needs.{needs}
 use denote.Ref.{now}
-use Rattle.corners.specs.Corners.{cornersOf}
+use Rattle.convex.specs.Corners.{cornersOf}
 use Rattle.outlines.specs.Workers.{LowestIn, Forward}
 use Rattle.outlines.proofs.Downhill.{moved}
 use Rattle.outlines.proofs.OwnCorners.{two-a-corner, lowest-place}

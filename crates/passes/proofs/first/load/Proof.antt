@@ -11,7 +11,7 @@ use lib.ListN.{length, getD}
 use mir.Syntax.{w32}
 use mir.Facts.{toZ-pos}
 use Rattle.whole.proofs.Comparisons.{back}
-use Rattle.corners.specs.Corners.{gridPoint}
+use Rattle.convex.specs.Corners.{gridPoint}
 use Rattle.passes.specs.Tags.{loadedOf}
 use Rattle.passes.specs.Steps.{putAt}
 use Rattle.passes.specs.Runs.{Tagged, tagged, cornerIn, Brought}

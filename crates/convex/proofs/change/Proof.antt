@@ -1,4 +1,4 @@
--- `corners::change` meets its contract: the code's test, of the fields as they are read, is the definition's. Assumes nothing.
+-- `convex::change` meets its contract: the code's test, of the fields as they are read, is the definition's. Assumes nothing.
 use mathlib.Core.Path.{_≡_, sym, ap, _∙_}
 use mathlib.Core.Bool.{Bool, xor}
 use lib.IntN.{pos}
@@ -7,9 +7,9 @@ use mir.Syntax.{w32}
 use mir.Val.{toZ, ofZ}
 use Rattle.whole.specs.Choice.{if_then_else_}
 use Rattle.whole.proofs.Comparisons.{back}
-use Rattle.corners.specs.Workers.{down, changeOf}
-use Rattle.corners.proofs.change.Statement.{statement}
-use Rattle.corners.proofs.change.Tie as tie
+use Rattle.convex.specs.Ways.{down, changeOf}
+use Rattle.convex.proofs.change.Statement.{statement}
+use Rattle.convex.proofs.change.Tie as tie
 
 read : (c : tie.After-struct-told2) → let s = c .before .before .before .before .args in
     xor (ltZ (toZ w32 (ofZ w32 (s .a .y))) (pos 0)) (ltZ (toZ w32 (ofZ w32 (s .b .y))) (pos 0)) ≡ xor (down (s .a)) (down (s .b))

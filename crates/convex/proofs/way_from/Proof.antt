@@ -1,4 +1,4 @@
--- `corners::way_from` meets its contract: the difference of two coordinates of the table fits 32 bits. Assumes nothing.
+-- `convex::way_from` meets its contract: the difference of two coordinates of the table fits 32 bits. Assumes nothing.
 use mathlib.Core.Path.{_≡_, sym, subst}
 use mathlib.Core.List.{List, [], _∷_}
 use Prim.Native.Nat.{ℕ}
@@ -7,10 +7,10 @@ use Rattle.whole.proofs.Expressions.{Env}
 use Rattle.whole.proofs.Machine.{Code, par, sub, machine, need, value}
 use Rattle.whole.proofs.Ranges.{Bounds}
 use Rattle.grid.specs.Table.{farthest}
-use Rattle.corners.specs.Workers.{Short, wayFrom}
-use Rattle.corners.proofs.Places.{way-short}
-use Rattle.corners.proofs.way_from.Statement.{statement}
-use Rattle.corners.proofs.way_from.Tie as tie
+use Rattle.convex.specs.Ways.{Short, wayFrom}
+use Rattle.convex.proofs.Places.{way-short}
+use Rattle.convex.proofs.way_from.Statement.{statement}
+use Rattle.convex.proofs.way_from.Tie as tie
 
 abbrev env : tie.Start → Env
 env c = c .args .a .x ∷ c .args .a .y ∷ c .args .b .x ∷ c .args .b .y ∷ []

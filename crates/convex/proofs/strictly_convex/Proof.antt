@@ -1,4 +1,4 @@
--- `corners::strictly_convex` meets its contract: the loop has found every turn so far going left, and counted the changes, `Walked`. Assumes nothing.
+-- `convex::strictly_convex` meets its contract: the loop has found every turn so far going left, and counted the changes, `Walked`. Assumes nothing.
 use mathlib.Core.Path.{_≡_, sym, ap, _∙_, subst, transport}
 use Prim.Native.Nat.{ℕ, suc, _+_, _-_, _<_}
 use native.Mathlib.Omega.{arith}
@@ -10,13 +10,13 @@ use mir.Syntax.{w32}
 use mir.Val.{toZ, ofZ}
 use mir.Facts.{toZ-ofZ}
 use Rattle.whole.proofs.Ranges.{within-abs, fits-abs}
-use Rattle.corners.specs.Workers.{Short, wayFrom}
-use Rattle.corners.specs.declared.Way.{Way}
-use Rattle.corners.proofs.Places.{read-on}
-use Rattle.corners.proofs.Rounds.{edge-of}
-use Rattle.corners.proofs.Walking.{Walked, closing-is, walked-start, walked-short, few-changes, next-is, last-is, not-turning, walked-more, walked-end}
-use Rattle.corners.proofs.strictly_convex.Statement.{statement}
-use Rattle.corners.proofs.strictly_convex.Tie as tie
+use Rattle.convex.specs.Ways.{Short, wayFrom}
+use Rattle.convex.specs.declared.Way.{Way}
+use Rattle.convex.proofs.Places.{read-on}
+use Rattle.convex.proofs.Rounds.{edge-of}
+use Rattle.convex.proofs.Walking.{Walked, closing-is, walked-start, walked-short, few-changes, next-is, last-is, not-turning, walked-more, walked-end}
+use Rattle.convex.proofs.strictly_convex.Statement.{statement}
+use Rattle.convex.proofs.strictly_convex.Tie as tie
 
 abbrev Inv-loop : tie.InvT-loop
 Inv-loop c n closing edge-x₀ edge-y₀ changes₀ i₀ edge-x edge-y changes i = Walked c (record { x = toZ w32 edge-x; y = toZ w32 edge-y }) changes i

@@ -8,13 +8,13 @@ use borrow.Author.Count.{below-more}
 use lib.Dec.{eqb}
 use lib.IntN.{ℤ}
 use lib.ListN.{length}
-use Rattle.corners.specs.Corners.{cornersOf, strictlyConvex}
-use Rattle.corners.specs.Workers.{CornersOnTable, Short, cornerAt, wayFrom, turnsLeft, changeOf}
-use Rattle.corners.specs.declared.Way.{Way}
-use Rattle.corners.proofs.Places.{corner, count, three-corners}
-use Rattle.corners.proofs.Sums.{sum, sum-most}
-use Rattle.corners.proofs.Rounds.{place-of, edge-of, around, edge-short, edge-again, not-left}
-use Rattle.corners.proofs.Changes.{change-of, change-most, two-changes}
+use Rattle.convex.specs.Corners.{cornersOf, strictlyConvex, CornersOnTable}
+use Rattle.convex.specs.Ways.{Short, cornerAt, wayFrom, turnsLeft, changeOf}
+use Rattle.convex.specs.declared.Way.{Way}
+use Rattle.convex.proofs.Places.{corner, count, three-corners}
+use Rattle.convex.proofs.Sums.{sum, sum-most}
+use Rattle.convex.proofs.Rounds.{place-of, edge-of, around, edge-short, edge-again, not-left}
+use Rattle.convex.proofs.Changes.{change-of, change-most, two-changes}
 
 pub record Walked (zs : List ℤ) (edge : Way) (changes i : ℕ) : Type 0 where
   pub k : ℕ

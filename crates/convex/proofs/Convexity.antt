@@ -6,7 +6,8 @@ use mathlib.Core.Logic.{_↔_, _≢_}
 use Prim.Native.Nat.{ℕ, suc, _*_, _<_, _≤_}
 use native.Mathlib.Omega.{arith}
 use borrow.Author.Tests.{eq-eqb, ne-eqb, eqb-true, eqb-false}
-use lib.Dec.{T, eqb}
+use lib.Dec.{eqb}
+use lib.Ieee.Bits.{is-true}
 use lib.IntN.{ℤ, pos}
 use lib.ListN.{length}
 use lib.Signed.{_<ℤ_, ltZ}
@@ -16,14 +17,10 @@ use Rattle.whole.proofs.Order.{zarith}
 use Rattle.rings.specs.Lists.{All, ∅, _◂_}
 use Rattle.rings.specs.Points.{Point, Left, Proper, det}
 use Rattle.rings.specs.Rings.{at, Edge, along, closing, StrictlyConvex, Ring}
-use Rattle.corners.specs.Corners.{cornersOf, fewest, next, joins, isLeft, strictlyConvex}
-use Rattle.corners.proofs.Places.{every-at, every-of, count}
+use Rattle.convex.specs.Corners.{cornersOf, fewest, next, joins, isLeft, strictlyConvex}
+use Rattle.convex.proofs.Places.{every-at, every-of, count}
 
 -- ---- the test of one corner
-pub is-true : (b : Bool) → T b → b ≡ true
-is-true true t = refl
-is-true false t = absurd t
-
 pub left-yes : {a b p : Point} → isLeft a b p ≡ true → Left a b p
 unfolding isLeft
 left-yes e = record { left = lt-yes refl refl e }

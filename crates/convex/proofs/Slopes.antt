@@ -13,10 +13,10 @@ use Rattle.whole.proofs.Certificates.{gt, gt-by, clash, lt, nn, po, eq, _⊞_, 
 use Rattle.rings.specs.Points.{Point, value, through}
 use Rattle.rings.proofs.Plane.{nought, cycle}
 use Rattle.rings.proofs.Hill.{Up, Down}
-use Rattle.corners.specs.Workers.{Short, wayFrom, crossOf}
-use Rattle.corners.specs.declared.Corner.{Corner}
-use Rattle.corners.specs.declared.Way.{Way}
-use Rattle.corners.proofs.Places.{side-by, pointOf}
+use Rattle.convex.specs.Ways.{Short, wayFrom, crossOf}
+use Rattle.convex.specs.declared.Corner.{Corner}
+use Rattle.convex.specs.declared.Way.{Way}
+use Rattle.convex.proofs.Places.{side-by, pointOf}
 
 abbrev pub east : Point
 east = record { X = pos 32768; Y = negsuc 0; W = pos 0 }

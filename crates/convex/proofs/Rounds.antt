@@ -13,12 +13,12 @@ use Rattle.whole.proofs.Polynomials.{ring}
 use Rattle.rings.specs.Points.{Point, value, through}
 use Rattle.rings.specs.Rings.{at, along, closing}
 use Rattle.rings.proofs.Tours.{Tour, edge-end, again, ring-turns}
-use Rattle.corners.specs.Corners.{cornersOf, next, isLeft, strictlyConvex}
-use Rattle.corners.specs.Workers.{CornersOnTable, Short, wayFrom, turnsLeft}
-use Rattle.corners.specs.declared.Corner.{Corner}
-use Rattle.corners.specs.declared.Way.{Way}
-use Rattle.corners.proofs.Places.{side-by, cross-by, pointOf, corner, point-at, three-corners, corner-on, way-short}
-use Rattle.corners.proofs.Convexity.{left-is, convex-yes, next-edge, edge-next}
+use Rattle.convex.specs.Corners.{cornersOf, next, isLeft, strictlyConvex, CornersOnTable}
+use Rattle.convex.specs.Ways.{Short, wayFrom, turnsLeft}
+use Rattle.convex.specs.declared.Corner.{Corner}
+use Rattle.convex.specs.declared.Way.{Way}
+use Rattle.convex.proofs.Places.{side-by, cross-by, pointOf, corner, point-at, three-corners, corner-on, way-short}
+use Rattle.convex.proofs.Convexity.{left-is, convex-yes, next-edge, edge-next}
 
 -- ---- round n places, from the last
 abbrev round : ℕ → ℕ → ℕ

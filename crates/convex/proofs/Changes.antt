@@ -18,14 +18,14 @@ use Rattle.rings.specs.Rings.{StrictlyConvex}
 use Rattle.rings.proofs.Hill.{Up, Down}
 use Rattle.rings.proofs.Rises.{Rise}
 use Rattle.rings.proofs.Tours.{ring-rises, turns-on, ring-of-rise}
-use Rattle.corners.specs.Corners.{cornersOf, strictlyConvex}
-use Rattle.corners.specs.Workers.{CornersOnTable, crossOf, turnsLeft, down, changeOf}
-use Rattle.corners.specs.declared.Way.{Way}
-use Rattle.corners.proofs.Places.{corner, three-corners}
-use Rattle.corners.proofs.Convexity.{left-yes, left-is, convex-yes, convex-is, all-proper}
-use Rattle.corners.proofs.Sums.{sum, Counts, one, none, sum-once, once-sum}
-use Rattle.corners.proofs.Slopes.{east, slope, down-slope, up-slope, sloping, rise-slopes, slopes-rise}
-use Rattle.corners.proofs.Rounds.{place-of, point-of, edge-of, around, point, edge-short, edge-again, turn-same}
+use Rattle.convex.specs.Corners.{cornersOf, strictlyConvex, CornersOnTable}
+use Rattle.convex.specs.Ways.{crossOf, turnsLeft, down, changeOf}
+use Rattle.convex.specs.declared.Way.{Way}
+use Rattle.convex.proofs.Places.{corner, three-corners}
+use Rattle.convex.proofs.Convexity.{left-yes, left-is, convex-yes, convex-is, all-proper}
+use Rattle.convex.proofs.Sums.{sum, Counts, one, none, sum-once, once-sum}
+use Rattle.convex.proofs.Slopes.{east, slope, down-slope, up-slope, sloping, rise-slopes, slopes-rise}
+use Rattle.convex.proofs.Rounds.{place-of, point-of, edge-of, around, point, edge-short, edge-again, turn-same}
 
 abbrev pub change-of : List ℤ → ℕ → ℕ
 change-of zs i = changeOf (edge-of zs i) (edge-of zs (suc i))

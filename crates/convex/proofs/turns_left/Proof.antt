@@ -1,4 +1,4 @@
--- `corners::turns_left` meets its contract: the two products fit 32 bits, and one is less than the other where the difference is positive. Assumes nothing.
+-- `convex::turns_left` meets its contract: the two products fit 32 bits, and one is less than the other where the difference is positive. Assumes nothing.
 use mathlib.Core.Path.{_∙_}
 use mathlib.Core.List.{List, [], _∷_}
 use Prim.Native.Nat.{ℕ}
@@ -9,9 +9,9 @@ use Rattle.whole.proofs.Comparisons.{diff-test}
 use Rattle.whole.proofs.Expressions.{Env}
 use Rattle.whole.proofs.Machine.{Code, par, mul, need, value}
 use Rattle.whole.proofs.Ranges.{Bounds}
-use Rattle.corners.specs.Workers.{turnsLeft}
-use Rattle.corners.proofs.turns_left.Statement.{statement}
-use Rattle.corners.proofs.turns_left.Tie as tie
+use Rattle.convex.specs.Ways.{turnsLeft}
+use Rattle.convex.proofs.turns_left.Statement.{statement}
+use Rattle.convex.proofs.turns_left.Tie as tie
 
 abbrev env : tie.Start → Env
 env c = c .args .a .x ∷ c .args .a .y ∷ c .args .b .x ∷ c .args .b .y ∷ []
