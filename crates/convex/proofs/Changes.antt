@@ -72,10 +72,14 @@ module _ {zs : List ℤ} (g : CornersOnTable zs) where
   twice = omega (arith, balance n, ap (λ (w : Way). one-if (down w)) (edge-again g))
 
   down-same : (i : ℕ) → (slope (edge i) <ℤ pos 0) ↔ Down east (point-of zs i) (point-of zs (suc i))
-  down-same i = transport (λ t. (slope (edge i) <ℤ pos 0) ↔ Down east (sym (point g i) t) (sym (point g (suc i)) t)) (down-slope (corner zs (place-of zs i)) (corner zs (place-of zs (suc i))))
+  down-same i =
+      transport (λ t. (slope (edge i) <ℤ pos 0) ↔ Down east (sym (point g i) t) (sym (point g (suc i)) t))
+      (down-slope (corner zs (place-of zs i)) (corner zs (place-of zs (suc i))))
 
   up-same : (i : ℕ) → (pos 0 <ℤ slope (edge i)) ↔ Up east (point-of zs i) (point-of zs (suc i))
-  up-same i = transport (λ t. (pos 0 <ℤ slope (edge i)) ↔ Up east (sym (point g i) t) (sym (point g (suc i)) t)) (up-slope (corner zs (place-of zs i)) (corner zs (place-of zs (suc i))))
+  up-same i =
+      transport (λ t. (pos 0 <ℤ slope (edge i)) ↔ Up east (sym (point g i) t) (sym (point g (suc i)) t))
+      (up-slope (corner zs (place-of zs i)) (corner zs (place-of zs (suc i))))
 
   module _ (all : (i : ℕ) → i < length (cornersOf zs) → turnsLeft (edge-of zs i) (edge-of zs (suc i)) ≡ true) where
     left : (i : ℕ) → i < n → Left (point-of zs i) (point-of zs (suc i)) (point-of zs (suc (suc i)))
@@ -98,7 +102,9 @@ module _ {zs : List ℤ} (g : CornersOnTable zs) where
         signs r = slopes-rise (edge-short g i) (edge-short g (suc i)) (crossing i) (down-same i .1 (r .0)) (up-same (suc i) .1 (r .1))
 
         go : (x y : Bool) → down (edge i) ≡ x → down (edge (suc i)) ≡ y → Counts (Rise east (point-of zs) i) (one-if (x && not y))
-        go true false e f = let s = rise-slopes (edge-short g i) (edge-short g (suc i)) (crossing i) (lt-yes refl refl e) (lt-no refl refl f) in one (down-same i .0 (s .0), up-same (suc i) .0 (s .1))
+        go true false e f =
+            let s = rise-slopes (edge-short g i) (edge-short g (suc i)) (crossing i) (lt-yes refl refl e) (lt-no refl refl f) in
+            one (down-same i .0 (s .0), up-same (suc i) .0 (s .1))
         go true true e f = none (λ r. let l = signs r .1 in let m : edge (suc i) .y <ℤ pos 0 = lt-yes refl refl f in omega zarith)
         go false y e f = none (λ r. let l = signs r .0 in let m : pos 0 ≤ℤ edge i .y = lt-no refl refl e in omega zarith)
 

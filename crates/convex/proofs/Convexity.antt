@@ -56,7 +56,8 @@ pub convex-yes : (r : List Point) → strictlyConvex r ≡ true → StrictlyConv
 unfolding strictlyConvex
 convex-yes r e = record {
   left-of = λ i k j g h ni nk.
-      let t : (joins (length r) i j || isLeft (at r i) (at r (next (length r) i)) (at r j)) ≡ true = every-at (length r) _ (every-at (length r) _ e i (edge-below g)) j h in
+      let t : (joins (length r) i j || isLeft (at r i) (at r (next (length r) i)) (at r j)) ≡ true = every-at (length r) _
+      (every-at (length r) _ e i (edge-below g)) j h in
       left-yes (subst (λ (m : ℕ). isLeft (at r i) (at r m) (at r j) ≡ true) (edge-next g) (rw (not-joined g ni nk) at t));
 }
 
@@ -64,7 +65,8 @@ pub convex-is : (r : List Point) → StrictlyConvex r → strictlyConvex r ≡ t
 unfolding strictlyConvex joins
 convex-is r c = every-of (length r) _ (λ i hi. every-of (length r) _ (λ j hj. go i hi j hj (eqb j i) (eqb j (next (length r) i)) refl refl))
   where
-    go : (i : ℕ) → i < length r → (j : ℕ) → j < length r → (x y : Bool) → eqb j i ≡ x → eqb j (next (length r) i) ≡ y → ((x || y) || isLeft (at r i) (at r (next (length r) i)) (at r j)) ≡ true
+    go : (i : ℕ) → i < length r → (j : ℕ) → j < length r → (x y : Bool) → eqb j i ≡ x → eqb j (next (length r) i) ≡ y
+        → ((x || y) || isLeft (at r i) (at r (next (length r) i)) (at r j)) ≡ true
     go i hi j hj true y e f = refl
     go i hi j hj false true e f = refl
     go i hi j hj false false e f = left-is (c .left-of i (next (length r) i) j (next-edge hi) hj (eqb-false j i e) (eqb-false j (next (length r) i) f))

@@ -45,7 +45,8 @@ edge-of zs i = wayFrom (corner zs (place-of zs i)) (corner zs (place-of zs (suc 
 
 step-left : (a b p : Corner) → turnsLeft (wayFrom a b) (wayFrom b p) ≡ isLeft (pointOf a) (pointOf b) (pointOf p)
 unfolding turnsLeft isLeft value through
-step-left a b p = ap (ltZ (pos 0)) (ring (a .x ∷ a .y ∷ b .x ∷ b .y ∷ p .x ∷ p .y ∷ []) (cross-by 0 2 2 4) (side-by (var 0) (var 1) (var 2) (var 3) (var 4) (var 5) (con (pos 1))) tt)
+step-left a b p =
+    ap (ltZ (pos 0)) (ring (a .x ∷ a .y ∷ b .x ∷ b .y ∷ p .x ∷ p .y ∷ []) (cross-by 0 2 2 4) (side-by (var 0) (var 1) (var 2) (var 3) (var 4) (var 5) (con (pos 1))) tt)
 
 module _ {zs : List ℤ} (g : CornersOnTable zs) where
   some : 1 ≤ length (cornersOf zs)
@@ -70,7 +71,9 @@ module _ {zs : List ℤ} (g : CornersOnTable zs) where
       back = again (cornersOf zs) (three-corners g) around
 
   pub turn-same : (i : ℕ) → turnsLeft (edge-of zs i) (edge-of zs (suc i)) ≡ isLeft (point-of zs i) (point-of zs (suc i)) (point-of zs (suc (suc i)))
-  turn-same i = step-left (corner zs (place-of zs i)) (corner zs (place-of zs (suc i))) (corner zs (place-of zs (suc (suc i)))) ∙ sym (λ t. isLeft (point i t) (point (suc i) t) (point (suc (suc i)) t))
+  turn-same i =
+      step-left (corner zs (place-of zs i)) (corner zs (place-of zs (suc i))) (corner zs (place-of zs (suc (suc i))))
+      ∙ sym (λ t. isLeft (point i t) (point (suc i) t) (point (suc (suc i)) t))
 
   pub not-left : (i : ℕ) → turnsLeft (edge-of zs i) (edge-of zs (suc i)) ≡ false → strictlyConvex (cornersOf zs) ≡ false
   not-left i e = go (strictlyConvex (cornersOf zs)) refl

@@ -1,4 +1,5 @@
--- Up and down of edges are told by a point infinitely far to the right, turned down by less than any edge of the table: an edge that is level goes up where it goes right.
+-- Up and down of edges are told by a point infinitely far to the right, turned down by less
+-- than any edge of the table: an edge that is level goes up where it goes right.
 -- At a left turn the edges begin to go up, so told, where the first has y < 0 and the second has not.
 use mathlib.Core.Path.{_≡_}
 use mathlib.Core.List.{[], _∷_}

@@ -43,7 +43,13 @@ module _ {A : ℕ → Type 0} (f : ℕ → ℕ) (c : (i : ℕ) → Counts (A i) 
     where
       go : {m : ℕ} → Counts (A n) m → sum n f + m ≡ 1 → (sum n f ≡ 1 → Once n A) → Once (suc n) A
       go (one a) z earlier = record { k = n; below = omega arith; holds = a; only = λ i l d. sum-never n (omega arith) i (omega arith) }
-      go (none d) z earlier = let o = earlier (omega arith) in record { k = o .k; below = omega (arith, o .below); holds = o .holds; only = λ i l m. below-more (λ (i : ℕ). i ≢ o .k → A i → ⊥) n (o .only) (λ m. d) i (omega arith) m }
+      go (none d) z earlier =
+          let o = earlier (omega arith) in record {
+            k = o .k;
+            below = omega (arith, o .below);
+            holds = o .holds;
+            only = λ i l m. below-more (λ (i : ℕ). i ≢ o .k → A i → ⊥) n (o .only) (λ m. d) i (omega arith) m;
+          }
 
   pub once-sum : (n : ℕ) → Once n A → sum n f ≡ 1
   once-sum zero o = absurd (omega (arith, o .below))
@@ -53,4 +59,5 @@ module _ {A : ℕ → Type 0} (f : ℕ → ℕ) (c : (i : ℕ) → Counts (A i) 
       go (one a) (yes e) earlier = omega (arith, never-sum n (λ i l. o .only i (omega arith) (omega arith)))
       go (one a) (no d) earlier = absurd (o .only n (omega arith) (omega arith) a)
       go (none d) (yes e) earlier = absurd (d (subst A e (o .holds)))
-      go (none d) (no k) earlier = omega (arith, earlier (record { k = o .k; below = omega (arith, o .below); holds = o .holds; only = λ i l m. o .only i (omega arith) m }))
+      go (none d) (no k) earlier =
+          omega (arith, earlier (record { k = o .k; below = omega (arith, o .below); holds = o .holds; only = λ i l m. o .only i (omega arith) m }))

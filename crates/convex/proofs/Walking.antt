@@ -43,11 +43,14 @@ module _ {zs : List ℤ} (g : CornersOnTable zs) where
     walked-short = subst Short (sym (w .edge-is)) (edge-short g (w .k))
 
     pub few-changes : (next : Way) → changes + changeOf edge next ≤ length zs
-    few-changes next = omega (arith, w .changes-is, w .upto, count zs, sum-most (change-of zs) (λ j. change-most (edge-of zs j) (edge-of zs (suc j))) (w .k), change-most edge next)
+    few-changes next =
+        omega (arith, w .changes-is, w .upto, count zs, sum-most (change-of zs) (λ j. change-most (edge-of zs j) (edge-of zs (suc j))) (w .k), change-most edge next)
 
     -- the edge to the corner at i
     pub next-is : i < length zs → {next : Way} → next ≡ wayFrom (cornerAt zs (i - 2)) (cornerAt zs i) → next ≡ edge-of zs (suc (w .k))
-    next-is h e = e ∙ (λ t. wayFrom (cornerAt zs (from t)) (cornerAt zs (w .place t))) ∙ (λ t. wayFrom (here (w .k) (w .upto) t) (here (suc (w .k)) (omega (arith, w .place, count zs, g .even)) t))
+    next-is h e =
+        e ∙ (λ t. wayFrom (cornerAt zs (from t)) (cornerAt zs (w .place t)))
+        ∙ (λ t. wayFrom (here (w .k) (w .upto) t) (here (suc (w .k)) (omega (arith, w .place, count zs, g .even)) t))
       where
         from : i - 2 ≡ 2 * w .k
         from = omega (arith, w .place)
@@ -64,13 +67,22 @@ module _ {zs : List ℤ} (g : CornersOnTable zs) where
       not-turning e = not-left g (w .k) (sym (λ t. turnsLeft (w .edge-is t) (n t)) ∙ e)
 
       turned : turnsLeft edge next ≡ true → (j : ℕ) → j < suc (w .k) → turnsLeft (edge-of zs j) (edge-of zs (suc j)) ≡ true
-      turned e j h = below-more (λ (j : ℕ). turnsLeft (edge-of zs j) (edge-of zs (suc j)) ≡ true) (w .k) (w .left) (sym (λ t. turnsLeft (w .edge-is t) (n t)) ∙ e) j (omega arith)
+      turned e j h =
+          below-more (λ (j : ℕ). turnsLeft (edge-of zs j) (edge-of zs (suc j)) ≡ true) (w .k) (w .left) (sym (λ t. turnsLeft (w .edge-is t) (n t)) ∙ e) j (omega arith)
 
       counted : changes + changeOf edge next ≡ sum (suc (w .k)) (change-of zs)
       counted = λ t. w .changes-is t + changeOf (w .edge-is t) (n t)
 
       pub walked-more : i < length zs → turnsLeft edge next ≡ true → Walked zs next (changes + changeOf edge next) (i + 2)
-      walked-more h e = record { k = suc (w .k); place = omega (arith, w .place); upto = omega (arith, w .place, count zs, g .even); edge-is = n; left = turned e; changes-is = counted }
+      walked-more h e = record {
+        k = suc (w .k);
+        place = omega (arith, w .place);
+        upto = omega (arith, w .place, count zs, g .even);
+        edge-is = n;
+        left = turned e;
+        changes-is = counted;
+      }
 
       pub walked-end : length zs ≤ i → turnsLeft edge next ≡ true → eqb (changes + changeOf edge next) 2 ≡ strictlyConvex (cornersOf zs)
-      walked-end h e = ap (λ (c : ℕ). eqb c 2) (counted ∙ ap (λ (n : ℕ). sum n (change-of zs)) (all-walked h)) ∙ two-changes g (λ j l. turned e j (omega (arith, all-walked h)))
+      walked-end h e =
+          ap (λ (c : ℕ). eqb c 2) (counted ∙ ap (λ (n : ℕ). sum n (change-of zs)) (all-walked h)) ∙ two-changes g (λ j l. turned e j (omega (arith, all-walked h)))

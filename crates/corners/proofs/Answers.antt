@@ -31,7 +31,8 @@ module _ {A : ℕ} {cs : List Point} {s : Stroke} {span : Span} (g : SpanOf A (K
     pub last-time : Time (span .last .num) (span .last .den)
     last-time = in-time (g .proper) (g .proper .den1) (in-last g (less-left (span .last) (span .first) e))
 
-    pub clip-kept : {f l : Fraction} → LowestOf (span .first .num) (span .first .den) f → LowestOf (span .last .num) (span .last .den) l → CornerClipped cs s (record { number = 0; place = 0; kept = true; t0 = f; t1 = l })
+    pub clip-kept : {f l : Fraction} → LowestOf (span .first .num) (span .first .den) f → LowestOf (span .last .num) (span .last .den) l
+        → CornerClipped cs s (record { number = 0; place = 0; kept = true; t0 = f; t1 = l })
     clip-kept p q = record { number = refl; place = refl; part = span-part g (less-left (span .last) (span .first) e) p q }
 
 pub clip-unique : {cs : List Point} {s : Stroke} {a b : CornerAnswer} → CornerClipped cs s a → CornerClipped cs s b → a ≡ b

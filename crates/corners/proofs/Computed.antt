@@ -38,7 +38,8 @@ spanOf zs s (suc k) =
     let b = corner zs k in
     cutBy (edgeP a b s) (edgeQ a b s) (spanOf zs s k)
 
-folded : {zs : List ℤ} {s : Stroke} → CornersOnTable zs → StrokeOnTable s → (k : ℕ) → k ≤ length (cornersOf zs) → Folded zs s (corner zs (before k (length (cornersOf zs)))) (spanOf zs s k) (2 * k)
+folded : {zs : List ℤ} {s : Stroke} → CornersOnTable zs → StrokeOnTable s → (k : ℕ) → k ≤ length (cornersOf zs)
+    → Folded zs s (corner zs (before k (length (cornersOf zs)))) (spanOf zs s k) (2 * k)
 unfolding spanOf
 folded g hs zero h = record { k = 0; place = refl; upto = h; corner-is = refl; span-of = span-start }
 folded {zs} {s} g hs (suc k) h =

@@ -97,10 +97,15 @@ module _ {cs : List Point} {s : Stroke} where
   span-more {k} {a} {b} {span} {after} ea eb ha hb hs g c = record {
     proper = c .proper;
     sized = c .sized largest (omega arith) (p-within a b s ha hb hs) (q-within a b s ha hb hs) (g .sized);
-    stays = λ n d e. c .stays n d (e .time .den) (g .stays n d (record { time = e .time; left = λ j l. e .left j (omega arith) })) (kept-edge a b s n d (transport⁻¹ (same n d) (e .left k (omega arith))));
+    stays = λ n d e.
+        let earlier : Entered cs s k n d = record { time = e .time; left = λ j l. e .left j (omega arith) } in
+        c .stays n d (e .time .den) (g .stays n d earlier) (kept-edge a b s n d (transport⁻¹ (same n d) (e .left k (omega arith))));
     keeps = λ n d h i.
         let e = g .keeps n d h (c .part n d h i) in
-        record { time = e .time; left = λ j l. below-more (λ (j : ℕ). LeftOn (at cs (before j (length cs))) (at cs j) (pointAt s n d)) k (e .left) (transport (same n d) (edge-keeps a b s n d (c .side n d h i))) j (omega arith) };
+        let last = transport (same n d) (edge-keeps a b s n d (c .side n d h i)) in record {
+          time = e .time;
+          left = λ j l. below-more (λ (j : ℕ). LeftOn (at cs (before j (length cs))) (at cs j) (pointAt s n d)) k (e .left) last j (omega arith);
+        };
   }
     where
       same : (n d : ℤ) → LeftOn (pointOf a) (pointOf b) (pointAt s n d) ≡ LeftOn (at cs (before k (length cs))) (at cs k) (pointAt s n d)
@@ -134,7 +139,8 @@ module _ {zs : List ℤ} (g : CornersOnTable zs) where
     pub corner-before : CornerOnTable a
     corner-before = subst CornerOnTable (sym (f .corner-is)) (corner-on g _ earlier)
 
-    pub folded-more : {b : Corner} {after : Span} → StrokeOnTable s → i < length zs → b ≡ cornerAt zs i → SpanCut (edgeP a b s) (edgeQ a b s) span after → Folded zs s b after (i + 2)
+    pub folded-more : {b : Corner} {after : Span} → StrokeOnTable s → i < length zs → b ≡ cornerAt zs i
+        → SpanCut (edgeP a b s) (edgeQ a b s) span after → Folded zs s b after (i + 2)
     folded-more {b} {after} hs h e c = record {
       k = suc (f .k);
       place = omega (arith, f .place);

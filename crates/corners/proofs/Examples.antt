@@ -6,7 +6,7 @@ use lib.IntN.{ℤ, pos, negsuc}
 use Rattle.fraction.specs.declared.Fraction.{Fraction}
 use Rattle.fraction.specs.Fraction.{lessThan}
 use Rattle.fraction.proofs.Computed.{euclid, lowestOf}
-use Rattle.grid.specs.Refusals.{refuse, none, first, offTable, strokeRefusal}
+use Rattle.grid.specs.Refusals.{noWindow, refuse, none, first, offTable, strokeRefusal}
 use Rattle.grid.specs.Table.{onTable, firstOff}
 use Rattle.grid.specs.declared.Stroke.{Stroke}
 use Rattle.rings.specs.Lists.{All, ∅, _◂_}
@@ -45,17 +45,20 @@ square = pos 0 ∷ pos 0 ∷ pos 10 ∷ pos 0 ∷ pos 10 ∷ pos 10 ∷ pos 0 �
 abbrev slant : Stroke
 slant = from (negsuc 0) (pos 1) (pos 3) (pos 3)
 
+abbrev no-window : List ℤ → Example
+no-window zs = record { corners = zs; stroke = slant; expected = blankAnswer (refuse noWindow 0) }
+
 unfoldable pub table : List Example
 table =
     record { corners = hexagon; stroke = slant; expected = kept (over (pos 1) (pos 4)) (over (pos 3) (pos 4)) }
     -- clockwise; a star, which turns left at all five corners; a repeated corner; three corners on a line
-    ∷ record { corners = pos 1 ∷ pos 0 ∷ pos 0 ∷ pos 1 ∷ pos 0 ∷ pos 2 ∷ pos 1 ∷ pos 3 ∷ pos 2 ∷ pos 3 ∷ pos 2 ∷ pos 0 ∷ []; stroke = slant; expected = blankAnswer (refuse 3 0) }
-    ∷ record { corners = pos 0 ∷ pos 3 ∷ negsuc 1 ∷ negsuc 2 ∷ pos 3 ∷ pos 1 ∷ negsuc 2 ∷ pos 1 ∷ pos 2 ∷ negsuc 2 ∷ []; stroke = slant; expected = blankAnswer (refuse 3 0) }
-    ∷ record { corners = pos 0 ∷ pos 0 ∷ pos 10 ∷ pos 0 ∷ pos 10 ∷ pos 0 ∷ pos 0 ∷ pos 10 ∷ []; stroke = slant; expected = blankAnswer (refuse 3 0) }
-    ∷ record { corners = pos 0 ∷ pos 0 ∷ pos 5 ∷ pos 0 ∷ pos 10 ∷ pos 0 ∷ pos 0 ∷ pos 10 ∷ []; stroke = slant; expected = blankAnswer (refuse 3 0) }
+    ∷ no-window (pos 1 ∷ pos 0 ∷ pos 0 ∷ pos 1 ∷ pos 0 ∷ pos 2 ∷ pos 1 ∷ pos 3 ∷ pos 2 ∷ pos 3 ∷ pos 2 ∷ pos 0 ∷ [])
+    ∷ no-window (pos 0 ∷ pos 3 ∷ negsuc 1 ∷ negsuc 2 ∷ pos 3 ∷ pos 1 ∷ negsuc 2 ∷ pos 1 ∷ pos 2 ∷ negsuc 2 ∷ [])
+    ∷ no-window (pos 0 ∷ pos 0 ∷ pos 10 ∷ pos 0 ∷ pos 10 ∷ pos 0 ∷ pos 0 ∷ pos 10 ∷ [])
+    ∷ no-window (pos 0 ∷ pos 0 ∷ pos 5 ∷ pos 0 ∷ pos 10 ∷ pos 0 ∷ pos 0 ∷ pos 10 ∷ [])
     -- two corners; an odd length, before the number off the table; a number off the table, before the turn; the stroke last
-    ∷ record { corners = pos 0 ∷ pos 0 ∷ pos 10 ∷ pos 0 ∷ []; stroke = slant; expected = blankAnswer (refuse 3 0) }
-    ∷ record { corners = pos 16384 ∷ pos 0 ∷ pos 10 ∷ pos 0 ∷ pos 10 ∷ pos 10 ∷ pos 0 ∷ []; stroke = slant; expected = blankAnswer (refuse 3 0) }
+    ∷ no-window (pos 0 ∷ pos 0 ∷ pos 10 ∷ pos 0 ∷ [])
+    ∷ no-window (pos 16384 ∷ pos 0 ∷ pos 10 ∷ pos 0 ∷ pos 10 ∷ pos 10 ∷ pos 0 ∷ [])
     ∷ record { corners = pos 0 ∷ pos 0 ∷ pos 0 ∷ pos 10 ∷ pos 10 ∷ negsuc 16383 ∷ []; stroke = slant; expected = blankAnswer (refuse 2 5) }
     ∷ record { corners = square; stroke = from (pos 0) (pos 16384) (pos 0) (pos 16384); expected = blankAnswer (refuse 6 1) }
     -- along an edge's line, on it and beside it; through a corner only; no length, on a corner and off it
@@ -67,7 +70,8 @@ table =
     ∷ []
 
 computes : All (λ e. answer (e .corners) (e .stroke) ≡ e .expected) table
-unfolding table answer spanOf clipOf cutBy lessThan euclid lowestOf cyrusBeckRefusal first countRefusal rightCount offTable firstOff onTable convexRefusal strictlyConvex every next joins isLeft cornersOf value through strokeRefusal
+unfolding table answer spanOf clipOf cutBy lessThan euclid lowestOf cyrusBeckRefusal first countRefusal rightCount offTable
+    firstOff onTable convexRefusal strictlyConvex every next joins isLeft cornersOf value through strokeRefusal
 computes = refl ◂ refl ◂ refl ◂ refl ◂ refl ◂ refl ◂ refl ◂ refl ◂ refl ◂ refl ◂ refl ◂ refl ◂ refl ◂ refl ◂ ∅
 
 pub examples : All (λ e. (a : CornerAnswer) → CyrusBeck (e .corners) (e .stroke) a → a ≡ e .expected) table

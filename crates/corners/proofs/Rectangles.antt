@@ -186,10 +186,12 @@ module _ {w : Window} {s : Stroke} (hw : WindowOnTable w) (hs : StrokeOnTable s)
 
   taken : {zs : List ℤ} → RectangleCorners w zs → cyrusBeckRefusal zs s .number ≡ 0
   unfolding cyrusBeckRefusal first countRefusal convexRefusal strokeRefusal rightCount
-  taken k = simp (turned-length (numbers w k), none-off windowOff (within k), convex w (hw .wide) (hw .tall) k, none-off numberOff (hs .x1 ◂ hs .y1 ◂ hs .x2 ◂ hs .y2 ◂ ∅))
+  taken k =
+      simp (turned-length (numbers w k), none-off windowOff (within k), convex w (hw .wide) (hw .tall) k, none-off numberOff (hs .x1 ◂ hs .y1 ◂ hs .x2 ◂ hs .y2 ◂ ∅))
 
   -- ---- the call's answer for the corners says what K, the window's own condition, keeps
-  pub rectangle : {zs : List ℤ} {K : ℤ → ℤ → Type 0} {a : CornerAnswer} → RectangleCorners w zs → ((n d : ℤ) → KeepsInWindow w s n d ↔ K n d) → CyrusBeck zs s a → (a .number ≡ 0) × Part K (a .kept) (a .t0) (a .t1)
+  pub rectangle : {zs : List ℤ} {K : ℤ → ℤ → Type 0} {a : CornerAnswer} → RectangleCorners w zs → ((n d : ℤ) → KeepsInWindow w s n d ↔ K n d)
+      → CyrusBeck zs s a → (a .number ≡ 0) × Part K (a .kept) (a .t0) (a .t1)
   rectangle k e h =
       let c = h .done (taken k) in
       (c .number, part-same e (part-same (keeps-same w (hw .wide) (hw .tall) s k) (c .part)))

@@ -20,7 +20,8 @@ nothing-refused zs s e =
     let p = all-done (countRefusal mostWindowCorners noWindow zs) _ e in
     let q = all-done (offTable windowOff zs) _ (p .1) in
     let r = all-done (convexRefusal noWindow zs) _ (q .1) in (
-      counted-on-table mostWindowCorners zs (omega arith) (count-passed mostWindowCorners noWindow zs (omega arith) (p .0)) (nothing-off windowOff zs (omega arith) (q .0)),
+      counted-on-table mostWindowCorners zs (omega arith) (count-passed mostWindowCorners noWindow zs (omega arith) (p .0))
+          (nothing-off windowOff zs (omega arith) (q .0)),
       stroke-on-table s (all-done (strokeRefusal s) [] (r .1) .0),
     )
 

@@ -51,7 +51,11 @@ alike-ccw ∅ˢ ∅ᶜ = ∅ᶜ
 alike-ccw (e ◂ˢ a) (q ◂ᶜ c) = alike-pairs e a q ◂ᶜ alike-ccw a c
 
 pub alike-ring : {r s : List Point} → Alike r s → Ring r → Ring s
-alike-ring a g = record { three = let e = alike-length a in let k = g .three in omega arith; proper = alike-proper a; convex = convex-of-ccw (alike-ccw a (ccw-of-convex (g .convex))) }
+alike-ring a g = record {
+  three = let e = alike-length a in let k = g .three in omega arith;
+  proper = alike-proper a;
+  convex = convex-of-ccw (alike-ccw a (ccw-of-convex (g .convex)));
+}
 
 module _ {p : Point} where
   alike-walk : {u u′ z z′ : Point} {r s : List Point} → Same u u′ → Alike r s → Same z z′ → Walk (λ a b. LeftOn a b p) u r z → Walk (λ a b. LeftOn a b p) u′ s z′
@@ -74,7 +78,8 @@ module _ {h : Line} where
   alike-kept e (goes o) (goes n) = ∅ˢ
 
   alike-added : {u u′ v v′ : Point} {a b : List Point} → Same u u′ → Same v v′ → Added h u v a → Added h u′ v′ b → Alike a b
-  alike-added e f (crossed x cx) (crossed y cy) = crossings-same (e .second) (f .second) y (same-crossing e f (same-refl (between-proper (cx .between) (e .first) (f .first))) cx) cy ◂ˢ ∅ˢ
+  alike-added e f (crossed x cx) (crossed y cy) =
+      crossings-same (e .second) (f .second) y (same-crossing e f (same-refl (between-proper (cx .between) (e .first) (f .first))) cx) cy ◂ˢ ∅ˢ
   alike-added e f (crossed x cx) (uncrossed n) = absurd (n (same-across e f x))
   alike-added e f (uncrossed n) (crossed y cy) = absurd (n (same-across (same-sym e) (same-sym f) y))
   alike-added e f (uncrossed n) (uncrossed m) = ∅ˢ

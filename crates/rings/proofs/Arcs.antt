@@ -1,4 +1,5 @@
--- How a counterclockwise list that starts inside a line lies to it: all inside, or, started elsewhere, one corner inside, a run outside, a run inside; else two diagonals would not cross.
+-- How a counterclockwise list that starts inside a line lies to it: all inside, or, started
+-- elsewhere, one corner inside, a run outside, a run inside; else two diagonals would not cross.
 use mathlib.Core.Path.{_≡_, refl, sym, ap, subst}
 use mathlib.Core.List.{List, [], _∷_, _++_}
 use mathlib.Core.Logic.{_⊎_, inl, inr, ⊎-elim}
@@ -13,7 +14,8 @@ use Rattle.rings.proofs.Convex.{CCW, _◂ᶜ_, ccw-part, ccw-turn, ccw-
 pub data Arc (h : Line) (r : List Point) : Type 0 where
   inside : All (In h) r → Arc h r
   one-run : (l n : Point) (ns : List Point) → Turned r (l ∷ n ∷ ns) → In h l → All (Out h) (n ∷ ns) → Arc h r
-  two-runs : (l n : Point) (ns : List Point) (f : Point) (q : List Point) → Turned r (l ∷ n ∷ (ns ++ (f ∷ q))) → In h l → All (Out h) (n ∷ ns) → All (In h) (f ∷ q) → Arc h r
+  two-runs : (l n : Point) (ns : List Point) (f : Point) (q : List Point) → Turned r (l ∷ n ∷ (ns ++ (f ∷ q))) → In h l → All (Out h) (n ∷ ns)
+      → All (In h) (f ∷ q) → Arc h r
 
 module _ (h : Line) where
   pub in-out : (u : Point) → In h u ⊎ Out h u
@@ -56,13 +58,17 @@ module _ (h : Line) where
   no-four (((abc ◂ (abd ◂ ∅)) ◂ᵖ ((acd ◂ ∅) ◂ᵖ q)) ◂ᶜ (((bcd ◂ ∅) ◂ᵖ p) ◂ᶜ e)) ha hb hc hd = diagonals h bcd abd acd abc ha hb hc hd
 
   -- three corners with runs between them, and one of the rest
-  with-one : {a b c x : Point} (xs ys front back : List Point) {q : List Point} → CCW (a ∷ (xs ++ (b ∷ (ys ++ (c ∷ q))))) → q ≡ front ++ (x ∷ back) → CCW (a ∷ b ∷ c ∷ x ∷ [])
-  with-one {x = x} xs ys front back k e = ccw-part (take (part-right xs (take (part-right ys (take (subst (λ q. (x ∷ []) ⊑ q) (sym e) (part-right front (take done)))))))) k
+  with-one : {a b c x : Point} (xs ys front back : List Point) {q : List Point} → CCW (a ∷ (xs ++ (b ∷ (ys ++ (c ∷ q))))) → q ≡ front ++ (x ∷ back)
+      → CCW (a ∷ b ∷ c ∷ x ∷ [])
+  with-one {x = x} xs ys front back k e =
+      ccw-part (take (part-right xs (take (part-right ys (take (subst (λ q. (x ∷ []) ⊑ q) (sym e) (part-right front (take done)))))))) k
 
-  pub rest-inside : {u f : Point} (n : Point) (r ns : List Point) {q : List Point} → CCW (u ∷ (r ++ (n ∷ (ns ++ (f ∷ q))))) → In h u → Out h n → In h f → All (In h) (f ∷ q)
+  pub rest-inside : {u f : Point} (n : Point) (r ns : List Point) {q : List Point} → CCW (u ∷ (r ++ (n ∷ (ns ++ (f ∷ q))))) → In h u → Out h n
+      → In h f → All (In h) (f ∷ q)
   rest-inside n r ns {q} c hu hn hf = hf ◂ all-at q (λ xs x ys e. ⊎-elim (λ i. i) (λ o. absurd (no-four (with-one r ns xs ys c e) hu hn hf o)) (in-out x))
 
-  pub rest-outside : {n m : Point} (u : Point) (ns r : List Point) {q : List Point} → CCW (n ∷ (ns ++ (u ∷ (r ++ (m ∷ q))))) → Out h n → In h u → Out h m → All (Out h) (m ∷ q)
+  pub rest-outside : {n m : Point} (u : Point) (ns r : List Point) {q : List Point} → CCW (n ∷ (ns ++ (u ∷ (r ++ (m ∷ q))))) → Out h n → In h u
+      → Out h m → All (Out h) (m ∷ q)
   rest-outside {n} {m} u ns r {q} c hn hu hm =
       hm ◂ all-at q (λ xs x ys e. ⊎-elim (λ i. absurd (no-four (ccw-turn (n ∷ []) (u ∷ m ∷ x ∷ []) (with-one ns r xs ys c e)) hu hm i hn)) (λ o. o) (in-out x))
 
@@ -77,4 +83,5 @@ module _ (h : Line) where
       go (inl a) = inside (hf ◂ a)
       go (inr a) =
           let t = leave f s hf a in
-          runs {l = t .l} {n = t .n} {rest = t .back ++ t .front} (record { front = t .front; back = t .l ∷ t .n ∷ t .back; was = t .is; now = refl }) (t .hl) (t .hn) (run (t .back ++ t .front))
+          runs {l = t .l} {n = t .n} {rest = t .back ++ t .front} (record { front = t .front; back = t .l ∷ t .n ∷ t .back; was = t .is; now = refl })
+          (t .hl) (t .hn) (run (t .back ++ t .front))

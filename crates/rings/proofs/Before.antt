@@ -22,24 +22,33 @@ module _ (u v w a b c : ℤ) (hv : pos 0 <ℤ v) where
   ρ = u ∷ v ∷ w ∷ a ∷ b ∷ c ∷ []
 
   less-less : pos 0 <ℤ u → pos 0 <ℤ w → (a *ℤ v) <ℤ (b *ℤ u) → (b *ℤ w) <ℤ (c *ℤ v) → (a *ℤ w) <ℤ (c *ℤ u)
-  less-less hu hw h k = gt-by ρ (po (var 1) hv) (var 3 ⊗ var 2) (var 5 ⊗ var 0) (po (var 0) hu ⊠ lt (var 4 ⊗ var 2) (var 5 ⊗ var 1) k ⊞ po (var 2) hw ⊠ lt (var 3 ⊗ var 1) (var 4 ⊗ var 0) h) tt
+  less-less hu hw h k =
+      gt-by ρ (po (var 1) hv) (var 3 ⊗ var 2) (var 5 ⊗ var 0)
+      (po (var 0) hu ⊠ lt (var 4 ⊗ var 2) (var 5 ⊗ var 1) k ⊞ po (var 2) hw ⊠ lt (var 3 ⊗ var 1) (var 4 ⊗ var 0) h) tt
 
   less-equal : pos 0 <ℤ w → (a *ℤ v) <ℤ (b *ℤ u) → b *ℤ w ≡ c *ℤ v → (a *ℤ w) <ℤ (c *ℤ u)
-  less-equal hw h k = gt-by ρ (po (var 1) hv) (var 3 ⊗ var 2) (var 5 ⊗ var 0) (eq (neg (var 0)) (var 4 ⊗ var 2) (var 5 ⊗ var 1) k ⊞ po (var 2) hw ⊠ lt (var 3 ⊗ var 1) (var 4 ⊗ var 0) h) tt
+  less-equal hw h k =
+      gt-by ρ (po (var 1) hv) (var 3 ⊗ var 2) (var 5 ⊗ var 0)
+      (eq (neg (var 0)) (var 4 ⊗ var 2) (var 5 ⊗ var 1) k ⊞ po (var 2) hw ⊠ lt (var 3 ⊗ var 1) (var 4 ⊗ var 0) h) tt
 
   equal-less : pos 0 <ℤ u → a *ℤ v ≡ b *ℤ u → (b *ℤ w) <ℤ (c *ℤ v) → (a *ℤ w) <ℤ (c *ℤ u)
-  equal-less hu h k = gt-by ρ (po (var 1) hv) (var 3 ⊗ var 2) (var 5 ⊗ var 0) (po (var 0) hu ⊠ lt (var 4 ⊗ var 2) (var 5 ⊗ var 1) k ⊞ eq (neg (var 2)) (var 3 ⊗ var 1) (var 4 ⊗ var 0) h) tt
+  equal-less hu h k =
+      gt-by ρ (po (var 1) hv) (var 3 ⊗ var 2) (var 5 ⊗ var 0)
+      (po (var 0) hu ⊠ lt (var 4 ⊗ var 2) (var 5 ⊗ var 1) k ⊞ eq (neg (var 2)) (var 3 ⊗ var 1) (var 4 ⊗ var 0) h) tt
 
 module _ {p q r : Point} where
   pub before-trans : Proper p → Proper q → Proper r → Before p q → Before q r → Before p r
   before-trans hp hq hr (lower a) (lower b) = lower (less-less (p .W) (q .W) (r .W) (p .Y) (q .Y) (r .Y) hq hp hr a b)
   before-trans hp hq hr (lower a) (level b c) = lower (less-equal (p .W) (q .W) (r .W) (p .Y) (q .Y) (r .Y) hq hr a b)
   before-trans hp hq hr (level a b) (lower c) = lower (equal-less (p .W) (q .W) (r .W) (p .Y) (q .Y) (r .Y) hq hp a c)
-  before-trans hp hq hr (level a b) (level c d) = level (equal-equal (p .W) (q .W) (r .W) (p .Y) (q .Y) (r .Y) hq a c) (less-less (p .W) (q .W) (r .W) (p .X) (q .X) (r .X) hq hp hr b d)
+  before-trans hp hq hr (level a b) (level c d) =
+      level (equal-equal (p .W) (q .W) (r .W) (p .Y) (q .Y) (r .Y) hq a c) (less-less (p .W) (q .W) (r .W) (p .X) (q .X) (r .X) hq hp hr b d)
 
   pub before-same : Same q r → Before p q → Before p r
   before-same s (lower a) = lower (less-equal (p .W) (q .W) (r .W) (p .Y) (q .Y) (r .Y) (s .first) (s .second) a (s .y))
-  before-same s (level a b) = level (equal-equal (p .W) (q .W) (r .W) (p .Y) (q .Y) (r .Y) (s .first) a (s .y)) (less-equal (p .W) (q .W) (r .W) (p .X) (q .X) (r .X) (s .first) (s .second) b (s .x))
+  before-same s (level a b) =
+      level (equal-equal (p .W) (q .W) (r .W) (p .Y) (q .Y) (r .Y) (s .first) a (s .y))
+      (less-equal (p .W) (q .W) (r .W) (p .X) (q .X) (r .X) (s .first) (s .second) b (s .x))
 
 compare : (a b : ℤ) → (a <ℤ b) ⊎ ((a ≡ b) ⊎ (b <ℤ a))
 compare a b = go (≤-total a b) (≤-total b a)
@@ -52,7 +61,8 @@ compare a b = go (≤-total a b) (≤-total b a)
 pub before-cases : (p q : Point) → Proper p → Proper q → Before p q ⊎ (Same p q ⊎ Before q p)
 before-cases p q hp hq = go (compare (p .Y *ℤ q .W) (q .Y *ℤ p .W))
   where
-    across : p .Y *ℤ q .W ≡ q .Y *ℤ p .W → ((p .X *ℤ q .W) <ℤ (q .X *ℤ p .W)) ⊎ ((p .X *ℤ q .W ≡ q .X *ℤ p .W) ⊎ ((q .X *ℤ p .W) <ℤ (p .X *ℤ q .W))) → Before p q ⊎ (Same p q ⊎ Before q p)
+    across : p .Y *ℤ q .W ≡ q .Y *ℤ p .W → ((p .X *ℤ q .W) <ℤ (q .X *ℤ p .W)) ⊎ ((p .X *ℤ q .W ≡ q .X *ℤ p .W) ⊎ ((q .X *ℤ p .W) <ℤ (p .X *ℤ q .W)))
+        → Before p q ⊎ (Same p q ⊎ Before q p)
     across e (inl a) = inl (level e a)
     across e (inr (inl a)) = inr (inl (record { first = hp; second = hq; x = a; y = e }))
     across e (inr (inr a)) = inr (inr (level (sym e) a))

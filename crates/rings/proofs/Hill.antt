@@ -23,21 +23,27 @@ module _ {e : Point} where
   up-trans : e .W ≡ pos 0 → {a b c : Point} → Proper a → Proper b → Proper c → Up e a b → Up e b c → Up e a c
   unfolding value through
   up-trans far {a} {b} {c} ha hb hc ab bc = record {
-    left = gt-by (corners (e ∷ a ∷ b ∷ c ∷ [])) (po (w-of 2) hb) nought (det-of 1 0 3) (po (w-of 1) ha ⊠ po (det-of 2 0 3) (bc .left) ⊞ po (w-of 3) hc ⊠ po (det-of 1 0 2) (ab .left) ⊞ eq (det-of 1 2 3) (w-of 0) nought far) tt;
+    left =
+        gt-by (corners (e ∷ a ∷ b ∷ c ∷ [])) (po (w-of 2) hb) nought (det-of 1 0 3)
+        (po (w-of 1) ha ⊠ po (det-of 2 0 3) (bc .left) ⊞ po (w-of 3) hc ⊠ po (det-of 1 0 2) (ab .left) ⊞ eq (det-of 1 2 3) (w-of 0) nought far) tt;
   }
 
   -- upwards from a by b to c, o below b
   climb : {o a b c : Point} → Up e a b → Up e b c → Up e o b → Left o a b → Left a b c → Left o b c
   unfolding value through
   climb {o} {a} {b} {c} ab bc ob oab abc = record {
-    left = gt-by (corners (e ∷ o ∷ a ∷ b ∷ c ∷ [])) (po (det-of 2 0 3) (ab .left)) nought (det-of 1 3 4) (po (det-of 1 0 3) (ob .left) ⊠ po (det-of 2 3 4) (abc .left) ⊞ po (det-of 3 0 4) (bc .left) ⊠ po (det-of 1 2 3) (oab .left)) tt;
+    left =
+        gt-by (corners (e ∷ o ∷ a ∷ b ∷ c ∷ [])) (po (det-of 2 0 3) (ab .left)) nought (det-of 1 3 4)
+        (po (det-of 1 0 3) (ob .left) ⊠ po (det-of 2 3 4) (abc .left) ⊞ po (det-of 3 0 4) (bc .left) ⊠ po (det-of 1 2 3) (oab .left)) tt;
   }
 
   -- downwards from a by b to c, o below b
   descend : {o a b c : Point} → Down e a b → Down e b c → Up e o b → Left a b c → Left o b c → Left o a b
   unfolding value through
   descend {o} {a} {b} {c} ab bc ob abc obc = record {
-    left = gt-by (corners (e ∷ o ∷ a ∷ b ∷ c ∷ [])) (po (det-of 3 4 0) (bc .left)) nought (det-of 1 2 3) (po (det-of 2 3 0) (ab .left) ⊠ po (det-of 1 3 4) (obc .left) ⊞ po (det-of 2 3 4) (abc .left) ⊠ po (det-of 1 0 3) (ob .left)) tt;
+    left =
+        gt-by (corners (e ∷ o ∷ a ∷ b ∷ c ∷ [])) (po (det-of 3 4 0) (bc .left)) nought (det-of 1 2 3)
+        (po (det-of 2 3 0) (ab .left) ⊠ po (det-of 1 3 4) (obc .left) ⊞ po (det-of 2 3 4) (abc .left) ⊠ po (det-of 1 0 3) (ob .left)) tt;
   }
 
 -- ---- the corners of a walk, by their number
@@ -143,7 +149,11 @@ module _ {e : Point} {p : ℕ → Point} {n : ℕ} (h : Hill e p n) where
   places i j k hi hj hk = transport (λ t. Left (sym (from-at p n i hi) t) (sym (from-at p n j hj) t) (sym (from-at p n k hk) t))
 
   pub hill-linear : Linear (from p n)
-  hill-linear = record { first = first-at; seen = seen-at; turns = λ i l. let k = from-length p n in places i (suc i) (suc (suc i)) (omega arith) (omega arith) (omega arith) (h .left i (omega arith)) }
+  hill-linear = record {
+    first = first-at;
+    seen = seen-at;
+    turns = λ i l. let k = from-length p n in places i (suc i) (suc (suc i)) (omega arith) (omega arith) (omega arith) (h .left i (omega arith));
+  }
     where
       first-at : (j : ℕ) → 2 ≤ j → j < length (from p n) → Left (at (from p n) 0) (at (from p n) 1) (at (from p n) j)
       first-at zero m l = absurd (omega arith)

@@ -39,7 +39,8 @@ two-of-places [] f = two₀
 two-of-places (x ∷ []) f = two₁
 two-of-places (x ∷ y ∷ r) f = two (f 0 (omega arith)) (two-of-places (y ∷ r) (λ t h. f (suc t) (omega arith)))
 
-three-of-places : {R : Point → Point → Point → Type 0} (r : List Point) → ((t : ℕ) → suc (suc t) < length r → R (at r t) (at r (suc t)) (at r (suc (suc t)))) → Triples R r
+three-of-places : {R : Point → Point → Point → Type 0} (r : List Point)
+    → ((t : ℕ) → suc (suc t) < length r → R (at r t) (at r (suc t)) (at r (suc (suc t)))) → Triples R r
 three-of-places [] f = three₀
 three-of-places (x ∷ []) f = three₁
 three-of-places (x ∷ y ∷ []) f = three₂
@@ -49,7 +50,9 @@ three-of-places (x ∷ y ∷ z ∷ r) f = three (f 0 (omega arith)) (three-of-pl
 turn-right : {o r x y z : Point} → Left o y r → Left o x r → Left o z r → Left o x y → Left o y z → Left o x z
 unfolding value through
 turn-right {o} {r} {x} {y} {z} yr xr zr xy yz = record {
-  left = gt-by (corners (o ∷ r ∷ x ∷ y ∷ z ∷ [])) (po (det-of 0 3 1) (yr .left)) nought (det-of 0 2 4) (po (det-of 0 2 1) (xr .left) ⊠ po (det-of 0 3 4) (yz .left) ⊞ po (det-of 0 4 1) (zr .left) ⊠ po (det-of 0 2 3) (xy .left)) tt;
+  left =
+      gt-by (corners (o ∷ r ∷ x ∷ y ∷ z ∷ [])) (po (det-of 0 3 1) (yr .left)) nought (det-of 0 2 4)
+      (po (det-of 0 2 1) (xr .left) ⊠ po (det-of 0 3 4) (yz .left) ⊞ po (det-of 0 4 1) (zr .left) ⊠ po (det-of 0 2 3) (xy .left)) tt;
 }
 
 -- a convex quarter a b c d round o: if a b c and b c d turn left, so do a b d and a c d
@@ -76,14 +79,16 @@ module _ {o : Point} where
   edges-ahead : {a b : Point} {r : List Point} → Pairs (Left o) (a ∷ b ∷ r) → Triples Left (a ∷ b ∷ r) → All (Left a b) r
   edges-ahead {r = []} q t = ∅
   edges-ahead {b} {r = c ∷ r} ((oab ◂ (oac ◂ oa)) ◂ᵖ ((obc ◂ ob) ◂ᵖ (oc ◂ᵖ q))) (three abc t) =
-      abc ◂ all-zip {Q = λ d. Left o c d × Left b c d} (λ d obd k. ahead oab obc (k .0) oac obd abc (k .1)) ob (all-zip (λ d x y. (x, y)) oc (edges-ahead ((obc ◂ ob) ◂ᵖ (oc ◂ᵖ q)) t))
+      abc ◂ all-zip {Q = λ d. Left o c d × Left b c d} (λ d obd k. ahead oab obc (k .0) oac obd abc (k .1)) ob
+      (all-zip (λ d x y. (x, y)) oc (edges-ahead ((obc ◂ ob) ◂ᵖ (oc ◂ᵖ q)) t))
 
   -- a is left of each later edge
   edges-past : {a b : Point} {r : List Point} → Pairs (Left o) (a ∷ b ∷ r) → Triples Left (a ∷ b ∷ r) → Neighbours (Left a) (b ∷ r)
   edges-past {r = []} q t = two₁
   edges-past {a} {b} {r = c ∷ r} ((oab ◂ (oac ◂ oa)) ◂ᵖ ((obc ◂ ob) ◂ᵖ q)) (three abc t) = two abc (go oab oac oa obc ob q abc t)
     where
-      go : {x y : Point} {s : List Point} → Left o a x → Left o a y → All (Left o a) s → Left o x y → All (Left o x) s → Pairs (Left o) (y ∷ s) → Left a x y → Triples Left (x ∷ y ∷ s) → Neighbours (Left a) (y ∷ s)
+      go : {x y : Point} {s : List Point} → Left o a x → Left o a y → All (Left o a) s → Left o x y → All (Left o x) s → Pairs (Left o) (y ∷ s)
+          → Left a x y → Triples Left (x ∷ y ∷ s) → Neighbours (Left a) (y ∷ s)
       go {s = []} oax oay ab oxy xs p axy t = two₁
       go {s = z ∷ s} oax oay (oaz ◂ ab) oxy (oxz ◂ xs) ((oyz ◂ ys) ◂ᵖ p) axy (three xyz t) =
           let ayz = behind oax oxy oyz oay oxz axy xyz in
@@ -103,7 +108,8 @@ pub ccw-of-linear : (r : List Point) → Linear r → CCW r
 ccw-of-linear [] l = ∅ᶜ
 ccw-of-linear (o ∷ []) l = ∅ᵖ ◂ᶜ ∅ᶜ
 ccw-of-linear (o ∷ a ∷ r) l =
-    go (all-of-places r (λ t h. l .first (suc (suc t)) (omega arith) (omega arith))) (two-of-places (a ∷ r) (λ t h. l .seen (suc t) (omega arith) (omega arith))) (three-of-places (o ∷ a ∷ r) (l .turns))
+    go (all-of-places r (λ t h. l .first (suc (suc t)) (omega arith) (omega arith)))
+    (two-of-places (a ∷ r) (λ t h. l .seen (suc t) (omega arith) (omega arith))) (three-of-places (o ∷ a ∷ r) (l .turns))
   where
     go : {s : List Point} → All (Left o a) s → Neighbours (Left o) (a ∷ s) → Triples Left (o ∷ a ∷ s) → CCW (o ∷ a ∷ s)
     go ∅ t k = (∅ ◂ᵖ ∅ᵖ) ◂ᶜ (∅ᵖ ◂ᶜ ∅ᶜ)

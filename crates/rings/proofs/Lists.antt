@@ -1,4 +1,5 @@
--- Laws of lists: all members, some member, all pairs in order, all steps of a walk, all edges of a closed list, parts that keep the order, lists started at another place.
+-- Laws of lists: all members, some member, all pairs in order, all steps of a walk, all
+-- edges of a closed list, parts that keep the order, lists started at another place.
 use mathlib.Core.Path.{_≡_, refl, sym, ap, _∙_, subst}
 use mathlib.Core.List.{List, [], _∷_, _++_, append-nil}
 use mathlib.Core.Logic.{_⊎_, inl, inr}

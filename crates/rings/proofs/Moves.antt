@@ -29,10 +29,12 @@ merge : {a b c : Point} {r : List Point} → CCW (a ∷ b ∷ r) → CCW (a ∷ 
 merge ((ab ◂ᵖ ar) ◂ᶜ br ◂ᶜ cr) ((ac ◂ᵖ ar′) ◂ᶜ dr) h k = ((h ◂ ab) ◂ᵖ ac ◂ᵖ ar) ◂ᶜ (k ◂ᵖ br) ◂ᶜ dr
 
 -- between l and f stand n and m, perhaps the same: c between l and n, d between m and f
-pub move-both : {l n m f c d : Point} {q : List Point} → Between l n c → Between m f d → CCW (l ∷ n ∷ f ∷ q) → CCW (l ∷ m ∷ f ∷ q) → LeftOn l n m → All (LeftOn n m) (f ∷ q) → CCW (l ∷ c ∷ d ∷ f ∷ q)
+pub move-both : {l n m f c d : Point} {q : List Point} → Between l n c → Between m f d → CCW (l ∷ n ∷ f ∷ q) → CCW (l ∷ m ∷ f ∷ q) → LeftOn l n m
+    → All (LeftOn n m) (f ∷ q) → CCW (l ∷ c ∷ d ∷ f ∷ q)
 move-both {l} {n} {m} {f} {c} {d} {q} bc bd cn cm lnm (nmf ◂ nmq) =
     merge lcfq (move-inner bd cm) (between-left₂ bd (cycleOn (between-leftOn bc (twice23 l m) (cycleOn (cycleOn lnm)))) lcf)
-    (cycle (between-left₁ bd (cycle (cycle (first bc lmf nmf))) (twice13 f c)) ◂ all-zip (λ y h k. cycle (between-left₁ bd (cycle (cycle h)) (weaken (cycle (cycle k))))) (all-zip (λ y h k. first bc h k) lmq nmq) cfq)
+    (cycle (between-left₁ bd (cycle (cycle (first bc lmf nmf))) (twice13 f c))
+    ◂ all-zip (λ y h k. cycle (between-left₁ bd (cycle (cycle h)) (weaken (cycle (cycle k))))) (all-zip (λ y h k. first bc h k) lmq nmq) cfq)
   where
     lcfq : CCW (l ∷ c ∷ f ∷ q)
     lcfq = move-second bc cn

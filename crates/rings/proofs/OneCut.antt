@@ -88,4 +88,10 @@ module _ {h : Line} {r s : List Point} (real : Real h) (ring : Ring r) (cut : Cu
   proper = cut-all (λ u n i. n) (λ u v c n m a x. between-proper (x .between) n m) (ring .proper) cut
 
   pub one-cut : OneCut h r s
-  one-cut = record { short = left .short; thin = thin; ring = λ l. record { three = l; proper = proper; convex = convex-of-ccw (left .ccw) }; points = points; flat = flat }
+  one-cut = record {
+    short = left .short;
+    thin = thin;
+    ring = λ l. record { three = l; proper = proper; convex = convex-of-ccw (left .ccw) };
+    points = points;
+    flat = flat;
+  }

@@ -20,9 +20,18 @@ use Rattle.rings.proofs.Unique.{same-points-alike}
 use Rattle.rings.proofs.Start.{turned-ring, start}
 
 -- ---- what several cuts leave
-further : (h : Line) {hs : List Line} {r s : List Point} {o : Option (List Point)} → ((p : Point) → InRing s p ↔ (InRing r p × In h p)) → Outcome hs s o → Outcome (h ∷ hs) r o
+further : (h : Line) {hs : List Line} {r s : List Point} {o : Option (List Point)} → ((p : Point) → InRing s p ↔ (InRing r p × In h p))
+    → Outcome hs s o → Outcome (h ∷ hs) r o
 further h k (no-area n) = no-area (record { line = n .line; real = n .real; flat = λ p i a. n .flat p (k p .1 (i, all-head a)) (all-tail a) })
-further h k (area l) = area (record { ring = l .ring; points = λ p. (λ i. let a = l .points p .0 i in let b = k p .0 (a .0) in (b .0, b .1 ◂ a .1), λ c. l .points p .1 (k p .1 (c .0, all-head (c .1)), all-tail (c .1))) })
+further h k (area l) =
+    area
+    (record {
+      ring = l .ring;
+      points = λ p. (
+        λ i. let a = l .points p .0 i in let b = k p .0 (a .0) in (b .0, b .1 ◂ a .1),
+        λ c. l .points p .1 (k p .1 (c .0, all-head (c .1)), all-tail (c .1)),
+      );
+    })
 
 pub all-cuts : {hs : List Line} {r : List Point} {o : Option (List Point)} → All Real hs → Ring r → Cuts hs r o → Outcome hs r o
 all-cuts q g no-more = area (record { ring = g; points = λ p. (λ i. (i, ∅), λ k. k .0) })
@@ -58,7 +67,10 @@ some-result hs r q g = let c = some-cuts hs r in go (c .0) (c .1)
 
 -- the ring that is left, started, still holds exactly these points
 remainder-turned : {hs : List Line} {r t s : List Point} → Turned t s → Remainder hs r t → Remainder hs r s
-remainder-turned t l = record { ring = turned-ring t (l .ring); points = λ p. (λ i. l .points p .0 (edges-turned (turned-back t) i), λ k. edges-turned t (l .points p .1 k)) }
+remainder-turned t l = record {
+  ring = turned-ring t (l .ring);
+  points = λ p. (λ i. l .points p .0 (edges-turned (turned-back t) i), λ k. edges-turned t (l .points p .1 k));
+}
 
 pub result-outcome : {hs : List Line} {r : List Point} {o : Option (List Point)} → All Real hs → Ring r → Result hs r o → Outcome hs r o
 result-outcome q g (none-left c) = all-cuts q g c
@@ -73,16 +85,19 @@ not-both {t} ask l n =
     let y = l .ring .three in
     omega arith
 
-pub remainders-alike : {hs ks : List Line} {r t u : List Point} → ((p : Point) → Inside hs p ↔ Inside ks p) → Remainder hs r t → Remainder ks r u → Starts t → Starts u → Alike t u
+pub remainders-alike : {hs ks : List Line} {r t u : List Point} → ((p : Point) → Inside hs p ↔ Inside ks p) → Remainder hs r t → Remainder ks r u
+    → Starts t → Starts u → Alike t u
 remainders-alike {t} {u} ask l m st su =
     same-points-alike t u (l .ring) (m .ring) st su
     (λ p w. (λ i. let k = l .points p .0 i in m .points p .1 (k .0, ask p .0 (k .1)), λ i. let k = m .points p .0 i in l .points p .1 (k .0, ask p .1 (k .1))))
 
-lines-agree : {hs ks : List Line} {r : List Point} {a b : Option (List Point)} → ((p : Point) → Inside hs p ↔ Inside ks p) → All Real hs → All Real ks → Ring r → Result hs r a → Result ks r b → Agree a b
+lines-agree : {hs ks : List Line} {r : List Point} {a b : Option (List Point)} → ((p : Point) → Inside hs p ↔ Inside ks p) → All Real hs → All Real ks
+    → Ring r → Result hs r a → Result ks r b → Agree a b
 lines-agree ask qh qk g (none-left c) (none-left d) = neither
 lines-agree ask qh qk g (none-left c) (started d t s) = absurd (not-both (λ p. ask p .1) (remainder (all-cuts qk g d)) (flatness (all-cuts qh g c)))
 lines-agree ask qh qk g (started c t s) (none-left d) = absurd (not-both (λ p. ask p .0) (remainder (all-cuts qh g c)) (flatness (all-cuts qk g d)))
-lines-agree ask qh qk g (started c t s) (started d t′ s′) = both (remainders-alike ask (remainder-turned t (remainder (all-cuts qh g c))) (remainder-turned t′ (remainder (all-cuts qk g d))) s s′)
+lines-agree ask qh qk g (started c t s) (started d t′ s′) =
+    both (remainders-alike ask (remainder-turned t (remainder (all-cuts qh g c))) (remainder-turned t′ (remainder (all-cuts qk g d))) s s′)
 
 -- ---- the same lines in another order
 pub all-order : {P : Line → Type 0} {hs ks : List Line} → List·Permᴰ hs ks → All P hs → All P ks

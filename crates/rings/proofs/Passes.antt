@@ -47,8 +47,16 @@ module _ {h : Line} where
       }
 
   cut-turn : (xs ys : List Point) {s : List Point} → CutBy h (xs ++ ys) s → CutTurned h (ys ++ xs) s
-  cut-turn [] ys {s} c = record { left = s; cut = subst (λ r. CutBy h r s) (sym (append-nil ys)) c; turned = record { front = []; back = s; was = refl; now = sym (append-nil s) } }
-  cut-turn (u ∷ xs) [] {s} c = record { left = s; cut = subst (λ r. CutBy h r s) (append-nil (u ∷ xs)) c; turned = record { front = []; back = s; was = refl; now = sym (append-nil s) } }
+  cut-turn [] ys {s} c = record {
+    left = s;
+    cut = subst (λ r. CutBy h r s) (sym (append-nil ys)) c;
+    turned = record { front = []; back = s; was = refl; now = sym (append-nil s) };
+  }
+  cut-turn (u ∷ xs) [] {s} c = record {
+    left = s;
+    cut = subst (λ r. CutBy h r s) (append-nil (u ∷ xs)) c;
+    turned = record { front = []; back = s; was = refl; now = sym (append-nil s) };
+  }
   cut-turn (u ∷ xs) (v ∷ ys) (round p) =
       let t = pass-split xs p in
       record { left = t .b ++ t .a; cut = round (pass-join (t .second) (t .first)); turned = record { front = t .a; back = t .b; was = t .is; now = refl } }

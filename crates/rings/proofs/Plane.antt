@@ -54,7 +54,9 @@ module _ {a b c : Point} where
 pub turn : {o r x y z : Point} → Left o r y → Left o r x → Left o r z → Left o x y → Left o y z → Left o x z
 unfolding value through
 turn {o} {r} {x} {y} {z} ry rx rz xy yz = record {
-  left = gt-by (corners (o ∷ r ∷ x ∷ y ∷ z ∷ [])) (po (det-of 0 1 3) (ry .left)) nought (det-of 0 2 4) (po (det-of 0 1 2) (rx .left) ⊠ po (det-of 0 3 4) (yz .left) ⊞ po (det-of 0 1 4) (rz .left) ⊠ po (det-of 0 2 3) (xy .left)) tt;
+  left =
+      gt-by (corners (o ∷ r ∷ x ∷ y ∷ z ∷ [])) (po (det-of 0 1 3) (ry .left)) nought (det-of 0 2 4)
+      (po (det-of 0 1 2) (rx .left) ⊠ po (det-of 0 3 4) (yz .left) ⊞ po (det-of 0 1 4) (rz .left) ⊠ po (det-of 0 2 3) (xy .left)) tt;
 }
 
 -- a point taken twice
@@ -91,7 +93,8 @@ module _ {a b c p : Point} (t : Left a b c) (ab : LeftOn a b p) (bc : LeftOn b c
   unfolding value through
   triangle ha hb hc =
       ge-by (with-line h (a ∷ b ∷ c ∷ p ∷ [])) (po (det-of 1 2 3) (t .left)) nought (value-of 0 4)
-      (nn (det-of 2 3 4) (bc .leftOn) ⊠ nn (value-of 0 1) ha ⊞ nn (det-of 3 1 4) (ca .leftOn) ⊠ nn (value-of 0 2) hb ⊞ nn (det-of 1 2 4) (ab .leftOn) ⊠ nn (value-of 0 3) hc) tt
+      (nn (det-of 2 3 4) (bc .leftOn) ⊠ nn (value-of 0 1) ha ⊞ nn (det-of 3 1 4) (ca .leftOn) ⊠ nn (value-of 0 2) hb
+      ⊞ nn (det-of 1 2 4) (ab .leftOn) ⊠ nn (value-of 0 3) hc) tt
 
   -- and positive, where all four are proper: then one of the three factors is positive
   pub triangle⁺ : Proper a → Proper b → Proper c → Proper p → Over h a → Over h b → Over h c → Over h p
@@ -111,7 +114,8 @@ pub diagonals : (h : Line) {a b c d : Point} → Left b c d → Left a b d → L
 unfolding value through
 diagonals h {a} {b} {c} {d} bcd abd acd abc ha hb hc hd =
     clash (with-line h (a ∷ b ∷ c ∷ d ∷ []))
-    (po (det-of 2 3 4) (bcd .left) ⊠ nn (value-of 0 1) ha ⊞ po (det-of 1 2 4) (abd .left) ⊠ nn (value-of 0 3) hc ⊞ po (det-of 1 3 4) (acd .left) ⊠ lt (value-of 0 2) nought hb ⊞ po (det-of 1 2 3) (abc .left) ⊠ lt (value-of 0 4) nought hd) tt
+    (po (det-of 2 3 4) (bcd .left) ⊠ nn (value-of 0 1) ha ⊞ po (det-of 1 2 4) (abd .left) ⊠ nn (value-of 0 3) hc
+    ⊞ po (det-of 1 3 4) (acd .left) ⊠ lt (value-of 0 2) nought hb ⊞ po (det-of 1 2 3) (abc .left) ⊠ lt (value-of 0 4) nought hd) tt
 
 -- three points on a real line: h(q)·det(a,b,c) = det(b,c,q)·h(a) + det(c,a,q)·h(b) + det(a,b,q)·h(c)
 pub collinear : (h : Line) → Real h → (a b c : Point) → On h a → On h b → On h c → det a b c ≡ pos 0
@@ -124,7 +128,9 @@ collinear h (q, hq) a b c ha hb hc =
 pub runs-along : (h : Line) {a b x p : Point} → On h a → On h b → Over h x → LeftOn a b x → In h p → LeftOn a b p
 unfolding value through
 runs-along h {a} {b} {x} {p} ha hb hx l hp = record {
-  leftOn = ge-by (with-line h (a ∷ b ∷ x ∷ p ∷ [])) (po (value-of 0 3) hx) nought (det-of 1 2 4) (nn (value-of 0 4) hp ⊠ nn (det-of 1 2 3) (l .leftOn) ⊞ eq (det-of 2 4 3) (value-of 0 1) nought ha ⊞ eq (neg (det-of 1 4 3)) (value-of 0 2) nought hb) tt;
+  leftOn =
+      ge-by (with-line h (a ∷ b ∷ x ∷ p ∷ [])) (po (value-of 0 3) hx) nought (det-of 1 2 4)
+      (nn (value-of 0 4) hp ⊠ nn (det-of 1 2 3) (l .leftOn) ⊞ eq (det-of 2 4 3) (value-of 0 1) nought ha ⊞ eq (neg (det-of 1 4 3)) (value-of 0 2) nought hb) tt;
 }
 
 -- ---- a point between two others
@@ -147,7 +153,8 @@ module _ {u v c : Point} (m : Between u v c) where
   unfolding value
   between-value f =
       eq-by (with-line f (record { X = m .k; Y = m .α; W = m .β } ∷ u ∷ v ∷ c ∷ [])) (x-of 1 ⊗ value-of 0 4) (y-of 1 ⊗ value-of 0 2 ⊕ w-of 1 ⊗ value-of 0 3)
-      (eqn (x-of 0) (x-of 1 ⊗ x-of 4) (y-of 1 ⊗ x-of 2 ⊕ w-of 1 ⊗ x-of 3) (m .isX) ⊹ eqn (y-of 0) (x-of 1 ⊗ y-of 4) (y-of 1 ⊗ y-of 2 ⊕ w-of 1 ⊗ y-of 3) (m .isY) ⊹ eqn (w-of 0) (x-of 1 ⊗ w-of 4) (y-of 1 ⊗ w-of 2 ⊕ w-of 1 ⊗ w-of 3) (m .isW)) tt
+      (eqn (x-of 0) (x-of 1 ⊗ x-of 4) (y-of 1 ⊗ x-of 2 ⊕ w-of 1 ⊗ x-of 3) (m .isX)
+      ⊹ eqn (y-of 0) (x-of 1 ⊗ y-of 4) (y-of 1 ⊗ y-of 2 ⊕ w-of 1 ⊗ y-of 3) (m .isY) ⊹ eqn (w-of 0) (x-of 1 ⊗ w-of 4) (y-of 1 ⊗ w-of 2 ⊕ w-of 1 ⊗ w-of 3) (m .isW)) tt
 
   -- c is a sum of u and v with positive factors, so are its values
   module _ (x y z : ℤ) (is : m .k *ℤ z ≡ m .α *ℤ x +ℤ m .β *ℤ y) where
@@ -155,10 +162,14 @@ module _ {u v c : Point} (m : Between u v c) where
     ρ = m .k ∷ m .α ∷ m .β ∷ x ∷ y ∷ z ∷ []
 
     sum-nn : pos 0 ≤ℤ x → pos 0 ≤ℤ y → pos 0 ≤ℤ z
-    sum-nn hx hy = ge-by ρ (po (var 0) (m .k⁺)) nought (var 5) (po (var 1) (m .α⁺) ⊠ nn (var 3) hx ⊞ po (var 2) (m .β⁺) ⊠ nn (var 4) hy ⊞ eq (con (pos 1)) (var 0 ⊗ var 5) (var 1 ⊗ var 3 ⊕ var 2 ⊗ var 4) is) tt
+    sum-nn hx hy =
+        ge-by ρ (po (var 0) (m .k⁺)) nought (var 5)
+        (po (var 1) (m .α⁺) ⊠ nn (var 3) hx ⊞ po (var 2) (m .β⁺) ⊠ nn (var 4) hy ⊞ eq (con (pos 1)) (var 0 ⊗ var 5) (var 1 ⊗ var 3 ⊕ var 2 ⊗ var 4) is) tt
 
     sum-pos : pos 0 <ℤ x → pos 0 ≤ℤ y → pos 0 <ℤ z
-    sum-pos hx hy = gt-by ρ (po (var 0) (m .k⁺)) nought (var 5) (po (var 1) (m .α⁺) ⊠ po (var 3) hx ⊞ po (var 2) (m .β⁺) ⊠ nn (var 4) hy ⊞ eq (con (pos 1)) (var 0 ⊗ var 5) (var 1 ⊗ var 3 ⊕ var 2 ⊗ var 4) is) tt
+    sum-pos hx hy =
+        gt-by ρ (po (var 0) (m .k⁺)) nought (var 5)
+        (po (var 1) (m .α⁺) ⊠ po (var 3) hx ⊞ po (var 2) (m .β⁺) ⊠ nn (var 4) hy ⊞ eq (con (pos 1)) (var 0 ⊗ var 5) (var 1 ⊗ var 3 ⊕ var 2 ⊗ var 4) is) tt
 
   pub between-proper : Proper u → Proper v → Proper c
   between-proper hu hv = sum-pos (u .W) (v .W) (c .W) (m .isW) hu (<→≤ hv)

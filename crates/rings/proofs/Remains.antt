@@ -13,7 +13,9 @@ use Rattle.rings.specs.Points.{Point, Line, value, Left, LeftOn, In, Out
 use Rattle.rings.specs.Rings.{InRing}
 use Rattle.rings.specs.Cuts.{Between, Crossing, Across, leaves, enters, stays, goes, Added, crossed, uncrossed, Pass, ends, goes-on, CutBy, empty, round}
 use Rattle.rings.proofs.Plane.{cycle, cycleOn, weaken, twice12, twice13, twice23, between-leftOn, between-left₁, between-left₂}
-use Rattle.rings.proofs.Lists.{Any, one, ∅ᵖ, _◂ᵖ_, skip, take, part-right, part-append, part-refl, all-append, all-head, all-of, all-map, either, pairs-head, walk-map, walk-left, walk-right, edges-map, edges-turned, turned-length, turned-back, turned-all, final, final-all, final-walk, final-part}
+use Rattle.rings.proofs.Lists.{Any, one, ∅ᵖ, _◂ᵖ_, skip, take, part-right, part-append, part-refl}
+use Rattle.rings.proofs.Lists.{all-append, all-head, all-of, all-map, either, pairs-head, walk-map, walk-left, walk-right}
+use Rattle.rings.proofs.Lists.{edges-map, edges-turned, turned-length, turned-back, turned-all, final, final-all, final-walk, final-part}
 use Rattle.rings.proofs.Convex.{CCW, ∅ᶜ, _◂ᶜ_, ccw-part, ccw-star, ccw-tail, ccw-turned}
 use Rattle.rings.proofs.Moves.{move-second, move-inner, move-both}
 use Rattle.rings.proofs.Passes.{pass-split, cut-turned}
@@ -72,7 +74,8 @@ module _ (h : Line) where
     thin = λ t. ≡→≤ e ◂ all-map (λ u. <→≤) out;
   }
 
-  triangle-left : {l n c d : Point} {ns : List Point} → 3 ≤ length (l ∷ n ∷ ns) → CCW (l ∷ n ∷ ns) → Crossing h l n c → Crossing h (final n ns) l d → Remains h (l ∷ n ∷ ns) (l ∷ c ∷ d ∷ [])
+  triangle-left : {l n c d : Point} {ns : List Point} → 3 ≤ length (l ∷ n ∷ ns) → CCW (l ∷ n ∷ ns) → Crossing h l n c → Crossing h (final n ns) l d
+      → Remains h (l ∷ n ∷ ns) (l ∷ c ∷ d ∷ [])
   triangle-left {l} {n} {c} {d} {ns} three k x y = record {
     ccw = ((turn ◂ ∅) ◂ᵖ (∅ ◂ᵖ ∅ᵖ)) ◂ᶜ ((∅ ◂ᵖ ∅ᵖ) ◂ᶜ (∅ᵖ ◂ᶜ ∅ᶜ));
     edges = λ p i. walk i;
@@ -192,7 +195,8 @@ module _ (h : Line) where
         go (uncrossed k) (crossed (enters x y) cy) = absurd (k (leaves y (all-head out)))
         go (uncrossed k) (uncrossed j) = one-left out (inside-l k)
 
-    many : (f : Point) (q : List Point) → All (In h) (f ∷ q) → CCW (l ∷ n ∷ (ns ++ (f ∷ q))) → {s : List Point} → CutBy h (l ∷ n ∷ (ns ++ (f ∷ q))) s → Remains h (l ∷ n ∷ (ns ++ (f ∷ q))) s
+    many : (f : Point) (q : List Point) → All (In h) (f ∷ q) → CCW (l ∷ n ∷ (ns ++ (f ∷ q))) → {s : List Point} → CutBy h (l ∷ n ∷ (ns ++ (f ∷ q))) s
+        → Remains h (l ∷ n ∷ (ns ++ (f ∷ q))) s
     many f q hf c (round (goes-on (goes o) d p)) = clashℤ o hl
     many f q hf c (round (goes-on {b = b} (stays i) d p)) =
         let t = pass-split ns p in
@@ -225,7 +229,9 @@ module _ (h : Line) where
   from-inside {f} {q} {s} hf three c (round w) = go (arc h f q hf c)
     where
       go : Arc h (f ∷ q) → Remains h (f ∷ q) s
-      go (inside a) = subst (Remains h (f ∷ q)) (sym (pass-in a hf w)) (record { ccw = c; edges = λ p i. edges-map (λ u v. inl) i; short = omega arith; thin = λ t. absurd (omega arith) })
+      go (inside a) =
+          subst (Remains h (f ∷ q)) (sym (pass-in a hf w))
+          (record { ccw = c; edges = λ p i. edges-map (λ u v. inl) i; short = omega arith; thin = λ t. absurd (omega arith) })
       go (one-run l n ns t hl hn) = remains-turned t (round w) (λ s. lone l n ns hl hn (ccw-turned t c) (let e = turned-length t in omega arith))
       go (two-runs l n ns g k t hl hn hg) = remains-turned t (round w) (λ s. many l n ns hl hn g k hg (ccw-turned t c))
 

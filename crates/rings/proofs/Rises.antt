@@ -55,21 +55,32 @@ module _ {e : Point} {n : ℕ} where
   ccw-of-rise (suc k) p r l h only = step-back (λ i. p (suc i)) n (r .again 1 (suc n) (omega arith)) (ccw-of-rise k (λ i. p (suc i)) next (omega arith) h others)
     where
       next : Round e (λ i. p (suc i)) n
-      next = record { far = r .far; proper = λ i. r .proper (suc i); again = λ i j l. r .again (suc i) (suc j) (omega arith); left = λ i. r .left (suc i); way = λ i. r .way (suc i) }
+      next = record {
+        far = r .far;
+        proper = λ i. r .proper (suc i);
+        again = λ i j l. r .again (suc i) (suc j) (omega arith);
+        left = λ i. r .left (suc i);
+        way = λ i. r .way (suc i);
+      }
 
       others : (i : ℕ) → i < n → i ≢ k → Rise e p (suc i) → ⊥
       others i l d h = go (ℕ-discrete (suc i) n)
         where
           go : Dec (suc i ≡ n) → ⊥
           go (no f) = only (suc i) (omega arith) (omega arith) h
-          go (yes f) = only 0 (omega arith) (omega arith) (transport (λ t. Down e (r .again 0 (suc i) (omega arith) t) (r .again 1 (suc (suc i)) (omega arith) t) × Up e (r .again 1 (suc (suc i)) (omega arith) t) (r .again 2 (suc (suc (suc i))) (omega arith) t)) h)
+          go (yes f) =
+              only 0 (omega arith) (omega arith)
+              (transport (λ t. Down e (r .again 0 (suc i) (omega arith) t) (r .again 1 (suc (suc i)) (omega arith) t)
+              × Up e (r .again 1 (suc (suc i)) (omega arith) t) (r .again 2 (suc (suc (suc i))) (omega arith) t)) h)
 
 -- ---- a ring: once
 module _ {e : Point} where
   lower-trans : e .W ≡ pos 0 → {a b c : Point} → Proper a → Proper b → Proper c → LeftOn a e b → LeftOn b e c → LeftOn a e c
   unfolding value through
   lower-trans far {a} {b} {c} ha hb hc ab bc = record {
-    leftOn = ge-by (corners (e ∷ a ∷ b ∷ c ∷ [])) (po (w-of 2) hb) nought (det-of 1 0 3) (po (w-of 1) ha ⊠ nn (det-of 2 0 3) (bc .leftOn) ⊞ po (w-of 3) hc ⊠ nn (det-of 1 0 2) (ab .leftOn) ⊞ eq (det-of 1 2 3) (w-of 0) nought far) tt;
+    leftOn =
+        ge-by (corners (e ∷ a ∷ b ∷ c ∷ [])) (po (w-of 2) hb) nought (det-of 1 0 3)
+        (po (w-of 1) ha ⊠ nn (det-of 2 0 3) (bc .leftOn) ⊞ po (w-of 3) hc ⊠ nn (det-of 1 0 2) (ab .leftOn) ⊞ eq (det-of 1 2 3) (w-of 0) nought far) tt;
   }
 
   pub not-lower : {v w : Point} → LeftOn v e w → Down e v w → ⊥
@@ -80,16 +91,25 @@ module _ {e : Point} where
   pub rise-lowest : {a w b v : Point} → LeftOn v e w → Left a w b → Left a w v → Left w b v → Down e a w → Up e w b → ⊥
   unfolding value through
   rise-lowest {a} {w} {b} {v} h awb awv wbv aw wb =
-      clash (corners (e ∷ a ∷ w ∷ b ∷ v ∷ [])) (po (det-of 1 2 3) (awb .left) ⊠ nn (det-of 4 0 2) (h .leftOn) ⊞ po (det-of 2 3 4) (wbv .left) ⊠ po (det-of 1 2 0) (aw .left) ⊞ po (det-of 2 0 3) (wb .left) ⊠ po (det-of 1 2 4) (awv .left)) tt
+      clash (corners (e ∷ a ∷ w ∷ b ∷ v ∷ []))
+      (po (det-of 1 2 3) (awb .left) ⊠ nn (det-of 4 0 2) (h .leftOn) ⊞ po (det-of 2 3 4) (wbv .left) ⊠ po (det-of 1 2 0) (aw .left)
+      ⊞ po (det-of 2 0 3) (wb .left) ⊠ po (det-of 1 2 4) (awv .left)) tt
 
   -- of the first n and one more, one that is no higher than any
   pub lowest : e .W ≡ pos 0 → (q : ℕ → Point) (n : ℕ) → ((j : ℕ) → j ≤ n → Proper (q j)) → (k : ℕ) × (k ≤ n) × ((j : ℕ) → j ≤ n → LeftOn (q k) e (q j))
   lowest far q zero w = (0, omega arith, λ j l. let s : 0 ≡ j = omega arith in subst (λ (m : ℕ). LeftOn (q 0) e (q m)) s (twice13 (q 0) e))
   lowest far q (suc n) w = go (lowest far q n (λ j l. w j (omega arith)))
     where
-      pick : (k : ℕ) → k ≤ n → ((j : ℕ) → j ≤ n → LeftOn (q k) e (q j)) → LeftOn (q k) e (q (suc n)) ⊎ LeftOn e (q k) (q (suc n)) → (k : ℕ) × (k ≤ suc n) × ((j : ℕ) → j ≤ suc n → LeftOn (q k) e (q j))
+      pick : (k : ℕ) → k ≤ n → ((j : ℕ) → j ≤ n → LeftOn (q k) e (q j)) → LeftOn (q k) e (q (suc n)) ⊎ LeftOn e (q k) (q (suc n))
+          → (k : ℕ) × (k ≤ suc n) × ((j : ℕ) → j ≤ suc n → LeftOn (q k) e (q j))
       pick k l f (inl h) = (k, omega arith, λ j m. below-more (λ (j : ℕ). LeftOn (q k) e (q j)) (suc n) (λ j m. f j (omega arith)) h j (omega arith))
-      pick k l f (inr h) = (suc n, omega arith, λ j m. below-more (λ (j : ℕ). LeftOn (q (suc n)) e (q j)) (suc n) (λ j m. lower-trans far (w (suc n) (omega arith)) (w k (omega arith)) (w j (omega arith)) (cycleOn (cycleOn h)) (f j (omega arith))) (twice13 (q (suc n)) e) j (omega arith))
+      pick k l f (inr h) = (
+        suc n,
+        omega arith,
+        λ j m. below-more (λ (j : ℕ). LeftOn (q (suc n)) e (q j)) (suc n)
+            (λ j m. lower-trans far (w (suc n) (omega arith)) (w k (omega arith)) (w j (omega arith)) (cycleOn (cycleOn h)) (f j (omega arith)))
+            (twice13 (q (suc n)) e) j (omega arith),
+      )
 
       go : (k : ℕ) × (k ≤ n) × ((j : ℕ) → j ≤ n → LeftOn (q k) e (q j)) → (k : ℕ) × (k ≤ suc n) × ((j : ℕ) → j ≤ suc n → LeftOn (q k) e (q j))
       go (k, l, f) = pick k l f (either-side (q k) e (q (suc n)))

@@ -1,4 +1,5 @@
--- The same point in other numbers lies on the same side of every line: q's W times the line's value at p is p's W times its value at q. And a crossing is one point of the plane.
+-- The same point in other numbers lies on the same side of every line: q's W times the line's
+-- value at p is p's W times its value at q. And a crossing is one point of the plane.
 use mathlib.Core.Path.{_≡_, refl, sym, _∙_}
 use mathlib.Core.List.{[], _∷_}
 use Prim.Native.Nat.{ℕ}
@@ -21,7 +22,8 @@ same-sym s = record { first = s .second; second = s .first; x = sym (s .x); y = 
 -- a/u = b/v and b/v = c/w by cross products
 pub equal-equal : (u v w a b c : ℤ) → pos 0 <ℤ v → a *ℤ v ≡ b *ℤ u → b *ℤ w ≡ c *ℤ v → a *ℤ w ≡ c *ℤ u
 equal-equal u v w a b c hv h k =
-    eq-cancel (u ∷ v ∷ w ∷ a ∷ b ∷ c ∷ []) (po (var 1) hv) (var 3 ⊗ var 2) (var 5 ⊗ var 0) (eqn (var 2) (var 3 ⊗ var 1) (var 4 ⊗ var 0) h ⊹ eqn (var 0) (var 4 ⊗ var 2) (var 5 ⊗ var 1) k) tt
+    eq-cancel (u ∷ v ∷ w ∷ a ∷ b ∷ c ∷ []) (po (var 1) hv) (var 3 ⊗ var 2) (var 5 ⊗ var 0)
+    (eqn (var 2) (var 3 ⊗ var 1) (var 4 ⊗ var 0) h ⊹ eqn (var 0) (var 4 ⊗ var 2) (var 5 ⊗ var 1) k) tt
 
 pub same-trans : {p q r : Point} → Same p q → Same q r → Same p r
 same-trans {p} {q} {r} s t = record {
@@ -49,7 +51,8 @@ module _ {p q : Point} (s : Same p q) (h : Line) where
   same-over k = gt-by ρ (po (var 0) (s .first)) nought (var 3) (po (var 1) (s .second) ⊠ po (var 2) k ⊞ eq (con (negsuc 0)) (var 1 ⊗ var 2) (var 0 ⊗ var 3) scaled) tt
 
   pub same-under : Under h p → Under h q
-  same-under k = ge-by ρ (po (var 0) (s .first)) (var 3) nought (po (var 1) (s .second) ⊠ le (var 2) nought k ⊞ eq (con (pos 1)) (var 1 ⊗ var 2) (var 0 ⊗ var 3) scaled) tt
+  same-under k =
+      ge-by ρ (po (var 0) (s .first)) (var 3) nought (po (var 1) (s .second) ⊠ le (var 2) nought k ⊞ eq (con (pos 1)) (var 1 ⊗ var 2) (var 0 ⊗ var 3) scaled) tt
 
   pub same-out : Out h p → Out h q
   same-out k = gt-by ρ (po (var 0) (s .first)) (var 3) nought (po (var 1) (s .second) ⊠ lt (var 2) nought k ⊞ eq (con (pos 1)) (var 1 ⊗ var 2) (var 0 ⊗ var 3) scaled) tt
@@ -105,8 +108,11 @@ module _ {h : Line} {u u′ v v′ : Point} (s : Same u u′) (t : Same v v′) 
           let k : Expr = var 0 in
           let α : Expr = var 1 in
           let β : Expr = var 2 in
-          eq-by (m .k ∷ m .α ∷ m .β ∷ a ∷ a′ ∷ u .W ∷ u′ .W ∷ b ∷ b′ ∷ v .W ∷ v′ .W ∷ d ∷ d′ ∷ c .W ∷ c′ .W ∷ []) (k ⊗ var 6 ⊗ var 10 ⊗ var 13 ⊗ var 12) (α ⊗ var 10 ⊗ var 14 ⊗ var 5 ⊗ var 4 ⊕ β ⊗ var 6 ⊗ var 14 ⊗ var 9 ⊗ var 8)
-          (eqn (var 6 ⊗ var 10 ⊗ var 14) (k ⊗ var 11) (α ⊗ var 3 ⊕ β ⊗ var 7) e ⊹ eqn (neg (k ⊗ var 6 ⊗ var 10)) (var 11 ⊗ var 14) (var 12 ⊗ var 13) ed ⊹ eqn (α ⊗ var 10 ⊗ var 14) (var 3 ⊗ var 6) (var 4 ⊗ var 5) ea ⊹ eqn (β ⊗ var 6 ⊗ var 14) (var 7 ⊗ var 10) (var 8 ⊗ var 9) eb) tt
+          eq-by (m .k ∷ m .α ∷ m .β ∷ a ∷ a′ ∷ u .W ∷ u′ .W ∷ b ∷ b′ ∷ v .W ∷ v′ .W ∷ d ∷ d′ ∷ c .W ∷ c′ .W ∷ [])
+          (k ⊗ var 6 ⊗ var 10 ⊗ var 13 ⊗ var 12) (α ⊗ var 10 ⊗ var 14 ⊗ var 5 ⊗ var 4 ⊕ β ⊗ var 6 ⊗ var 14 ⊗ var 9 ⊗ var 8)
+          (eqn (var 6 ⊗ var 10 ⊗ var 14) (k ⊗ var 11) (α ⊗ var 3 ⊕ β ⊗ var 7) e
+          ⊹ eqn (neg (k ⊗ var 6 ⊗ var 10)) (var 11 ⊗ var 14) (var 12 ⊗ var 13) ed ⊹ eqn (α ⊗ var 10 ⊗ var 14) (var 3 ⊗ var 6) (var 4 ⊗ var 5) ea
+          ⊹ eqn (β ⊗ var 6 ⊗ var 14) (var 7 ⊗ var 10) (var 8 ⊗ var 9) eb) tt
 
 -- two crossings are the same point: each is h(u)·v − h(v)·u
 module _ (h : Line) (u v : Point) (wu : Proper u) (wv : Proper v) where
@@ -115,7 +121,12 @@ module _ (h : Line) (u v : Point) (wu : Proper u) (wv : Proper v) where
 
   crossing-meet : {c : Point} → Over h u → Out h v → Crossing h u v c → Same c (meet h u v)
   unfolding meet
-  crossing-meet {c} hu hv x = record { first = between-proper m wu wv; second = meet-proper hu hv; x = parallel (u .X) (v .X) (c .X) (m .isX); y = parallel (u .Y) (v .Y) (c .Y) (m .isY) }
+  crossing-meet {c} hu hv x = record {
+    first = between-proper m wu wv;
+    second = meet-proper hu hv;
+    x = parallel (u .X) (v .X) (c .X) (m .isX);
+    y = parallel (u .Y) (v .Y) (c .Y) (m .isY);
+  }
     where
       m : Between u v c
       m = x .between
@@ -130,8 +141,10 @@ module _ (h : Line) (u v : Point) (wu : Proper u) (wv : Proper v) where
           let β : Expr = var 2 in
           let hu : Expr = var 9 in
           let hv : Expr = var 10 in
-          eq-cancel (m .k ∷ m .α ∷ m .β ∷ a ∷ b ∷ d ∷ u .W ∷ v .W ∷ c .W ∷ value h u ∷ value h v ∷ []) (po k (m .k⁺)) (var 5 ⊗ (hu ⊗ var 7 ⊖ hv ⊗ var 6)) ((hu ⊗ var 4 ⊖ hv ⊗ var 3) ⊗ var 8)
-          (eqn (hu ⊗ var 7 ⊖ hv ⊗ var 6) (k ⊗ var 5) (α ⊗ var 3 ⊕ β ⊗ var 4) e ⊹ eqn (neg (hu ⊗ var 4 ⊖ hv ⊗ var 3)) (k ⊗ var 8) (α ⊗ var 6 ⊕ β ⊗ var 7) (m .isW) ⊹ eqn (var 3 ⊗ var 7 ⊖ var 4 ⊗ var 6) (α ⊗ hu ⊕ β ⊗ hv) nought zero) tt
+          eq-cancel (m .k ∷ m .α ∷ m .β ∷ a ∷ b ∷ d ∷ u .W ∷ v .W ∷ c .W ∷ value h u ∷ value h v ∷ []) (po k (m .k⁺))
+          (var 5 ⊗ (hu ⊗ var 7 ⊖ hv ⊗ var 6)) ((hu ⊗ var 4 ⊖ hv ⊗ var 3) ⊗ var 8)
+          (eqn (hu ⊗ var 7 ⊖ hv ⊗ var 6) (k ⊗ var 5) (α ⊗ var 3 ⊕ β ⊗ var 4) e
+          ⊹ eqn (neg (hu ⊗ var 4 ⊖ hv ⊗ var 3)) (k ⊗ var 8) (α ⊗ var 6 ⊕ β ⊗ var 7) (m .isW) ⊹ eqn (var 3 ⊗ var 7 ⊖ var 4 ⊗ var 6) (α ⊗ hu ⊕ β ⊗ hv) nought zero) tt
 
   -- and so is a point on h and on the line of u and v
   meet-line : (c : Point) → Over h u → Out h v → Proper c → det u v c ≡ pos 0 → On h c → Same (meet h u v) c

@@ -10,7 +10,7 @@ use Rattle.rings.specs.Lists.{All, Turned}
 use Rattle.rings.specs.Points.{Point, Line, Left, In, Over, Out, Under, On, Real, Proper, Same, Alike, Before}
 use Rattle.rings.specs.Rings.{at, Edge, StrictlyConvex, Ring, InRing, Starts}
 use Rattle.rings.specs.Cuts.{Crossing, Across, Pass, CutBy, OneCut, Inside, Cuts, Remainder, NoArea, Outcome, Result, Agree}
-use Rattle.rings.specs.Windows.{sides, InWindow}
+use Rattle.rings.specs.Windows.{side-lines, InWindow}
 use Rattle.rings.proofs.Convex.{CCW}
 use Rattle.rings.proofs.Linear as linear
 use Rattle.rings.proofs.Fan as fans
@@ -37,10 +37,12 @@ pub fan : (h : Line) (p : Point) (r : List Point) → Ring r → InRing r p → 
 fan h p r g = fans.fan h p r (g .three) (linear.ccw-of-convex (g .convex))
 
 -- ---- a line goes through a ring once: of the corners only one run lies outside, and only one inside
-pub rest-inside : (h : Line) {u f : Point} (n : Point) (r ns : List Point) {q : List Point} → Ring (u ∷ (r ++ (n ∷ (ns ++ (f ∷ q))))) → In h u → Out h n → In h f → All (In h) (f ∷ q)
+pub rest-inside : (h : Line) {u f : Point} (n : Point) (r ns : List Point) {q : List Point} → Ring (u ∷ (r ++ (n ∷ (ns ++ (f ∷ q))))) → In h u
+    → Out h n → In h f → All (In h) (f ∷ q)
 rest-inside h n r ns g = arcs.rest-inside h n r ns (linear.ccw-of-convex (g .convex))
 
-pub rest-outside : (h : Line) {n m : Point} (u : Point) (ns r : List Point) {q : List Point} → Ring (n ∷ (ns ++ (u ∷ (r ++ (m ∷ q))))) → Out h n → In h u → Out h m → All (Out h) (m ∷ q)
+pub rest-outside : (h : Line) {n m : Point} (u : Point) (ns r : List Point) {q : List Point} → Ring (n ∷ (ns ++ (u ∷ (r ++ (m ∷ q))))) → Out h n
+    → In h u → Out h m → All (Out h) (m ∷ q)
 rest-outside h u ns r g = arcs.rest-outside h u ns r (linear.ccw-of-convex (g .convex))
 
 -- ---- one cut: what is so of each, that there is one, and that a pass is made of passes over its parts
@@ -121,14 +123,16 @@ pub starts-at : (v : Point) (vs : List Point) → Ring (v ∷ vs) → All (λ q.
 starts-at = starts.starts-at
 
 -- and a corner that neither neighbour comes before is one
-pub valley : {r : List Point} {h i k : ℕ} → Ring r → Edge (length r) h i → Edge (length r) i k → (Before (at r h) (at r i) → ⊥) → (Before (at r k) (at r i) → ⊥) → (j : ℕ) → j < length r → Before (at r j) (at r i) → ⊥
+pub valley : {r : List Point} {h i k : ℕ} → Ring r → Edge (length r) h i → Edge (length r) i k → (Before (at r h) (at r i) → ⊥)
+    → (Before (at r k) (at r i) → ⊥) → (j : ℕ) → j < length r → Before (at r j) (at r i) → ⊥
 valley = valleys.valley
 
 pub starts-alike : {r s t : List Point} → Ring r → Turned r s → Turned r t → Starts s → Starts t → Alike s t
 starts-alike = starts.starts-alike
 
 -- ---- what lines leave is determined by what they ask of a point; so their order does not matter
-pub remainders-alike : {hs ks : List Line} {r t u : List Point} → ((p : Point) → Inside hs p ↔ Inside ks p) → Remainder hs r t → Remainder ks r u → Starts t → Starts u → Alike t u
+pub remainders-alike : {hs ks : List Line} {r t u : List Point} → ((p : Point) → Inside hs p ↔ Inside ks p) → Remainder hs r t → Remainder ks r u
+    → Starts t → Starts u → Alike t u
 remainders-alike = orders.remainders-alike
 
 pub not-both : {hs ks : List Line} {r t : List Point} → ((p : Point) → Inside hs p → Inside ks p) → Remainder hs r t → NoArea ks r → ⊥
@@ -145,11 +149,12 @@ any-order = orders.any-order
 
 -- ---- a window's sides
 module _ (l b r t : ℤ) where
-  pub sides-real : All Real (sides l b r t)
+  pub sides-real : All Real (side-lines l b r t)
   sides-real = windows.sides-real l b r t
 
-  pub in-window : (p : Point) → Inside (sides l b r t) p ↔ InWindow l b r t p
+  pub in-window : (p : Point) → Inside (side-lines l b r t) p ↔ InWindow l b r t p
   in-window = windows.in-window l b r t
 
-  pub sides-agree : {hs ks : List Line} {o : List Point} {x y : Option (List Point)} → List·Permᴰ (sides l b r t) hs → List·Permᴰ (sides l b r t) ks → Ring o → Result hs o x → Result ks o y → Agree x y
+  pub sides-agree : {hs ks : List Line} {o : List Point} {x y : Option (List Point)} → List·Permᴰ (side-lines l b r t) hs → List·Permᴰ (side-lines l b r t) ks
+      → Ring o → Result hs o x → Result ks o y → Agree x y
   sides-agree = windows.sides-agree l b r t

@@ -77,7 +77,9 @@ module _ (r : List Point) (three : 3 ≤ length r) {place : ℕ → ℕ} (t : To
   -- ---- a ring turns left, and begins to rise in its lowest corner only
   module _ (c : StrictlyConvex r) where
     pub ring-turns : (i : ℕ) → Left (p i) (p (suc i)) (p (suc (suc i)))
-    ring-turns i = c .left-of (place i) (place (suc i)) (place (suc (suc i))) (t .edge i) (edge-end (t .edge (suc i))) (two-apart three (t .edge i) (t .edge (suc i))) (one-apart three (t .edge (suc i)))
+    ring-turns i =
+        c .left-of (place i) (place (suc i)) (place (suc (suc i))) (t .edge i) (edge-end (t .edge (suc i)))
+        (two-apart three (t .edge i) (t .edge (suc i))) (one-apart three (t .edge (suc i)))
 
     module _ {e : Point} (way : (i : ℕ) → Up e (p i) (p (suc i)) ⊎ Down e (p i) (p (suc i))) where
       -- k is the place of a lowest corner
@@ -111,7 +113,9 @@ module _ (r : List Point) (three : 3 ≤ length r) {place : ℕ → ℕ} (t : To
             cases : Dec (k ≡ place i) → Dec (k ≡ place (suc (suc i))) → ⊥
             cases (yes x) y = not-at i x a
             cases (no x) (yes y) = not-at (suc (suc i)) y (cycle (cycle b))
-            cases (no x) (no y) = rise-lowest (low-to (suc i)) (ring-turns i) (c .left-of (place i) (place (suc i)) k (t .edge i) l x away) (c .left-of (place (suc i)) (place (suc (suc i))) k (t .edge (suc i)) l away y) a b
+            cases (no x) (no y) =
+                rise-lowest (low-to (suc i)) (ring-turns i) (c .left-of (place i) (place (suc i)) k (t .edge i) l x away)
+                (c .left-of (place (suc i)) (place (suc (suc i))) k (t .edge (suc i)) l away y) a b
 
       pub ring-rises : e .W ≡ pos 0 → All Proper r → Once (length r) (Rise e p)
       ring-rises far w = go (lowest far (at r) (length r - 1) (λ j h. place-all w j (omega arith)))
@@ -128,11 +132,14 @@ module _ (r : List Point) (three : 3 ≤ length r) {place : ℕ → ℕ} (t : To
     turns-on i = in-all-rounds {n = length r} (omega arith) {P = λ i. Left (p i) (p (suc i)) (p (suc (suc i)))} more left i i (omega arith)
       where
         more : (i j : ℕ) → j ≡ i + length r → Left (p i) (p (suc i)) (p (suc (suc i))) → Left (p j) (p (suc j)) (p (suc (suc j)))
-        more i j e h = transport (λ x. Left (at r (sym (again i j e) x)) (at r (sym (again (suc i) (suc j) (omega arith)) x)) (at r (sym (again (suc (suc i)) (suc (suc j)) (omega arith)) x))) h
+        more i j e h =
+            transport (λ x. Left (at r (sym (again i j e) x)) (at r (sym (again (suc i) (suc j) (omega arith)) x))
+            (at r (sym (again (suc (suc i)) (suc (suc j)) (omega arith)) x))) h
 
     module _ {e : Point} (way : (i : ℕ) → Up e (p i) (p (suc i)) ⊎ Down e (p i) (p (suc i))) where
       pub ring-of-rise : e .W ≡ pos 0 → All Proper r → Once (length r) (Rise e p) → StrictlyConvex r
-      ring-of-rise far w o = convex-of-ccw (subst CCW (list-of r (λ i. p (suc i)) (λ i h. ap (at r) (t .is i h))) (ccw-of-rise (o .k) p round (o .below) (o .holds) (o .only)))
+      ring-of-rise far w o =
+          convex-of-ccw (subst CCW (list-of r (λ i. p (suc i)) (λ i h. ap (at r) (t .is i h))) (ccw-of-rise (o .k) p round (o .below) (o .holds) (o .only)))
         where
           round : Round e p (length r)
           round = record { far = far; proper = λ i. place-all w (place i) (edge-start (t .edge i)); again = λ i j l. ap (at r) (again i j l); left = turns-on; way = way }

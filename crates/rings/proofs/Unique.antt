@@ -1,4 +1,5 @@
--- Two rings with the same points, each started at its lowest, then leftmost corner, are alike: a corner is no mixture of other points of its ring, so it is a corner of the other ring too; and both lists are sorted by turning left as seen from the start.
+-- Two rings with the same points, each started at its lowest, then leftmost corner, are alike: a corner is no mixture of other points
+-- of its ring, so it is a corner of the other ring too; and both lists are sorted by turning left as seen from the start.
 use mathlib.Core.Path.{_≡_, refl, _∙_}
 use mathlib.Core.List.{List, [], _∷_, _++_}
 use mathlib.Core.Logic.{_⊎_, inl, inr, ⊎-swap, _↔_}
@@ -16,7 +17,8 @@ use Rattle.rings.specs.Lists.{All, ∅, _◂_, step, closed, Turned}
 use Rattle.rings.specs.Points.{Point, Line, value, through, det, Left, LeftOn, Over, On, Under, Proper, Same, Alike, ∅ˢ, _◂ˢ_, Before}
 use Rattle.rings.specs.Rings.{Ring, InRing, Starts}
 use Rattle.rings.proofs.Plane.{cycle, left-irrefl, left-asym, corners, det-of, nought, x-of, y-of, w-of}
-use Rattle.rings.proofs.Lists.{Any, here, there, Pairs, _◂ᵖ_, take, all-at, all-zip, any-all, any-long, either, pairs-map, edges-turned, turned-length, final, final-walk, final-part}
+use Rattle.rings.proofs.Lists.{Any, here, there, Pairs, _◂ᵖ_, take, all-at, all-zip, any-all}
+use Rattle.rings.proofs.Lists.{any-long, either, pairs-map, edges-turned, turned-length, final, final-walk, final-part}
 use Rattle.rings.proofs.Convex.{CCW, _◂ᶜ_, ccw-part, ccw-turned, ccw-star}
 use Rattle.rings.proofs.Linear.{ccw-of-convex}
 use Rattle.rings.proofs.Fan.{fan⁺, corners-in}
@@ -41,7 +43,10 @@ module _ (u v w : Point) where
   tip-is p = ring (corners (u ∷ v ∷ w ∷ p ∷ [])) tip-of (det-of 0 1 3 ⊕ det-of 1 2 3) tt
     where
       tip-of : Expr
-      tip-of = ((y-of 0 ⊗ w-of 1 ⊖ w-of 0 ⊗ y-of 1) ⊕ (y-of 1 ⊗ w-of 2 ⊖ w-of 1 ⊗ y-of 2)) ⊗ x-of 3 ⊕ ((w-of 0 ⊗ x-of 1 ⊖ x-of 0 ⊗ w-of 1) ⊕ (w-of 1 ⊗ x-of 2 ⊖ x-of 1 ⊗ w-of 2)) ⊗ y-of 3 ⊕ ((x-of 0 ⊗ y-of 1 ⊖ y-of 0 ⊗ x-of 1) ⊕ (x-of 1 ⊗ y-of 2 ⊖ y-of 1 ⊗ x-of 2)) ⊗ w-of 3
+      tip-of =
+          ((y-of 0 ⊗ w-of 1 ⊖ w-of 0 ⊗ y-of 1) ⊕ (y-of 1 ⊗ w-of 2 ⊖ w-of 1 ⊗ y-of 2)) ⊗ x-of 3
+          ⊕ ((w-of 0 ⊗ x-of 1 ⊖ x-of 0 ⊗ w-of 1) ⊕ (w-of 1 ⊗ x-of 2 ⊖ x-of 1 ⊗ w-of 2)) ⊗ y-of 3
+          ⊕ ((x-of 0 ⊗ y-of 1 ⊖ y-of 0 ⊗ x-of 1) ⊕ (x-of 1 ⊗ y-of 2 ⊖ y-of 1 ⊗ x-of 2)) ⊗ w-of 3
 
   tip-top : On tip v
   unfolding value through
@@ -53,8 +58,12 @@ unfolding value through
 tip-only {u} {v} {w} {p} wp wv t a b = record {
   first = wp;
   second = wv;
-  x = eq-cancel ρ (po (det-of 0 1 2) (t .left)) (x-of 3 ⊗ w-of 1) (x-of 1 ⊗ w-of 3) (eqn (x-of 0 ⊗ w-of 1 ⊖ x-of 1 ⊗ w-of 0) (det-of 1 2 3) nought b ⊹ eqn (x-of 2 ⊗ w-of 1 ⊖ x-of 1 ⊗ w-of 2) (det-of 0 1 3) nought a) tt;
-  y = eq-cancel ρ (po (det-of 0 1 2) (t .left)) (y-of 3 ⊗ w-of 1) (y-of 1 ⊗ w-of 3) (eqn (y-of 0 ⊗ w-of 1 ⊖ y-of 1 ⊗ w-of 0) (det-of 1 2 3) nought b ⊹ eqn (y-of 2 ⊗ w-of 1 ⊖ y-of 1 ⊗ w-of 2) (det-of 0 1 3) nought a) tt;
+  x =
+      eq-cancel ρ (po (det-of 0 1 2) (t .left)) (x-of 3 ⊗ w-of 1) (x-of 1 ⊗ w-of 3)
+      (eqn (x-of 0 ⊗ w-of 1 ⊖ x-of 1 ⊗ w-of 0) (det-of 1 2 3) nought b ⊹ eqn (x-of 2 ⊗ w-of 1 ⊖ x-of 1 ⊗ w-of 2) (det-of 0 1 3) nought a) tt;
+  y =
+      eq-cancel ρ (po (det-of 0 1 2) (t .left)) (y-of 3 ⊗ w-of 1) (y-of 1 ⊗ w-of 3)
+      (eqn (y-of 0 ⊗ w-of 1 ⊖ y-of 1 ⊗ w-of 0) (det-of 1 2 3) nought b ⊹ eqn (y-of 2 ⊗ w-of 1 ⊖ y-of 1 ⊗ w-of 2) (det-of 0 1 3) nought a) tt;
 }
   where
     ρ : Env
@@ -69,7 +78,10 @@ peak-first v (w ∷ []) l c = absurd (omega arith)
 peak-first v (w ∷ z ∷ zs) l c = record {
   f = tip u v w;
   top = tip-top u v w;
-  only = λ p wp wv i k. let e = ends i in let s = sum-zero (det u v p) (det v w p) (value (tip u v w) p) (tip-is u v w p) k (e .0 .leftOn) (e .1 .leftOn) in tip-only wp wv (turn (ccw-part (take (take (final-part z zs))) c)) (s .0) (s .1);
+  only = λ p wp wv i k.
+      let e = ends i in
+      let s = sum-zero (det u v p) (det v w p) (value (tip u v w) p) (tip-is u v w p) k (e .0 .leftOn) (e .1 .leftOn) in
+      tip-only wp wv (turn (ccw-part (take (take (final-part z zs))) c)) (s .0) (s .1);
 }
   where
     u : Point
@@ -113,10 +125,12 @@ module _ (r s : List Point) (gr : Ring r) (gs : Ring s) (points : (p : Point) �
       go (inr a) = found a (gs .proper) (corners-in cs)
 
   corners-of : All (Has s) r
-  corners-of = all-zip {Q = λ v. InRing r v × Peak r v} (λ v n k. corner v n (k .0) (k .1)) (gr .proper) (all-zip (λ v i k. (i, k)) (corners-in cr) (peaks r (gr .three) cr))
+  corners-of =
+      all-zip {Q = λ v. InRing r v × Peak r v} (λ v n k. corner v n (k .0) (k .1)) (gr .proper) (all-zip (λ v i k. (i, k)) (corners-in cr) (peaks r (gr .three) cr))
 
 -- ---- two lists with the same members, in one strict order, are alike
-module _ (R : Point → Point → Type 0) (irrefl : (a : Point) → R a a → ⊥) (asym : (a b : Point) → R a b → R b a → ⊥) (respects : (a p q : Point) → Same p q → R a p → R a q) where
+module _ (R : Point → Point → Type 0) (irrefl : (a : Point) → R a a → ⊥) (asym : (a b : Point) → R a b → R b a → ⊥)
+    (respects : (a p q : Point) → Same p q → R a p → R a q) where
   has : {a b : Point} {xs : List Point} → All (R a) xs → Has xs b → R a b
   has {a} {b} ra k = any-all (λ q e h. respects a q b e h) k ra
 

@@ -1,4 +1,5 @@
--- A corner of a ring that neither neighbour comes before, no corner comes before: seen from it every other lies between its two edges, so no lower than both neighbours, and where it is level no further left.
+-- A corner of a ring that neither neighbour comes before, no corner comes before: seen from it every other lies
+-- between its two edges, so no lower than both neighbours, and where it is level no further left.
 use mathlib.Core.Path.{_≡_, subst}
 use mathlib.Core.List.{List, [], _∷_}
 use mathlib.Core.Logic.{⊎-elim, _≢_}
@@ -37,16 +38,25 @@ module _ {p v q x : Point} (pvq : Left p v q) (pvx : Left p v x) (vqx : Left v q
   unfolding value through
   valley-between f g (lower k) =
       clash ρ
-      (po (det-of 1 2 3) (vqx .left) ⊠ le (y-of 1 ⊗ w-of 0) (y-of 0 ⊗ w-of 1) (no-lower f) ⊞ po (det-of 0 1 3) (pvx .left) ⊠ le (y-of 1 ⊗ w-of 2) (y-of 2 ⊗ w-of 1) (no-lower g) ⊞ po (det-of 0 1 2) (pvq .left) ⊠ lt (y-of 3 ⊗ w-of 1) (y-of 1 ⊗ w-of 3) k) tt
+      (po (det-of 1 2 3) (vqx .left) ⊠ le (y-of 1 ⊗ w-of 0) (y-of 0 ⊗ w-of 1) (no-lower f)
+      ⊞ po (det-of 0 1 3) (pvx .left) ⊠ le (y-of 1 ⊗ w-of 2) (y-of 2 ⊗ w-of 1) (no-lower g) ⊞ po (det-of 0 1 2) (pvq .left) ⊠ lt (y-of 3 ⊗ w-of 1) (y-of 1 ⊗ w-of 3) k) tt
   valley-between f g (level e k) =
       clash ρ
-      (po (det-of 1 2 3) (vqx .left) ⊠ le (x-of 1 ⊗ w-of 0) (x-of 0 ⊗ w-of 1) (no-further-left f p-level) ⊞ po (det-of 0 1 3) (pvx .left) ⊠ le (x-of 1 ⊗ w-of 2) (x-of 2 ⊗ w-of 1) (no-further-left g q-level) ⊞ po (det-of 0 1 2) (pvq .left) ⊠ lt (x-of 3 ⊗ w-of 1) (x-of 1 ⊗ w-of 3) k) tt
+      (po (det-of 1 2 3) (vqx .left) ⊠ le (x-of 1 ⊗ w-of 0) (x-of 0 ⊗ w-of 1) (no-further-left f p-level)
+      ⊞ po (det-of 0 1 3) (pvx .left) ⊠ le (x-of 1 ⊗ w-of 2) (x-of 2 ⊗ w-of 1) (no-further-left g q-level)
+      ⊞ po (det-of 0 1 2) (pvq .left) ⊠ lt (x-of 3 ⊗ w-of 1) (x-of 1 ⊗ w-of 3) k) tt
     where
       p-level : p .Y *ℤ v .W ≡ v .Y *ℤ p .W
-      p-level = ≤-antisym (ge-by ρ (po (det-of 1 2 3) (vqx .left)) (y-of 0 ⊗ w-of 1) (y-of 1 ⊗ w-of 0) (po (det-of 0 1 3) (pvx .left) ⊠ le (y-of 1 ⊗ w-of 2) (y-of 2 ⊗ w-of 1) (no-lower g) ⊞ eq (neg (det-of 0 1 2)) (y-of 3 ⊗ w-of 1) (y-of 1 ⊗ w-of 3) e) tt) (no-lower f)
+      p-level =
+          ≤-antisym (ge-by ρ (po (det-of 1 2 3) (vqx .left)) (y-of 0 ⊗ w-of 1) (y-of 1 ⊗ w-of 0)
+          (po (det-of 0 1 3) (pvx .left) ⊠ le (y-of 1 ⊗ w-of 2) (y-of 2 ⊗ w-of 1) (no-lower g)
+          ⊞ eq (neg (det-of 0 1 2)) (y-of 3 ⊗ w-of 1) (y-of 1 ⊗ w-of 3) e) tt) (no-lower f)
 
       q-level : q .Y *ℤ v .W ≡ v .Y *ℤ q .W
-      q-level = ≤-antisym (ge-by ρ (po (det-of 0 1 3) (pvx .left)) (y-of 2 ⊗ w-of 1) (y-of 1 ⊗ w-of 2) (po (det-of 1 2 3) (vqx .left) ⊠ le (y-of 1 ⊗ w-of 0) (y-of 0 ⊗ w-of 1) (no-lower f) ⊞ eq (neg (det-of 0 1 2)) (y-of 3 ⊗ w-of 1) (y-of 1 ⊗ w-of 3) e) tt) (no-lower g)
+      q-level =
+          ≤-antisym (ge-by ρ (po (det-of 0 1 3) (pvx .left)) (y-of 2 ⊗ w-of 1) (y-of 1 ⊗ w-of 2)
+          (po (det-of 1 2 3) (vqx .left) ⊠ le (y-of 1 ⊗ w-of 0) (y-of 0 ⊗ w-of 1) (no-lower f)
+          ⊞ eq (neg (det-of 0 1 2)) (y-of 3 ⊗ w-of 1) (y-of 1 ⊗ w-of 3) e) tt) (no-lower g)
 
 -- ---- in a ring, by places
 apart : {n h i k : ℕ} → 3 ≤ n → Edge n h i → Edge n i k → (k < n) × (k ≢ h) × (k ≢ i)
@@ -55,7 +65,8 @@ apart t (along a) (closing b) = (omega arith, omega arith, omega arith)
 apart t (closing a) (along b) = (omega arith, omega arith, omega arith)
 apart t (closing a) (closing b) = absurd (omega arith)
 
-pub valley : {r : List Point} {h i k : ℕ} → Ring r → Edge (length r) h i → Edge (length r) i k → (Before (at r h) (at r i) → ⊥) → (Before (at r k) (at r i) → ⊥) → (j : ℕ) → j < length r → Before (at r j) (at r i) → ⊥
+pub valley : {r : List Point} {h i k : ℕ} → Ring r → Edge (length r) h i → Edge (length r) i k → (Before (at r h) (at r i) → ⊥)
+    → (Before (at r k) (at r i) → ⊥) → (j : ℕ) → j < length r → Before (at r j) (at r i) → ⊥
 valley {r} {h} {i} {k} g hi ik f e j l b = go (ℕ-discrete j h) (ℕ-discrete j i) (ℕ-discrete j k)
   where
     go : Dec (j ≡ h) → Dec (j ≡ i) → Dec (j ≡ k) → ⊥

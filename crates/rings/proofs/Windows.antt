@@ -13,7 +13,7 @@ use Rattle.rings.specs.Lists.{All, ∅, _◂_}
 use Rattle.rings.specs.Points.{Point, Line, value, Real}
 use Rattle.rings.specs.Rings.{Ring}
 use Rattle.rings.specs.Cuts.{Inside, Result, Agree}
-use Rattle.rings.specs.Windows.{left-side, right-side, bottom-side, top-side, sides, InWindow}
+use Rattle.rings.specs.Windows.{left-side, right-side, bottom-side, top-side, side-lines, InWindow}
 use Rattle.rings.proofs.Plane.{nought}
 use Rattle.rings.proofs.Orders.{all-order, any-order}
 
@@ -69,10 +69,10 @@ module _ (z : ℤ) where
   top-real = (far (pos 0) (negsuc 0), gt (z ∷ []) nought (nought ⊗ nought ⊕ minus-one ⊗ minus-one ⊕ var 0 ⊗ nought) (nat⁺ 0) tt)
 
 module _ (l b r t : ℤ) where
-  pub sides-real : All Real (sides l b r t)
+  pub sides-real : All Real (side-lines l b r t)
   sides-real = left-real l ◂ right-real r ◂ bottom-real b ◂ top-real t ◂ ∅
 
-  pub in-window : (p : Point) → Inside (sides l b r t) p ↔ InWindow l b r t p
+  pub in-window : (p : Point) → Inside (side-lines l b r t) p ↔ InWindow l b r t p
   in-window p = (to, λ w. from (left-value l p) (w .left) ◂ from (right-value r p) (w .right) ◂ from (bottom-value b p) (w .bottom) ◂ from (top-value t p) (w .top) ◂ ∅)
     where
       from : {v x y : ℤ} → v ≡ y -ℤ x → x ≤ℤ y → pos 0 ≤ℤ v
@@ -81,9 +81,15 @@ module _ (l b r t : ℤ) where
       into : {v x y : ℤ} → v ≡ y -ℤ x → pos 0 ≤ℤ v → x ≤ℤ y
       into e h = diff-≤ (subst (λ z. pos 0 ≤ℤ z) e h)
 
-      to : Inside (sides l b r t) p → InWindow l b r t p
-      to (left ◂ (right ◂ (bottom ◂ (top ◂ ∅)))) = record { left = into (left-value l p) left; right = into (right-value r p) right; bottom = into (bottom-value b p) bottom; top = into (top-value t p) top }
+      to : Inside (side-lines l b r t) p → InWindow l b r t p
+      to (left ◂ (right ◂ (bottom ◂ (top ◂ ∅)))) = record {
+        left = into (left-value l p) left;
+        right = into (right-value r p) right;
+        bottom = into (bottom-value b p) bottom;
+        top = into (top-value t p) top;
+      }
 
   -- the sides in any two orders
-  pub sides-agree : {hs ks : List Line} {o : List Point} {x y : Option (List Point)} → List·Permᴰ (sides l b r t) hs → List·Permᴰ (sides l b r t) ks → Ring o → Result hs o x → Result ks o y → Agree x y
+  pub sides-agree : {hs ks : List Line} {o : List Point} {x y : Option (List Point)} → List·Permᴰ (side-lines l b r t) hs → List·Permᴰ (side-lines l b r t) ks
+      → Ring o → Result hs o x → Result ks o y → Agree x y
   sides-agree d e g = any-order (List·Permᴰ·trans (Permᴰ·symm d) e) (all-order d sides-real) g

@@ -3,7 +3,7 @@
 --   right-side r        the line of the right side at r
 --   bottom-side b       the line of the bottom side at b
 --   top-side t          the line of the top side at t
---   sides l b r t       the sides left, right, bottom, top of the window l, b, r, t (left, bottom, right, top)
+--   side-lines l b r t  the lines of the sides left, right, bottom, top of the window l, b, r, t (left, bottom, right, top)
 --   InWindow l b r t p  p lies in the closed window: left ≤ X/W ≤ right and bottom ≤ Y/W ≤ top
 use mathlib.Core.List.{List, [], _∷_}
 use lib.IntN.{ℤ, pos, negsuc, negℤ, _*ℤ_}
@@ -22,8 +22,8 @@ bottom-side b = record { A = pos 0; B = pos 1; C = negℤ b }
 unfoldable pub top-side : ℤ → Line
 top-side t = record { A = pos 0; B = negsuc 0; C = t }
 
-abbrev pub sides : ℤ → ℤ → ℤ → ℤ → List Line
-sides l b r t = left-side l ∷ right-side r ∷ bottom-side b ∷ top-side t ∷ []
+abbrev pub side-lines : ℤ → ℤ → ℤ → ℤ → List Line
+side-lines l b r t = left-side l ∷ right-side r ∷ bottom-side b ∷ top-side t ∷ []
 
 pub record InWindow (l b r t : ℤ) (p : Point) : Type 0 where
   pub left : (l *ℤ p .W) ≤ℤ p .X

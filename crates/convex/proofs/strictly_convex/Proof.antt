@@ -26,7 +26,10 @@ abbrev μ-loop : tie.MeasureT-loop
 
 -- a way that is kept in two variables is read back as it was
 way-back : (w : Way) → Short w → record { x = toZ w32 (ofZ w32 (w .x)); y = toZ w32 (ofZ w32 (w .y)) } ≡ w
-way-back w h = λ i. record { x = toZ-ofZ {w = w32} {z = w .x} (fits-abs (omega (arith, within-abs (h .x)))) i; y = toZ-ofZ {w = w32} {z = w .y} (fits-abs (omega (arith, within-abs (h .y)))) i }
+way-back w h = λ i. record {
+  x = toZ-ofZ {w = w32} {z = w .x} (fits-abs (omega (arith, within-abs (h .x)))) i;
+  y = toZ-ofZ {w = w32} {z = w .y} (fits-abs (omega (arith, within-abs (h .y)))) i;
+}
 
 sub-corner-at : tie.Need-sub-corner-at Inv-loop μ-loop
 sub-corner-at c = omega (arith, c .pre .three)
@@ -38,11 +41,16 @@ corner-at-requires-2 : tie.Need-corner-at-requires-2 Inv-loop μ-loop
 corner-at-requires-2 c κs = omega (arith, c .before .pre .three)
 
 way-from-requires : tie.Need-way-from-requires Inv-loop μ-loop
-way-from-requires c κs = let s = c .before .before in (read-on (s .pre) (length (now (s .args .c)) - 2) (omega (arith, s .pre .three)) (c .before .corner-at .ensures), read-on (s .pre) 0 (omega (arith, s .pre .three)) (c .corner-at2 .ensures))
+way-from-requires c κs =
+    let s = c .before .before in (
+      read-on (s .pre) (length (now (s .args .c)) - 2) (omega (arith, s .pre .three)) (c .before .corner-at .ensures),
+      read-on (s .pre) 0 (omega (arith, s .pre .three)) (c .corner-at2 .ensures),
+    )
 
 -- the closing edge
 closes : (c : tie.After-way-from Inv-loop μ-loop) → c .way-from .result ≡ edge-of (now (c .before .before .before .args .c)) 0
-closes c = closing-is (c .before .before .before .pre) (c .way-from .ensures .0 ∙ (λ i. wayFrom (c .before .before .corner-at .ensures i) (c .before .corner-at2 .ensures i)))
+closes c =
+    closing-is (c .before .before .before .pre) (c .way-from .ensures .0 ∙ (λ i. wayFrom (c .before .before .corner-at .ensures i) (c .before .corner-at2 .ensures i)))
 
 loop-holds : tie.Need-loop-holds Inv-loop μ-loop
 loop-holds c =
@@ -72,16 +80,20 @@ corner-at-requires-4 c κs = within (c .before)
 
 way-from-requires-2 : tie.Need-way-from-requires-2 Inv-loop μ-loop
 way-from-requires-2 c κs =
-    let l = c .before .before in
-    (read-on (start l .pre) (l .before .loop .i - 2) (earlier l) (c .before .corner-at3 .ensures), read-on (start l .pre) (l .before .loop .i) (within l) (c .corner-at4 .ensures))
+    let l = c .before .before in (
+      read-on (start l .pre) (l .before .loop .i - 2) (earlier l) (c .before .corner-at3 .ensures),
+      read-on (start l .pre) (l .before .loop .i) (within l) (c .corner-at4 .ensures),
+    )
 
 turns-left-requires : tie.Need-turns-left-requires Inv-loop μ-loop
 turns-left-requires c κs = let l = c .before .before .before in (walked-short (start l .pre) (l .before .loop .inv), c .way-from2 .ensures .1)
 
-follows : (c : tie.After-way-from2 Inv-loop μ-loop) → let l = c .before .before .before in c .way-from2 .result ≡ edge-of (now (start l .args .c)) (suc (l .before .loop .inv .k))
+follows : (c : tie.After-way-from2 Inv-loop μ-loop)
+    → let l = c .before .before .before in c .way-from2 .result ≡ edge-of (now (start l .args .c)) (suc (l .before .loop .inv .k))
 follows c =
     let l = c .before .before .before in
-    next-is (start l .pre) (l .before .loop .inv) (l .loop-test .taken) (c .way-from2 .ensures .0 ∙ (λ i. wayFrom (c .before .before .corner-at3 .ensures i) (c .before .corner-at4 .ensures i)))
+    next-is (start l .pre) (l .before .loop .inv) (l .loop-test .taken)
+    (c .way-from2 .ensures .0 ∙ (λ i. wayFrom (c .before .before .corner-at3 .ensures i) (c .before .corner-at4 .ensures i)))
 
 returns : tie.Need-returns Inv-loop μ-loop
 returns c =
@@ -118,7 +130,8 @@ loop-again c =
     let t = tested c in
     let l = this c in
     let s = start l in
-    let w = walked-more (s .pre) (l .before .loop .inv) (follows (t .before)) (l .loop-test .taken) (sym (t .turns-left .ensures) ∙ not-false _ (counted c .before .if1 .left)) in
+    let left = sym (t .turns-left .ensures) ∙ not-false _ (counted c .before .if1 .left) in
+    let w = walked-more (s .pre) (l .before .loop .inv) (follows (t .before)) (l .loop-test .taken) left in
     let b = way-back (t .before .way-from2 .result) (t .before .way-from2 .ensures .1) in
     transport (λ i. Walked (now (s .args .c)) (sym b i) (l .before .loop .changes + sym (counted c .change .ensures) i) (l .before .loop .i + 2)) w
 
@@ -154,7 +167,8 @@ returns-3 : tie.Need-returns-3 Inv-loop μ-loop
 returns-3 c =
     let t = c .before .before in
     let l = t .before in
-    ap (λ (n : ℕ). eqb (l .before .loop .changes + n) 2) (c .change2 .ensures) ∙ walked-end (entry l .pre) (l .before .loop .inv) (comes-round l) (l .loop-test .left) (sym (t .turns-left2 .ensures) ∙ not-false _ (c .before .if2 .left))
+    ap (λ (n : ℕ). eqb (l .before .loop .changes + n) 2) (c .change2 .ensures)
+    ∙ walked-end (entry l .pre) (l .before .loop .inv) (comes-round l) (l .loop-test .left) (sym (t .turns-left2 .ensures) ∙ not-false _ (c .before .if2 .left))
 
 pub strictly-convex-spec : {M : Type 1} → statement M
 strictly-convex-spec =

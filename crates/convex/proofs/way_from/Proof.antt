@@ -33,7 +33,8 @@ sub-t3 c = let s = c .before .before .before .before in need β (env s) (bounds 
 sub-t4 : tie.Need-sub-t4
 sub-t4 c = need β (env (start c)) (bounds (start c)) (less 3 1) tt
 
-is : (c : tie.After-struct-told4) → record { x = machine (env (start c)) (less 2 0); y = machine (env (start c)) (less 3 1) } ≡ wayFrom (start c .args .a) (start c .args .b)
+is : (c : tie.After-struct-told4)
+    → record { x = machine (env (start c)) (less 2 0); y = machine (env (start c)) (less 3 1) } ≡ wayFrom (start c .args .a) (start c .args .b)
 is c = let v = value β (env (start c)) (bounds (start c)) in λ i. record { x = v (less 2 0) tt i; y = v (less 3 1) tt i }
 
 returns : tie.Need-returns

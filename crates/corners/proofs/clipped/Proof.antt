@@ -22,7 +22,8 @@ blank-requires c κs = search needs
 returns : tie.Need-returns
 returns c =
     let k = c .before .before .before in
-    subst (CornerClipped (cornersOf (now (k .before .args .c))) (k .before .args .s)) (sym (c .blank .ensures)) (clip-missed (k .kept-span .ensures) (sym (c .before .before .is-empty .ensures) ∙ c .before .if1 .taken))
+    subst (CornerClipped (cornersOf (now (k .before .args .c))) (k .before .args .s)) (sym (c .blank .ensures))
+    (clip-missed (k .kept-span .ensures) (sym (c .before .before .is-empty .ensures) ∙ c .before .if1 .taken))
 
 -- something is left
 some : (c : tie.Else1) → let s = c .before .before .kept-span .result in lessThan (s .last) (s .first) ≡ false
@@ -41,7 +42,9 @@ lowest-part-requires-2 c κs =
     (last-time g (some e), g .sized .d1)
 
 returns-2 : tie.Need-returns-2
-returns-2 c = let e = c .before .before .before .before in clip-kept (e .before .before .kept-span .ensures) (some e) (c .before .lowest-part .ensures) (c .lowest-part2 .ensures)
+returns-2 c =
+    let e = c .before .before .before .before in
+    clip-kept (e .before .before .kept-span .ensures) (some e) (c .before .lowest-part .ensures) (c .lowest-part2 .ensures)
 
 pub clipped-spec : {M : Type 1} → statement M
 clipped-spec = tie.close (tie.spec kept-span-requires is-empty-requires blank-requires returns lowest-part-requires lowest-part-requires-2 returns-2)

@@ -36,7 +36,8 @@ read : (a : Corner) → mag (a .x) < 2 ^ 31 → mag (a .y) < 2 ^ 31 → _≡_ {A
 read a hx hy = λ i. record { x = back w32 (a .x) hx i; y = back w32 (a .y) hy i }
 
 -- the two cross products as they are read
-p-is : (c : tie.After-cross2) → let s = c .before .before .before .before .before .before .before .args in toZ w64 (ofZ w64 (c .before .before .cross .result)) ≡ edgeP (s .a) (s .b) (s .s)
+p-is : (c : tie.After-cross2)
+    → let s = c .before .before .before .before .before .before .before .args in toZ w64 (ofZ w64 (c .before .before .cross .result)) ≡ edgeP (s .a) (s .b) (s .s)
 p-is c =
     let r = c .before .before in
     let s = r .before .before .before .before .before .args .s in
@@ -44,12 +45,14 @@ p-is c =
     let run = r .before .way-from2 .ensures .0 ∙ (λ i. wayFrom (read (start s) (g .0 .1) (g .1 .0 .1) i) (read (finish s) (g .1 .1 .0 .1) (g .1 .1 .1 .0 .1) i)) in
     back w64 (r .cross .result) (r .cross .ok) ∙ r .cross .ensures ∙ (λ i. crossOf (run i) (r .before .before .before .before .way-from .ensures .0 i))
 
-q-is : (c : tie.After-cross2) → let s = c .before .before .before .before .before .before .before .args in toZ w64 (ofZ w64 (c .cross2 .result)) ≡ edgeQ (s .a) (s .b) (s .s)
+q-is : (c : tie.After-cross2)
+    → let s = c .before .before .before .before .before .before .before .args in toZ w64 (ofZ w64 (c .cross2 .result)) ≡ edgeQ (s .a) (s .b) (s .s)
 q-is c =
     let g = c .before .before .before .before .before .struct-told .given in
     let s = c .before .before .before .before .before .before .before .args in
     let from = c .before .way-from3 .ensures .0 ∙ (λ i. wayFrom (s .a) (read (start (s .s)) (g .0 .1) (g .1 .0 .1) i)) in
-    back w64 (c .cross2 .result) (c .cross2 .ok) ∙ c .cross2 .ensures ∙ (λ i. crossOf (c .before .before .before .before .before .before .way-from .ensures .0 i) (from i))
+    back w64 (c .cross2 .result) (c .cross2 .ok) ∙ c .cross2 .ensures
+    ∙ (λ i. crossOf (c .before .before .before .before .before .before .way-from .ensures .0 i) (from i))
 
 cut-requires : tie.Need-cut-requires
 cut-requires c κs =
@@ -61,7 +64,9 @@ cut-requires c κs =
     )
 
 returns : tie.Need-returns
-returns c = let s = c .before .before .before .before .before .before .before .before .args .span in subst₂ (λ (p q : ℤ). SpanCut p q s (c .cut .result)) (p-is (c .before)) (q-is (c .before)) (c .cut .ensures)
+returns c =
+    let s = c .before .before .before .before .before .before .before .before .args .span in
+    subst₂ (λ (p q : ℤ). SpanCut p q s (c .cut .result)) (p-is (c .before)) (q-is (c .before)) (c .cut .ensures)
 
 pub cut-by-edge-spec : {M : Type 1} → statement M
 cut-by-edge-spec = tie.close (tie.spec way-from-requires way-from-requires-2 cross-requires way-from-requires-3 cross-requires-2 cut-requires returns)

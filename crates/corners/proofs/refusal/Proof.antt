@@ -55,7 +55,8 @@ returns-4 : tie.Need-returns-4
 unfolding cyrusBeckRefusal first countRefusal offTable convexRefusal
 returns-4 c =
     let a = c .before .before .before in
-    simp (c .stroke-refusal .ensures, counted (a .before .before), le-ltb _ _ (on a), sym (c .before .before .strictly-convex .ensures) ∙ not-false _ (c .before .if3 .left), only-stroke (a .before .before .before .before .args .s))
+    let convex = sym (c .before .before .strictly-convex .ensures) ∙ not-false _ (c .before .if3 .left) in
+    simp (c .stroke-refusal .ensures, counted (a .before .before), le-ltb _ _ (on a), convex, only-stroke (a .before .before .before .before .args .s))
 
 pub refusal-spec : {M : Type 1} → statement M
 refusal-spec = tie.close (tie.spec right-count-requires returns first-off-requires returns-2 strictly-convex-requires returns-3 stroke-refusal-requires returns-4)
