@@ -19,10 +19,10 @@ use Rattle.spans.specs.Spans.{SpanOf}
 use Rattle.spans.proofs.Cutting.{in-time}
 use Rattle.spans.proofs.Parts.{all, all-proper, all-sized, in-all, part-missed, none-left, span-part, lowest-zeroth, lowest-unit}
 use Rattle.strokes.specs.Strokes.{Keeps, PointAt, Clipped, blank}
-use Rattle.strokes.specs.Workers.{Inside, keptAnswer, wholeAnswer, missedCut, CutIs}
+use Rattle.strokes.specs.Workers.{EndsInside, keptAnswer, wholeAnswer, missedCut, CutIs}
 use Rattle.strokes.specs.declared.Cut.{Cut}
 use Rattle.strokes.specs.declared.End.{End}
-use Rattle.strokes.proofs.Ways.{all-between}
+use Rattle.strokes.proofs.Coordinates.{all-between}
 use Rattle.strokes.proofs.Points.{point-start, point-finish, point-lowest}
 
 module _ {w : Window} {s : Stroke} where
@@ -37,10 +37,10 @@ module _ {w : Window} {s : Stroke} where
   }
 
   -- ---- plainly in the window, and so on the table
-  pub inside-always : Inside w s → (n d : ℤ) → Time n d → Keeps w s n d
+  pub inside-always : EndsInside w s → (n d : ℤ) → Time n d → Keeps w s n d
   inside-always k n d t = record { time = t; x = all-between (k .x .a-low) (k .x .b-low) (k .x .a-high) (k .x .b-high) t; y = all-between (k .y .a-low) (k .y .b-low) (k .y .a-high) (k .y .b-high) t }
 
-  pub inside-on-table : WindowOnTable w → Inside w s → StrokeOnTable s
+  pub inside-on-table : WindowOnTable w → EndsInside w s → StrokeOnTable s
   inside-on-table h k = record {
     x1 = inner (h .left) (h .right) (k .x .a-low) (k .x .a-high);
     y1 = inner (h .bottom) (h .top) (k .y .a-low) (k .y .a-high);

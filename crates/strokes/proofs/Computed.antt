@@ -31,7 +31,7 @@ use Rattle.strokes.specs.declared.StrokeAnswer.{StrokeAnswer}
 use Rattle.strokes.proofs.Answers.{nothing-kept, span-missed, span-kept}
 use Rattle.strokes.proofs.Refusing.{nothing-refused}
 use Rattle.strokes.proofs.Unique.{clipping-unique}
-use Rattle.strokes.proofs.Ways.{CutAcross, cut-across, span-of}
+use Rattle.strokes.proofs.Coordinates.{CutAcross, cut-across, span-of}
 
 -- ---- the kept fractions
 unfoldable pub acrossOf : ℤ → ℤ → ℤ → ℤ → Span → Span

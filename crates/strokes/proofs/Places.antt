@@ -10,10 +10,10 @@ use Rattle.whole.proofs.Gaps.{gap-small}
 use Rattle.whole.proofs.Order.{zarith, sub-is, <→≤}
 use Rattle.whole.proofs.Polynomials.{ring}
 use Rattle.fraction.specs.Rounding.{along}
-use Rattle.strokes.specs.declared.Way.{Way}
-use Rattle.strokes.specs.Strokes.{Across}
-use Rattle.strokes.specs.Workers.{Between, Ranged, Risen, Fallen, WayAt, WayOf, On}
-use Rattle.strokes.proofs.Ways.{all-between}
+use Rattle.strokes.specs.declared.ways.Way.{Way}
+use Rattle.strokes.specs.Strokes.{KeepsCoordinate}
+use Rattle.strokes.specs.Workers.{EndsBetween, Ranged, Risen, Fallen, WayAt, WayOf, FromStartToEnd}
+use Rattle.strokes.proofs.Coordinates.{all-between}
 
 -- the way's two ends, its length, a place on it with its coordinate, and a fraction
 abbrev A : Expr
@@ -58,7 +58,7 @@ down-exact a b p q l s el es eq′ = eq-by (a ∷ b ∷ l ∷ s ∷ p ∷ q ∷ 
 module _ {a at to b : ℤ} {r : Way} (g : Ranged a at to b) (k : Risen a at to b r) where
   risen-at : WayAt a b r
   risen-at = record {
-    short = record {
+    proper = record {
       long = let h = g .some in omega (zarith, k .long, sub-is b a);
       small = gap-small (g .a-on) (g .d-on) (k .long);
       order = let h = g .middle in omega (zarith, k .start, k .end, sub-is at a, sub-is to a);
@@ -68,14 +68,14 @@ module _ {a at to b : ℤ} {r : Way} (g : Ranged a at to b) (k : Risen a at to b
     to = up-exact a b to (r .to) (pos (r .long)) (pos (r .end)) (k .long) (k .end) (k .to);
   }
 
-  risen-on : (n d : ℤ) → Across at to a b n d → On r n d
+  risen-on : (n d : ℤ) → KeepsCoordinate at to a b n d → FromStartToEnd r n d
   risen-on n d h =
       let l = pos (r .long) in record {
         from = ge (a ∷ b ∷ l ∷ (pos (r .start)) ∷ at ∷ n ∷ d ∷ []) (S ⊗ D) (N ⊗ L) (le (P ⊗ D) X (h .above) ⊞ eq N L (B ⊖ A) (k .long) ⊞ eq (neg D) S (P ⊖ A) (k .start)) tt;
         upto = ge (a ∷ b ∷ l ∷ (pos (r .end)) ∷ to ∷ n ∷ d ∷ []) (N ⊗ L) (S ⊗ D) (le X (P ⊗ D) (h .below) ⊞ eq (neg N) L (B ⊖ A) (k .long) ⊞ eq D S (P ⊖ A) (k .end)) tt;
       }
 
-  on-risen : (n d : ℤ) → On r n d → Across at to a b n d
+  on-risen : (n d : ℤ) → FromStartToEnd r n d → KeepsCoordinate at to a b n d
   on-risen n d h =
       let l = pos (r .long) in record {
         above = ge (a ∷ b ∷ l ∷ (pos (r .start)) ∷ at ∷ n ∷ d ∷ []) (P ⊗ D) X (le (S ⊗ D) (N ⊗ L) (h .from) ⊞ eq (neg N) L (B ⊖ A) (k .long) ⊞ eq D S (P ⊖ A) (k .start)) tt;
@@ -86,7 +86,7 @@ module _ {a at to b : ℤ} {r : Way} (g : Ranged a at to b) (k : Risen a at to b
 module _ {a at to b : ℤ} {r : Way} (g : Ranged b to at a) (k : Fallen a at to b r) where
   fallen-at : WayAt a b r
   fallen-at = record {
-    short = record {
+    proper = record {
       long = let h = g .some in omega (zarith, k .long, sub-is a b);
       small = gap-small (g .a-on) (g .d-on) (k .long);
       order = let h = g .middle in omega (zarith, k .start, k .end, sub-is a at, sub-is a to);
@@ -96,14 +96,14 @@ module _ {a at to b : ℤ} {r : Way} (g : Ranged b to at a) (k : Fallen a at to 
     to = down-exact a b to (r .to) (pos (r .long)) (pos (r .end)) (k .long) (k .end) (k .to);
   }
 
-  fallen-on : (n d : ℤ) → Across to at a b n d → On r n d
+  fallen-on : (n d : ℤ) → KeepsCoordinate to at a b n d → FromStartToEnd r n d
   fallen-on n d h =
       let l = pos (r .long) in record {
         from = ge (a ∷ b ∷ l ∷ (pos (r .start)) ∷ at ∷ n ∷ d ∷ []) (S ⊗ D) (N ⊗ L) (le X (P ⊗ D) (h .below) ⊞ eq N L (A ⊖ B) (k .long) ⊞ eq (neg D) S (A ⊖ P) (k .start)) tt;
         upto = ge (a ∷ b ∷ l ∷ (pos (r .end)) ∷ to ∷ n ∷ d ∷ []) (N ⊗ L) (S ⊗ D) (le (P ⊗ D) X (h .above) ⊞ eq (neg N) L (A ⊖ B) (k .long) ⊞ eq D S (A ⊖ P) (k .end)) tt;
       }
 
-  on-fallen : (n d : ℤ) → On r n d → Across to at a b n d
+  on-fallen : (n d : ℤ) → FromStartToEnd r n d → KeepsCoordinate to at a b n d
   on-fallen n d h =
       let l = pos (r .long) in record {
         above = ge (a ∷ b ∷ l ∷ (pos (r .end)) ∷ to ∷ n ∷ d ∷ []) (P ⊗ D) X (le (N ⊗ L) (S ⊗ D) (h .upto) ⊞ eq N L (A ⊖ B) (k .long) ⊞ eq (neg D) S (A ⊖ P) (k .end)) tt;
@@ -147,10 +147,10 @@ module _ {lo hi a b : ℤ} {r : Way} where
   }
 
 -- all of it
-pub all-on : {lo hi a b : ℤ} → Between lo hi a b → WayOf lo hi a b (record { long = 1; start = 0; end = 1; at = a; to = b })
+pub all-on : {lo hi a b : ℤ} → EndsBetween lo hi a b → WayOf lo hi a b (record { long = 1; start = 0; end = 1; at = a; to = b })
 all-on {lo} {hi} {a} {b} k = record {
   way = record {
-    short = record { long = omega arith; small = omega arith; order = omega arith; high = omega arith };
+    proper = record { long = omega arith; small = omega arith; order = omega arith; high = omega arith };
     at = ring (a ∷ b ∷ []) (A ⊗ one ⊕ con (pos 0) ⊗ (B ⊖ A)) (A ⊗ one) tt;
     to = ring (a ∷ b ∷ []) (A ⊗ one ⊕ one ⊗ (B ⊖ A)) (B ⊗ one) tt;
   };

@@ -26,7 +26,7 @@ way-y : (c : tie.After-passage2) → let a = c .before .before .before .before .
 way-y c = let p = c .before .before .before .before .before .before .before .before .before .before .pre in way-plain (p .0 .bottom) (p .0 .top) (p .1 .0 .y1) (p .1 .0 .y2) (c .passage2 .ensures)
 
 apart-requires : tie.Need-apart-requires
-apart-requires c κs = (way-x c .way .short, way-y c .way .short)
+apart-requires c κs = (way-x c .way .proper, way-y c .way .proper)
 
 missed-requires : tie.Need-missed-requires
 missed-requires c κs = search needs

@@ -40,7 +40,7 @@ way-y : (c : tie.After-passage2) → let a = c .before .before .before .before .
 way-y c = let p = c .before .before .before .before .before .before .before .before .before .before .before .before .before .before .pre in way-plain (p .0 .bottom) (p .0 .top) (p .1 .y1) (p .1 .y2) (c .passage2 .ensures)
 
 apart-requires : tie.Need-apart-requires
-apart-requires c κs = (way-x c .way .short, way-y c .way .short)
+apart-requires c κs = (way-x c .way .proper, way-y c .way .proper)
 
 returns-3 : tie.Need-returns-3
 returns-3 c = let k = c .before in record {

@@ -1,10 +1,10 @@
--- `strokes::falling` meets its contract: three gaps. Assumes nothing.
+-- `strokes::ways::falling` meets its contract: three gaps. Assumes nothing.
 use native.Mathlib.Omega.{arith}
 use mir.Facts.{toZ-ofZ}
 use Rattle.whole.proofs.Gaps.{gap-asks, gap-is}
 use Rattle.whole.proofs.Order.{<→≤, ≤-trans}
-use Rattle.strokes.proofs.falling.Statement.{statement}
-use Rattle.strokes.proofs.falling.Tie as tie
+use Rattle.strokes.proofs.ways.falling.Statement.{statement}
+use Rattle.strokes.proofs.ways.falling.Tie as tie
 
 gap-requires : tie.Need-gap-requires
 gap-requires c κs = let f = c .fits in let p = c .pre in gap-asks (f .b) (f .a) (omega arith) (p .a-on) (p .d-on) (<→≤ (p .some))

@@ -1,10 +1,10 @@
--- `strokes::apart` meets its contract: the two tests compare an end with the other way's start, `never-both`. Assumes nothing.
+-- `strokes::ways::apart` meets its contract: the two tests compare an end with the other way's start, `never-both`. Assumes nothing.
 use Prim.Native.Nat.{_*_}
 use borrow.Author.Tests.{ltb-true, ltb-false}
 use Rattle.whole.proofs.Comparisons.{tt-ff}
 use Rattle.strokes.proofs.Meetings.{product-fits, start-small, end-small, never-both}
-use Rattle.strokes.proofs.apart.Statement.{statement}
-use Rattle.strokes.proofs.apart.Tie as tie
+use Rattle.strokes.proofs.ways.apart.Statement.{statement}
+use Rattle.strokes.proofs.ways.apart.Tie as tie
 
 mul-if1 : tie.Need-mul-if1
 mul-if1 c = let p = c .before .before .pre in product-fits (end-small (p .1)) (p .0 .small)

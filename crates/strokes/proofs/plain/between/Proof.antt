@@ -1,8 +1,8 @@
--- `strokes::between` meets its contract: each test is one of the four facts. Assumes nothing.
+-- `strokes::plain::between` meets its contract: each test is one of the four facts. Assumes nothing.
 use mir.Facts.{toZ-ofZ}
 use Rattle.whole.proofs.Comparisons.{ff-tt, lt-no, le-yes}
-use Rattle.strokes.proofs.between.Statement.{statement}
-use Rattle.strokes.proofs.between.Tie as tie
+use Rattle.strokes.proofs.plain.between.Statement.{statement}
+use Rattle.strokes.proofs.plain.between.Tie as tie
 
 returns : tie.Need-returns
 returns c e = absurd (ff-tt e)

@@ -1,4 +1,4 @@
--- `strokes::passage` meets its contract: each case of where the two ends lie has its law. Assumes nothing.
+-- `strokes::ways::passage` meets its contract: each case of where the two ends lie has its law. Assumes nothing.
 use mathlib.Core.Path.{sym, subst₂}
 use lib.IntN.{ℤ}
 use lib.Signed.{_≤ℤ_, _<ℤ_}
@@ -9,8 +9,8 @@ use Rattle.whole.proofs.Order.{zarith}
 use Rattle.strokes.specs.Workers.{Ranged, WayOf}
 use Rattle.strokes.proofs.Places.{up-across, up-into, up-out, down-across, down-into, down-out, all-on}
 use Rattle.strokes.proofs.Reading.{ranged-read, risen-plain, fallen-plain}
-use Rattle.strokes.proofs.passage.Statement.{statement}
-use Rattle.strokes.proofs.passage.Tie as tie
+use Rattle.strokes.proofs.ways.passage.Statement.{statement}
+use Rattle.strokes.proofs.ways.passage.Tie as tie
 
 -- up through both sides
 up-across-ranged : (c : tie.Then2) → let g = c .before .before .args in Ranged (g .a) (g .lo) (g .hi) (g .b)

@@ -14,7 +14,7 @@ use Rattle.spans.specs.Parts.{Time}
 use Rattle.spans.specs.Spans.{InSpan, ProperSpan, Sized, SpanCut, SpanOf}
 use Rattle.spans.proofs.Cutting.{in-time}
 use Rattle.spans.proofs.Parts.{all, in-all}
-use Rattle.strokes.specs.Strokes.{Across, Keeps}
+use Rattle.strokes.specs.Strokes.{KeepsCoordinate, Keeps}
 
 -- a bound, the way's two ends, and a fraction
 abbrev L : Expr
@@ -40,28 +40,28 @@ abbrev one : Expr
 one = con (pos 1)
 
 module _ {lo hi a b n d : ℤ} where
-  pub not-below : a <ℤ lo → b <ℤ lo → Time n d → Across lo hi a b n d → ⊥
+  pub not-below : a <ℤ lo → b <ℤ lo → Time n d → KeepsCoordinate lo hi a b n d → ⊥
   not-below ha hb t k = clash (lo ∷ a ∷ b ∷ n ∷ d ∷ [])
       (le N D (t .high) ⊠ le (A ⊕ one) L (next-≤ ha) ⊞ nn N (t .low) ⊠ le (B ⊕ one) L (next-≤ hb) ⊞ po D (t .den) ⊞ le (L ⊗ D) X (k .above)) tt
 
-  pub not-above : hi <ℤ a → hi <ℤ b → Time n d → Across lo hi a b n d → ⊥
+  pub not-above : hi <ℤ a → hi <ℤ b → Time n d → KeepsCoordinate lo hi a b n d → ⊥
   not-above ha hb t k = clash (hi ∷ a ∷ b ∷ n ∷ d ∷ [])
       (le N D (t .high) ⊠ le (L ⊕ one) A (next-≤ ha) ⊞ nn N (t .low) ⊠ le (L ⊕ one) B (next-≤ hb) ⊞ po D (t .den) ⊞ le X (L ⊗ D) (k .below)) tt
 
-  pub all-between : lo ≤ℤ a → lo ≤ℤ b → a ≤ℤ hi → b ≤ℤ hi → Time n d → Across lo hi a b n d
+  pub all-between : lo ≤ℤ a → lo ≤ℤ b → a ≤ℤ hi → b ≤ℤ hi → Time n d → KeepsCoordinate lo hi a b n d
   all-between la lb ha hb t = record {
     above = ge (lo ∷ a ∷ b ∷ n ∷ d ∷ []) (L ⊗ D) X (le N D (t .high) ⊠ le L A la ⊞ nn N (t .low) ⊠ le L B lb) tt;
     below = ge (hi ∷ a ∷ b ∷ n ∷ d ∷ []) X (L ⊗ D) (le N D (t .high) ⊠ le A L ha ⊞ nn N (t .low) ⊠ le B L hb) tt;
   }
 
   -- the condition of the lower side, −(b − a) t ≤ a − lo, and that of the upper, (b − a) t ≤ hi − a
-  above-low : Across lo hi a b n d → ((pos 0 -ℤ (b -ℤ a)) *ℤ n) ≤ℤ ((a -ℤ lo) *ℤ d)
+  above-low : KeepsCoordinate lo hi a b n d → ((pos 0 -ℤ (b -ℤ a)) *ℤ n) ≤ℤ ((a -ℤ lo) *ℤ d)
   above-low k = ge (lo ∷ a ∷ b ∷ n ∷ d ∷ []) ((con (pos 0) ⊖ (B ⊖ A)) ⊗ N) ((A ⊖ L) ⊗ D) (le (L ⊗ D) X (k .above)) tt
 
-  below-high : Across lo hi a b n d → ((b -ℤ a) *ℤ n) ≤ℤ ((hi -ℤ a) *ℤ d)
+  below-high : KeepsCoordinate lo hi a b n d → ((b -ℤ a) *ℤ n) ≤ℤ ((hi -ℤ a) *ℤ d)
   below-high k = ge (hi ∷ a ∷ b ∷ n ∷ d ∷ []) ((B ⊖ A) ⊗ N) ((L ⊖ A) ⊗ D) (le X (L ⊗ D) (k .below)) tt
 
-  both-sides : ((pos 0 -ℤ (b -ℤ a)) *ℤ n) ≤ℤ ((a -ℤ lo) *ℤ d) → ((b -ℤ a) *ℤ n) ≤ℤ ((hi -ℤ a) *ℤ d) → Across lo hi a b n d
+  both-sides : ((pos 0 -ℤ (b -ℤ a)) *ℤ n) ≤ℤ ((a -ℤ lo) *ℤ d) → ((b -ℤ a) *ℤ n) ≤ℤ ((hi -ℤ a) *ℤ d) → KeepsCoordinate lo hi a b n d
   both-sides l h = record {
     above = ge (lo ∷ a ∷ b ∷ n ∷ d ∷ []) (L ⊗ D) X (le ((con (pos 0) ⊖ (B ⊖ A)) ⊗ N) ((A ⊖ L) ⊗ D) l) tt;
     below = ge (hi ∷ a ∷ b ∷ n ∷ d ∷ []) X (L ⊗ D) (le ((B ⊖ A) ⊗ N) ((L ⊖ A) ⊗ D) h) tt;
@@ -70,9 +70,9 @@ module _ {lo hi a b n d : ℤ} where
 pub record CutAcross (lo hi a b : ℤ) (s r : Span) : Type 0 where
   pub proper : ProperSpan r
   pub sized : Sized 32766 r
-  pub stays : (n d : ℤ) → pos 0 <ℤ d → InSpan s n d → Across lo hi a b n d → InSpan r n d
+  pub stays : (n d : ℤ) → pos 0 <ℤ d → InSpan s n d → KeepsCoordinate lo hi a b n d → InSpan r n d
   pub part : (n d : ℤ) → pos 0 <ℤ d → InSpan r n d → InSpan s n d
-  pub between : (n d : ℤ) → pos 0 <ℤ d → InSpan r n d → Across lo hi a b n d
+  pub between : (n d : ℤ) → pos 0 <ℤ d → InSpan r n d → KeepsCoordinate lo hi a b n d
 
 pub cut-across : {lo hi a b : ℤ} {s m r : Span} → SpanCut (pos 0 -ℤ (b -ℤ a)) (a -ℤ lo) s m → SpanCut (b -ℤ a) (hi -ℤ a) m r → Sized 32766 r → CutAcross lo hi a b s r
 cut-across f g z = record {

@@ -1,10 +1,10 @@
--- `strokes::rising` meets its contract: three gaps. Assumes nothing.
+-- `strokes::ways::rising` meets its contract: three gaps. Assumes nothing.
 use native.Mathlib.Omega.{arith}
 use mir.Facts.{toZ-ofZ}
 use Rattle.whole.proofs.Gaps.{gap-asks, gap-is}
 use Rattle.whole.proofs.Order.{<→≤, ≤-trans}
-use Rattle.strokes.proofs.rising.Statement.{statement}
-use Rattle.strokes.proofs.rising.Tie as tie
+use Rattle.strokes.proofs.ways.rising.Statement.{statement}
+use Rattle.strokes.proofs.ways.rising.Tie as tie
 
 gap-requires : tie.Need-gap-requires
 gap-requires c κs = let f = c .fits in let p = c .pre in gap-asks (f .a) (f .b) (omega arith) (p .a-on) (p .d-on) (<→≤ (p .some))

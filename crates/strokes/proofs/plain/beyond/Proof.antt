@@ -1,11 +1,11 @@
--- `strokes::beyond` meets its contract: where both ends are beyond the same side, all of the way is; else one of them is not. Assumes nothing.
+-- `strokes::plain::beyond` meets its contract: where both ends are beyond the same side, all of the way is; else one of them is not. Assumes nothing.
 use lib.Signed.{_≤ℤ_, _<ℤ_}
 use mir.Facts.{toZ-ofZ}
 use Rattle.whole.proofs.Comparisons.{ff-tt, lt-yes, lt-no}
 use Rattle.whole.proofs.Order.{zarith}
-use Rattle.strokes.proofs.Ways.{not-below, not-above}
-use Rattle.strokes.proofs.beyond.Statement.{statement}
-use Rattle.strokes.proofs.beyond.Tie as tie
+use Rattle.strokes.proofs.Coordinates.{not-below, not-above}
+use Rattle.strokes.proofs.plain.beyond.Statement.{statement}
+use Rattle.strokes.proofs.plain.beyond.Tie as tie
 
 returns : tie.Need-returns
 returns c =
