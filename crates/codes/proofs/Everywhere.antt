@@ -8,7 +8,7 @@ use native.Mathlib.Omega.{arith}
 use lib.Dec.{T}
 use lib.ListN.{getD}
 use mir.Facts.{and-yes, or-yes}
-use Rattle.codes.specs.Codes.{Side, left, right, bottom, top}
+use Rattle.grid.specs.Sides.{Side, left, right, bottom, top}
 
 abbrev pub implies : Bool → Bool → Bool
 implies a b = not a || b

@@ -12,7 +12,8 @@ use Rattle.whole.proofs.Order.{≤-total, zarith}
 use Rattle.fraction.specs.declared.Fraction.{Fraction}
 use Rattle.grid.specs.declared.Stroke.{Stroke}
 use Rattle.grid.specs.declared.Window.{Window}
-use Rattle.codes.specs.Codes.{Side, left, right, bottom, top, past}
+use Rattle.grid.specs.Sides.{Side, left, right, bottom, top}
+use Rattle.codes.specs.Codes.{past}
 
 -- a linear form at a fraction, in the numbers and as it is quoted
 abbrev pub form : ℤ → ℤ → Fraction → ℤ

@@ -10,13 +10,14 @@ use Rattle.whole.proofs.Order.{zarith, ≡→≤}
 use Rattle.fraction.specs.declared.Fraction.{Fraction}
 use Rattle.grid.specs.declared.Stroke.{Stroke}
 use Rattle.grid.specs.declared.Window.{Window}
+use Rattle.grid.specs.Sides.{Side, placeOf}
 use Rattle.spans.specs.declared.Span.{Span}
 use Rattle.spans.specs.Parts.{Time, zeroth, unit}
 use Rattle.spans.specs.Spans.{InSpan, ProperSpan, SpanOf}
 use Rattle.spans.proofs.Cutting.{in-time}
 use Rattle.spans.proofs.Parts.{all-proper, in-all, time-within}
 use Rattle.strokes.specs.Strokes.{Keeps}
-use Rattle.codes.specs.Codes.{Side, past, number, keep, missed, shortenStart, shortenEnd}
+use Rattle.codes.specs.Codes.{past, keep, missed, shortenStart, shortenEnd}
 use Rattle.codes.specs.Steps.{decided, OnLine, Shortening, start, end, Run, shorten}
 use Rattle.codes.proofs.Decided.{keep-inside, missed-beyond, start-beyond, end-beyond}
 use Rattle.codes.proofs.Forms.{form, _≼_, ≼-refl, mixed, between-≤, between->, upto-form, form-upto, from-form, form-from, slope, base, beyond-form, form-beyond, inside-form, form-inside, on-form}
@@ -61,10 +62,10 @@ not-both : {z : ℤ} → pos 0 <ℤ z → z ≤ℤ pos 0 → ⊥
 not-both h k = omega zarith
 
 module _ {w : Window} {s : Stroke} where
-  start-mixed : {f g : Fraction} (c : Fraction) (k : Side) → Ordered f g → decided w s f g ≡ shortenStart (number k) → OnLine w s k c → Mixed f g c
+  start-mixed : {f g : Fraction} (c : Fraction) (k : Side) → Ordered f g → decided w s f g ≡ shortenStart (placeOf k) → OnLine w s k c → Mixed f g c
   start-mixed {f} {g} c k o e on = let b = start-beyond w s f g k e in side-mixed w s k f g c (o .proper .den0) (o .proper .den1) (b .0) (b .1) on
 
-  end-mixed : {f g : Fraction} (c : Fraction) (k : Side) → Ordered f g → decided w s f g ≡ shortenEnd (number k) → OnLine w s k c → Mixed f g c
+  end-mixed : {f g : Fraction} (c : Fraction) (k : Side) → Ordered f g → decided w s f g ≡ shortenEnd (placeOf k) → OnLine w s k c → Mixed f g c
   end-mixed {f} {g} c k o e on = let b = end-beyond w s f g k e in λ x y p q. side-mixed w s k g f c (o .proper .den1) (o .proper .den0) (b .1) (b .0) on x y q p
 
   pub shortened-ordered : {f g f′ g′ : Fraction} → Ordered f g → Shortening w s f g f′ g′ → Ordered f′ g′

@@ -17,11 +17,12 @@ ghost use Rattle.whole.specs.Choice.{if_then_else_};
 ghost use Rattle.whole.specs.Within.{Within};
 ghost use Rattle.grid.specs.Table.{farthest, WindowOnTable, StrokeOnTable};
 ghost use Rattle.grid.specs.Refusals.{none};
+ghost use Rattle.grid.specs.Sides.{sideAt};
 ghost use Rattle.strokes.specs.Strokes.{blank as Strokes·blank};
 ghost use Rattle.strokes.specs.Workers.{OnWay, wholeAnswer};
 ghost use Rattle.codes.specs.Codes.{code as Codes·code, decision as Codes·decision};
 ghost use Rattle.codes.specs.Steps.{decided as Steps·decided, CohenSutherland};
-ghost use Rattle.codes.specs.Workers.{outsideOf, marksOf, endCode, Ends, sideOf, Apart, Meeting, Crossing, PieceOf, Shortened, EndAt, Kept, Finished};
+ghost use Rattle.codes.specs.Workers.{outsideOf, marksOf, endCode, PartOfWay, Apart, WayMeets, StrokeMeets, PieceOf, Shortened, EndAt, KeptFrom, Finished};
 
 // The bits of a position code.
 const LEFT: u8 = 1;
@@ -105,7 +106,7 @@ fn meeting(c: i32, a: i32, b: i32) -> Fraction
     requires { ⌜ Within farthest a ⌝ }
     requires { ⌜ Within farthest b ⌝ }
     requires { ⌜ (a ≡ b → ⊥) ⌝ }
-    ensures { λ r. ⌜ Meeting c a b r ⌝ }
+    ensures { λ r. ⌜ WayMeets c a b r ⌝ }
 {
     let n = (c - a) as i64;
     let d = (b - a) as i64;
@@ -119,8 +120,8 @@ fn meeting(c: i32, a: i32, b: i32) -> Fraction
 fn crossing(w: Window, s: Stroke, side: u32) -> Fraction
     requires { ⌜ WindowOnTable w ⌝ }
     requires { ⌜ StrokeOnTable s ⌝ }
-    requires { ⌜ Apart s (sideOf side) ⌝ }
-    ensures { λ r. ⌜ Crossing w s (sideOf side) r ⌝ }
+    requires { ⌜ Apart s (sideAt side) ⌝ }
+    ensures { λ r. ⌜ StrokeMeets w s (sideAt side) r ⌝ }
 {
     match side {
         0 => meeting(w.left, s.x1, s.x2),
@@ -210,8 +211,8 @@ fn end_at(s: Stroke, t: Fraction) -> End
 // A stroke that is kept from start to end.
 fn kept(s: Stroke, start: Fraction, end: Fraction, shortenings: u32) -> CountedAnswer
     requires { ⌜ StrokeOnTable s ⌝ }
-    requires { ⌜ Ends start end ⌝ }
-    ensures { λ q. ⌜ Kept s start end shortenings q ⌝ }
+    requires { ⌜ PartOfWay start end ⌝ }
+    ensures { λ q. ⌜ KeptFrom s start end shortenings q ⌝ }
 {
     let a = end_at(s, start);
     let b = end_at(s, end);
