@@ -47,10 +47,10 @@ outline-holds {zs} p q = record { in-order = λ o l a after h. let k = any-order
 
 pub worked : All Holds table
 unfolding table countedOf countOf stepOf meetingOf code decision trailingZeros
-  strokeCallRefusal strokeRefusal strokeAnswerOf clippedOf spanOf acrossOf cutBy lessThan roundedAt nearestToZero euclid lowestOf
-  answerOf outputOf answered written outlineOf ringOf cutsOf cutOf passOf keptOf addedOf meet isBefore leastOf startOf numbersOf
-  outlineRefusal first windowRefusal noArea badOrder badOutline rightCount offTable firstOff onTable
-  unlessConvex strictlyConvex every next joins isLeft cornersOf value through sidesIn linesIn left-side right-side bottom-side top-side
+    strokeCallRefusal strokeRefusal strokeAnswerOf clippedOf spanOf acrossOf cutBy lessThan roundedAt nearestToZero euclid lowestOf
+    answerOf outputOf answered written outlineOf ringOf cutsOf cutOf passOf keptOf addedOf meet isBefore leastOf startOf numbersOf
+    outlineRefusal first windowRefusal noArea badOrder badOutline rightCount offTable firstOff onTable
+    unlessConvex strictlyConvex every next joins isLeft cornersOf value through sidesIn linesIn left-side right-side bottom-side top-side
 worked =
     stroke-holds refl ◂ stroke-holds refl ◂ stroke-holds refl ◂ stroke-holds refl ◂ stroke-holds refl ◂ stroke-holds refl ◂ stroke-holds refl
     ◂ outline-holds refl refl ◂ outline-holds refl refl ◂ outline-holds refl refl ◂ outline-holds refl refl ◂ outline-holds refl refl ◂ ∅

@@ -12,7 +12,7 @@ use denote.Ref.{now}
 use lib.ListN.{length, take, drop, length-set, drop-of-length-le}
 use mir.Syntax.{w32}
 use mir.Facts.{toZ-ofZ}
-use Rattle.words.specs.Words.{arguments, number, integers}
+use Rattle.words.specs.Words.{arguments, andInteger, integers}
 use Rattle.words.proofs.Lists.{after, start, one-more, all-read, no-list, no-room}
 use Rattle.words.proofs.Spaces.{integers-cut}
 use Rattle.words.proofs.read_integers.Statement.{statement}
@@ -29,7 +29,7 @@ abbrev left : tie.After-read-integer Inv-loop μ-loop → Option (List ℤ)
 left c = integers (arguments (drop (c .before .before .find .result) (now (c .before .before .before .before .before .before .args .text))))
 
 turn : (c : tie.After-read-integer Inv-loop μ-loop) (r : Integer) → c .read-integer .result ≡ r → let l = c .before .before .before .before .loop in
-    integers (arguments (now (c .before .before .before .before .before .before .args .text))) ≡ after (take (l .n) (l .out)) (number r (left c))
+    integers (arguments (now (c .before .before .before .before .before .before .args .text))) ≡ after (take (l .n) (l .out)) (andInteger r (left c))
 turn c r e =
     let l = c .before .before .before .before .loop in
     l .inv .3 ∙ ap (after (take (l .n) (l .out))) (integers-cut _ (l .at) _ r (omega arith) (c .before .before .find .ensures .0) (sym e ∙ c .read-integer .ensures))

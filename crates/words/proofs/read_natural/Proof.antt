@@ -7,13 +7,13 @@ use mathlib.Core.Path.{_≡_, sym, subst, ap, _∙_}
 use Prim.Native.Nat.{ℕ, _+_, _*_, _-_, _≤_, _<_}
 use native.Mathlib.Omega.{arith}
 use lib.ListN.{length, drop, drop-of-length-le}
-use Rattle.words.specs.Digits.{value, valueFrom}
+use Rattle.words.specs.Digits.{wordValue, valueFrom}
 use Rattle.words.proofs.Values.{value-is, no-value, one-more, no-digit, too-large, product}
 use Rattle.words.proofs.read_natural.Statement.{statement}
 use Rattle.words.proofs.read_natural.Tie as tie
 
 abbrev Inv-loop : tie.InvT-loop
-Inv-loop word base most n₀ i₀ n i = (i ≤ length word) × (n ≤ most) × (value base word ≡ valueFrom base n (drop i word))
+Inv-loop word base most n₀ i₀ n i = (i ≤ length word) × (n ≤ most) × (wordValue base word ≡ valueFrom base n (drop i word))
 
 abbrev μ-loop : tie.MeasureT-loop
 μ-loop word base most n₀ i₀ n i = length word - i
@@ -23,7 +23,7 @@ unfolding upTo
 returns c = rw (no-value _ _ (c .if1 .taken))
 
 -- one digit more
-step : (c : tie.Else2 Inv-loop μ-loop) → let l = c .before .before .before .before .loop in let a = c .before .before .before .before .before .before .before .args in value (a .base) (now (a .word)) ≡ valueFrom (a .base) (l .n * a .base + c .before .digit .result) (drop (l .i + 1) (now (a .word)))
+step : (c : tie.Else2 Inv-loop μ-loop) → let l = c .before .before .before .before .loop in let a = c .before .before .before .before .before .before .before .args in wordValue (a .base) (now (a .word)) ≡ valueFrom (a .base) (l .n * a .base + c .before .digit .result) (drop (l .i + 1) (now (a .word)))
 step c = let l = c .before .before .before .before .loop in let a = c .before .before .before .before .before .before .before .args in
     rw (c .before .digit .ensures) (l .inv .2 ∙ one-more (a .base) (l .n) (l .i) (now (a .word)) (omega arith) (subst (λ (d : ℕ). d < a .base) (c .before .digit .ensures) (c .if2 .left)))
 
