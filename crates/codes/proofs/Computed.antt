@@ -1,4 +1,5 @@
--- The call as a function, which satisfies the statement and so is the only one that does: with it a worked example computes. There are at most four shortenings, so five looks at the codes.
+-- The call as a function, which satisfies the statement and so is the only one that does: with it a worked example computes.
+-- There are at most four shortenings, so five looks at the codes.
 use mathlib.Core.Path.{_≡_, refl}
 use Prim.Native.Nat.{ℕ, zero, suc, _+_, _≤_, _<_}
 use borrow.Author.Tests.{ltb-true, ltb-false, eqb-true, eqb-false}
@@ -38,7 +39,8 @@ meetingOf c a b =
 
 meetingOf-is : {c a b : ℤ} → Within farthest c → Within farthest a → Within farthest b → (a ≡ b → ⊥) → WayMeets c a b (meetingOf c a b)
 unfolding meetingOf
-meetingOf-is {c} {a} {b} wc wa wb n = by-test (ltZ (b -ℤ a) (pos 0)) (WayMeets c a b) (λ e. meets-back wc wa wb (lt-yes refl refl e)) (λ e. meets-on wc wa wb (lt-no refl refl e) n)
+meetingOf-is {c} {a} {b} wc wa wb n =
+    by-test (ltZ (b -ℤ a) (pos 0)) (WayMeets c a b) (λ e. meets-back wc wa wb (lt-yes refl refl e)) (λ e. meets-on wc wa wb (lt-no refl refl e) n)
 
 abbrev crossingOf : Window → Stroke → Side → Fraction
 crossingOf w s k = meetingOf (numberOf w k) (from s k) (to s k)

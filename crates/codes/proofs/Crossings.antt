@@ -99,7 +99,8 @@ meets-side w s k {f} m = record { line = record { den = m .den; on = on k m }; s
 not-level : (u v : ℤ) (f g : Fraction) → pos 0 <ℤ f .den → pos 0 <ℤ g .den → pos 0 <ℤ form u v f → form u v g ≤ℤ pos 0 → u ≡ pos 0 → ⊥
 not-level u v f g hf hg beyond inside e =
     clash (u ∷ v ∷ f .num ∷ f .den ∷ g .num ∷ g .den ∷ [])
-    (po (var 5) hg ⊠ po (var 0 ⊗ var 2 ⊕ var 1 ⊗ var 3) beyond ⊞ po (var 3) hf ⊠ le (var 0 ⊗ var 4 ⊕ var 1 ⊗ var 5) (con (pos 0)) inside ⊞ eq (var 3 ⊗ var 4 ⊖ var 5 ⊗ var 2) (var 0) (con (pos 0)) e) tt
+    (po (var 5) hg ⊠ po (var 0 ⊗ var 2 ⊕ var 1 ⊗ var 3) beyond ⊞ po (var 3) hf ⊠ le (var 0 ⊗ var 4 ⊕ var 1 ⊗ var 5) (con (pos 0)) inside
+    ⊞ eq (var 3 ⊗ var 4 ⊖ var 5 ⊗ var 2) (var 0) (con (pos 0)) e) tt
 
 pub apart : (w : Window) (s : Stroke) (f g : Fraction) (k : Side) → pos 0 <ℤ f .den → pos 0 <ℤ g .den → pos 0 <ℤ past w s k f → past w s k g ≤ℤ pos 0 → Apart s k
 apart w s f g k hf hg p q = ends k (not-level (slope w s k) (base w s k) f g hf hg (beyond-form w s k f p) (inside-form w s k g q))

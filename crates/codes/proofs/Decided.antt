@@ -1,4 +1,5 @@
--- What a decision says of the two points: which of them lies beyond which side. The rule on codes is computed over all pairs of codes, and a bit of a code is the test of its side.
+-- What a decision says of the two points: which of them lies beyond which side.
+-- The rule on codes is computed over all pairs of codes, and a bit of a code is the test of its side.
 use mathlib.Core.Path.{_≡_, refl, sym, subst, _∙_}
 use mathlib.Core.Bool.{Bool, true, false, not, _&&_, Bool·beq}
 use Prim.Native.Nat.{ℕ, _/_, _%_, _^_, _<_, _≤_}
@@ -68,7 +69,8 @@ module _ {a b : ℕ} (ha : a < 16) (hb : b < 16) where
   pub start-side : 2 ≤ decision a b → decision a b < 6 → decision a b ≡ shortenStart (placeOf (sideAt (lowestBit a)))
   unfolding decision trailingZeros
   start-side l h = eqb→eq (decision a b) (shortenStart (placeOf (sideAt (lowestBit a))))
-      (found (λ a b. leb 2 (decision a b) && ltb (decision a b) 6) (λ a b. is (shortenStart (placeOf (sideAt (lowestBit a)))) a b) tt (yes-and (leb 2 (decision a b)) (ltb (decision a b) 6) (le→leb 2 (decision a b) l) (lt→ltb (decision a b) 6 h)))
+      (found (λ a b. leb 2 (decision a b) && ltb (decision a b) 6) (λ a b. is (shortenStart (placeOf (sideAt (lowestBit a)))) a b) tt
+      (yes-and (leb 2 (decision a b)) (ltb (decision a b) 6) (le→leb 2 (decision a b) l) (lt→ltb (decision a b) 6 h)))
 
   pub end-side : 6 ≤ decision a b → decision a b ≡ shortenEnd (placeOf (sideAt (lowestBit b)))
   unfolding decision trailingZeros

@@ -1,4 +1,5 @@
--- How far the points of a stroke lie past a side is linear in the fraction. So one lemma on linear forms says that a shortened end lies between the two ends, and one that what both ends have every point between them has.
+-- How far the points of a stroke lie past a side is linear in the fraction.
+-- So one lemma on linear forms says that a shortened end lies between the two ends, and one that what both ends have every point between them has.
 use mathlib.Core.Path.{_≡_, sym, subst, _∙_}
 use mathlib.Core.Logic.{⊎-elim}
 use mathlib.Core.List.{[], _∷_}

@@ -1,4 +1,5 @@
--- The rule's run is the only one, and it has at most four shortenings. A code depends on the fraction's value alone, and a stroke meets the line of a side that it passes at one fraction alone.
+-- The rule's run is the only one, and it has at most four shortenings.
+-- A code depends on the fraction's value alone, and a stroke meets the line of a side that it passes at one fraction alone.
 use mathlib.Core.Path.{_≡_, refl, sym, ap, subst, _∙_}
 use mathlib.Core.List.{[], _∷_}
 use Prim.Native.Nat.{ℕ, zero, suc, _≤_}
@@ -65,7 +66,8 @@ module _ (w : Window) (s : Stroke) where
 
   code-same : {f g : Fraction} → Same f g → code w s f ≡ code w s g
   unfolding code
-  code-same h = λ i. bitOr (bitOr (if beyond-same left h i then 1 else 0) (if beyond-same right h i then 2 else 0)) (bitOr (if beyond-same bottom h i then 4 else 0) (if beyond-same top h i then 8 else 0))
+  code-same h = λ i. bitOr (bitOr (if beyond-same left h i then 1 else 0) (if beyond-same right h i then 2 else 0))
+      (bitOr (if beyond-same bottom h i then 4 else 0) (if beyond-same top h i then 8 else 0))
 
   decided-same : {f g f′ g′ : Fraction} → Same f f′ → Same g g′ → decided w s f g ≡ decided w s f′ g′
   decided-same p q = λ i. decision (code-same p i) (code-same q i)

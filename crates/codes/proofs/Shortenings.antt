@@ -1,4 +1,5 @@
--- One shortening, and what holds as the rule runs: the two fractions lie in order from 0 to 1, every kept fraction lies between them, and each shortening shuts a side for good.
+-- One shortening, and what holds as the rule runs: the two fractions lie in order from 0 to 1, every kept fraction lies between them,
+-- and each shortening shuts a side for good.
 use mathlib.Core.Path.{_≡_, sym, subst}
 use Prim.Native.Nat.{ℕ, suc, _+_, _≤_, _<_}
 use native.Mathlib.Nat.{zero-add}
@@ -20,7 +21,8 @@ use Rattle.strokes.specs.Strokes.{Keeps}
 use Rattle.codes.specs.Codes.{past, keep, missed, shortenStart, shortenEnd}
 use Rattle.codes.specs.Steps.{decided, OnLine, Shortening, start, end, Run, shorten}
 use Rattle.codes.proofs.Decided.{keep-inside, missed-beyond, start-beyond, end-beyond}
-use Rattle.codes.proofs.Forms.{form, _≼_, ≼-refl, mixed, between-≤, between->, upto-form, form-upto, from-form, form-from, slope, base, beyond-form, form-beyond, inside-form, form-inside, on-form}
+use Rattle.codes.proofs.Forms.{form, _≼_, ≼-refl, mixed, between-≤, between->, upto-form, form-upto, from-form, form-from}
+use Rattle.codes.proofs.Forms.{slope, base, beyond-form, form-beyond, inside-form, form-inside, on-form}
 use Rattle.codes.proofs.Sides.{fraction, keeps-inside, inside-keeps, open-sides, open-falls, open-≤, shut, shut-inside, inside-shut, beyond-open}
 
 abbrev pub span : Fraction → Fraction → Span
@@ -154,7 +156,8 @@ module _ {w : Window} {s : Stroke} where
         inside : (p q : ℤ) → pos 0 <ℤ q → InSpan (span f g) p q → (k : Side) → past w s k f ≤ℤ pos 0 → past w s k g ≤ℤ pos 0 → past w s k (fraction p q) ≤ℤ pos 0
         inside p q h i k x y =
             form-inside w s k (fraction p q)
-            (between-≤ f (fraction p q) g (r .ordered .proper .den0) h (r .ordered .proper .den1) (i .from) (i .upto) (slope w s k) (base w s k) (inside-form w s k f x) (inside-form w s k g y))
+            (between-≤ f (fraction p q) g (r .ordered .proper .den0) h (r .ordered .proper .den1) (i .from) (i .upto) (slope w s k) (base w s k)
+            (inside-form w s k f x) (inside-form w s k g y))
 
     -- both points are beyond one side: so is every point between them
     pub reached-missed : decided w s f g ≡ missed → (p q : ℤ) → Keeps w s p q → ⊥
@@ -163,5 +166,6 @@ module _ {w : Window} {s : Stroke} where
         let i = r .stays p q h in
         not-both
         (form-beyond w s (b .0) (fraction p q)
-        (between-> f (fraction p q) g (r .ordered .proper .den0) (h .time .den) (r .ordered .proper .den1) (i .from) (i .upto) (slope w s (b .0)) (base w s (b .0)) (beyond-form w s (b .0) f (b .1)) (beyond-form w s (b .0) g (b .2))))
+        (between-> f (fraction p q) g (r .ordered .proper .den0) (h .time .den) (r .ordered .proper .den1) (i .from) (i .upto) (slope w s (b .0)) (base w s (b .0))
+        (beyond-form w s (b .0) f (b .1)) (beyond-form w s (b .0) g (b .2))))
         (keeps-inside w s p q h (b .0))

@@ -48,13 +48,14 @@ struct Piece {
     b: u8,
 }
 
+// One bit of a code: set where the point lies beyond the bit's side.
 fn mark(beyond: bool, bit: u8) -> u8
     ensures { λ r. ⌜ r ≡ (if beyond then bit else 0) ⌝ }
 {
     if beyond { bit } else { 0 }
 }
 
-// The bits of one coordinate at t of the way from a to b. On the border it is inside.
+// The two bits of one coordinate at the fraction t of the way from a to b: `under` below lo, `over` above hi. On the border it is inside.
 fn outside(lo: i32, hi: i32, a: i32, b: i32, t: Fraction, under: u8, over: u8) -> u8
     requires { ⌜ Within farthest lo ⌝ }
     requires { ⌜ Within farthest hi ⌝ }
@@ -78,7 +79,7 @@ fn code(w: Window, s: Stroke, t: Fraction) -> u8
         | outside(w.bottom, w.top, s.y1, s.y2, t, BELOW, ABOVE)
 }
 
-// The bits of one coordinate x of an end of the stroke.
+// The same two bits for a coordinate x of an end of the stroke, which needs no products.
 fn marks(lo: i32, hi: i32, x: i32, under: u8, over: u8) -> u8
     ensures { λ r. ⌜ r ≡ marksOf lo hi x under over ⌝ }
 {
@@ -92,6 +93,7 @@ fn end_code(w: Window, x: i32, y: i32) -> u8
     marks(w.left, w.right, x, LEFT, RIGHT) | marks(w.bottom, w.top, y, BELOW, ABOVE)
 }
 
+// What the rule does with a piece whose points have the codes a and b, by the table.
 fn decision(a: u8, b: u8) -> u8
     requires { ⌜ a < 16 ⌝ }
     requires { ⌜ b < 16 ⌝ }
@@ -170,6 +172,7 @@ fn refused(r: Refusal) -> CountedAnswer
     }
 }
 
+// A stroke that is missed, with the count all the same.
 fn missed(shortenings: u32) -> CountedAnswer
     ensures { λ q. ⌜ q ≡ record { answer = Strokes·blank none; shortenings = shortenings } ⌝ }
 {

@@ -37,7 +37,8 @@ use Rattle.strokes.proofs.Coordinates.{CutAcross, cut-across, span-of}
 unfoldable pub acrossOf : ℤ → ℤ → ℤ → ℤ → Span → Span
 acrossOf lo hi a b s = cutBy (b -ℤ a) (hi -ℤ a) (cutBy (pos 0 -ℤ (b -ℤ a)) (a -ℤ lo) s)
 
-acrossOf-is : {lo hi a b : ℤ} {s : Span} → Within farthest lo → Within farthest hi → Within farthest a → Within farthest b → ProperSpan s → Sized 32766 s → CutAcross lo hi a b s (acrossOf lo hi a b s)
+acrossOf-is : {lo hi a b : ℤ} {s : Span} → Within farthest lo → Within farthest hi → Within farthest a → Within farthest b → ProperSpan s → Sized 32766 s
+    → CutAcross lo hi a b s (acrossOf lo hi a b s)
 unfolding acrossOf
 acrossOf-is {lo} {hi} {a} {b} {s} wl wh wa wb g z =
     let β : List ℕ = farthest ∷ farthest ∷ farthest ∷ farthest ∷ [] in

@@ -84,7 +84,8 @@ cut-across f g z = record {
 }
 
 -- both axes
-pub span-of : {w : Window} {s : Stroke} {m r : Span} → CutAcross (w .left) (w .right) (s .x1) (s .x2) all m → CutAcross (w .bottom) (w .top) (s .y1) (s .y2) m r → SpanOf 32766 (Keeps w s) r
+pub span-of : {w : Window} {s : Stroke} {m r : Span} → CutAcross (w .left) (w .right) (s .x1) (s .x2) all m → CutAcross (w .bottom) (w .top) (s .y1) (s .y2) m r
+    → SpanOf 32766 (Keeps w s) r
 span-of f g = record {
   proper = g .proper;
   sized = g .sized;

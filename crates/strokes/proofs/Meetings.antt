@@ -1,4 +1,5 @@
--- The ways of both coordinates: the later start and the earlier end are the ends of the span of the kept fractions, and nothing is kept where one way ends before the other starts.
+-- The ways of both coordinates: the later start and the earlier end are the ends of the span of the kept fractions,
+-- and nothing is kept where one way ends before the other starts.
 use mathlib.Core.Path.{_≡_, refl}
 use mathlib.Core.Logic.{⊎-elim}
 use mathlib.Core.List.{[], _∷_}
@@ -42,11 +43,13 @@ pub product-fits : {m n : ℕ} → m ≤ 32766 → n ≤ 32766 → Fits w32 (m *
 product-fits h k = record { fits = omega (arith, mul-le-mul h k) }
 
 -- ---- one way ends before the other starts
-pub never-both : {x y : Way} → ProperWay x → ProperWay y → y .end * x .long < x .start * y .long → (n d : ℤ) → pos 0 <ℤ d → FromStartToEnd x n d → FromStartToEnd y n d → ⊥
+pub never-both : {x y : Way} → ProperWay x → ProperWay y → y .end * x .long < x .start * y .long → (n d : ℤ) → pos 0 <ℤ d → FromStartToEnd x n d
+    → FromStartToEnd y n d → ⊥
 never-both {x} {y} f g l n d h i j =
     let m : pos (y .end * x .long) <ℤ pos (x .start * y .long) = omega zarith in
     clash ((pos (x .start)) ∷ (pos (x .long)) ∷ (pos (y .end)) ∷ (pos (y .long)) ∷ n ∷ d ∷ [])
-    (po (var 5) h ⊠ lt (x2 ⊗ x1) (x0 ⊗ x3) m ⊞ po x3 (positive (g .long)) ⊠ le (x0 ⊗ var 5) (var 4 ⊗ x1) (i .from) ⊞ po x1 (positive (f .long)) ⊠ le (var 4 ⊗ x3) (x2 ⊗ var 5) (j .upto)) tt
+    (po (var 5) h ⊠ lt (x2 ⊗ x1) (x0 ⊗ x3) m ⊞ po x3 (positive (g .long)) ⊠ le (x0 ⊗ var 5) (var 4 ⊗ x1) (i .from) ⊞ po x1 (positive (f .long))
+    ⊠ le (var 4 ⊗ x3) (x2 ⊗ var 5) (j .upto)) tt
 
 -- ---- a place on a way, as a fraction
 on-way : {n d : ℕ} → 0 < d → d ≤ 32766 → n ≤ d → OnWay (record { num = pos n; den = pos d })
@@ -117,12 +120,14 @@ module _ {s : Stroke} {x y : Way} (fx : WayAt (s .x1) (s .x2) x) (fy : WayAt (s 
   }
 
 -- ---- fractions in a row: m/l ≤ t ≤ n/d, and the other way round
-after : (m n : ℤ) {l d : ℤ} (t : Fraction) → pos 0 <ℤ t .den → pos 0 <ℤ l → pos 0 <ℤ d → (m *ℤ t .den) ≤ℤ (t .num *ℤ l) → (t .num *ℤ d) ≤ℤ (n *ℤ t .den) → (m *ℤ d) ≤ℤ (n *ℤ l)
+after : (m n : ℤ) {l d : ℤ} (t : Fraction) → pos 0 <ℤ t .den → pos 0 <ℤ l → pos 0 <ℤ d → (m *ℤ t .den) ≤ℤ (t .num *ℤ l) → (t .num *ℤ d) ≤ℤ (n *ℤ t .den)
+    → (m *ℤ d) ≤ℤ (n *ℤ l)
 after m n {l} {d} t h hl hd i j =
     ge-by (m ∷ l ∷ n ∷ d ∷ (t .num) ∷ (t .den) ∷ []) (po (var 5) h) (x0 ⊗ x3) (x2 ⊗ x1)
     (po x3 hd ⊠ le (x0 ⊗ var 5) (var 4 ⊗ x1) i ⊞ po x1 hl ⊠ le (var 4 ⊗ x3) (x2 ⊗ var 5) j) tt
 
-before : (m n : ℤ) {l d : ℤ} (t : Fraction) → pos 0 <ℤ t .den → pos 0 <ℤ l → pos 0 <ℤ d → (t .num *ℤ l) ≤ℤ (m *ℤ t .den) → (n *ℤ t .den) ≤ℤ (t .num *ℤ d) → (n *ℤ l) ≤ℤ (m *ℤ d)
+before : (m n : ℤ) {l d : ℤ} (t : Fraction) → pos 0 <ℤ t .den → pos 0 <ℤ l → pos 0 <ℤ d → (t .num *ℤ l) ≤ℤ (m *ℤ t .den) → (n *ℤ t .den) ≤ℤ (t .num *ℤ d)
+    → (n *ℤ l) ≤ℤ (m *ℤ d)
 before m n {l} {d} t h hl hd i j =
     ge-by (m ∷ l ∷ n ∷ d ∷ (t .num) ∷ (t .den) ∷ []) (po (var 5) h) (x2 ⊗ x1) (x0 ⊗ x3)
     (po x3 hd ⊠ le (var 4 ⊗ x1) (x0 ⊗ var 5) i ⊞ po x1 hl ⊠ le (x2 ⊗ var 5) (var 4 ⊗ x3) j) tt
@@ -147,11 +152,18 @@ module _ {w : Window} {s : Stroke} {x y : Way} (f : WayOf (w .left) (w .right) (
         let v = q .way .time .den in record {
           proper = proper;
           sized = record { n0 = time-within (p .way .time) (p .way .small); d0 = p .way .small; n1 = time-within (q .way .time) (q .way .small); d1 = q .way .small };
-          stays = λ n d k. let o = kept-on k in record { from = p .least n d (k .time .den) (o .0 .from) (o .1 .from); upto = q .greatest n d (k .time .den) (o .0 .upto) (o .1 .upto) };
+          stays = λ n d k. let o = kept-on k in
+              record { from = p .least n d (k .time .den) (o .0 .from) (o .1 .from); upto = q .greatest n d (k .time .den) (o .0 .upto) (o .1 .upto) };
           keeps = λ n d h i. let t = in-time proper h i in record {
             time = t;
-            x = f .keeps n d t (record { from = after (pos (x .start)) n (a .t) u px h (p .x-in) (i .from); upto = before (pos (x .end)) n (b .t) v px h (q .x-out) (i .upto) });
-            y = g .keeps n d t (record { from = after (pos (y .start)) n (a .t) u py h (p .y-in) (i .from); upto = before (pos (y .end)) n (b .t) v py h (q .y-out) (i .upto) });
+            x = f .keeps n d t (record {
+              from = after (pos (x .start)) n (a .t) u px h (p .x-in) (i .from);
+              upto = before (pos (x .end)) n (b .t) v px h (q .x-out) (i .upto);
+            });
+            y = g .keeps n d t (record {
+              from = after (pos (y .start)) n (a .t) u py h (p .y-in) (i .from);
+              upto = before (pos (y .end)) n (b .t) v py h (q .y-out) (i .upto);
+            });
           };
         }
 
@@ -181,8 +193,18 @@ module _ {w : Window} {s : Stroke} {x y : Way} (f : WayOf (w .left) (w .right) (
       ⊎-elim
       (λ h.
       let t = on-way (k .long) (k .small) (omega arith) .time in
-      never (pos (x .start)) (pos (x .long)) (record { time = t; x = f .keeps _ _ t (record { from = omega zarith; upto = omega zarith }); y = g .keeps _ _ t (record { from = omega zarith; upto = omega zarith }) }))
+      never (pos (x .start)) (pos (x .long))
+      (record {
+        time = t;
+        x = f .keeps _ _ t (record { from = omega zarith; upto = omega zarith });
+        y = g .keeps _ _ t (record { from = omega zarith; upto = omega zarith });
+      }))
       (λ h.
       let t = on-way (l .long) (l .small) (omega arith) .time in
-      never (pos (y .start)) (pos (y .long)) (record { time = t; x = f .keeps _ _ t (record { from = omega zarith; upto = omega zarith }); y = g .keeps _ _ t (record { from = omega zarith; upto = omega zarith }) }))
+      never (pos (y .start)) (pos (y .long))
+      (record {
+        time = t;
+        x = f .keeps _ _ t (record { from = omega zarith; upto = omega zarith });
+        y = g .keeps _ _ t (record { from = omega zarith; upto = omega zarith });
+      }))
       (≤-total (pos (y .start * x .long)) (pos (x .start * y .long)))

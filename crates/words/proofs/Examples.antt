@@ -19,7 +19,8 @@ unfolding asInteger
 ends = (refl, refl)
 
 -- " 1 2" is two arguments; a doubled space and a space at the end make an empty word
-pub lines : (integers (arguments (32 ∷ 49 ∷ 32 ∷ 50 ∷ [])) ≡ some (pos 1 ∷ pos 2 ∷ [])) × (integers (arguments (32 ∷ 32 ∷ 49 ∷ [])) ≡ none) × (integers (arguments (32 ∷ 49 ∷ 32 ∷ [])) ≡ none)
+pub lines : (integers (arguments (32 ∷ 49 ∷ 32 ∷ 50 ∷ [])) ≡ some (pos 1 ∷ pos 2 ∷ [])) × (integers (arguments (32 ∷ 32 ∷ 49 ∷ [])) ≡ none)
+    × (integers (arguments (32 ∷ 49 ∷ 32 ∷ [])) ≡ none)
 unfolding integers arguments words asInteger numeral hasMinus wordValue valueFrom digitOf between
 lines = (refl, refl, refl)
 

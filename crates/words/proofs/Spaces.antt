@@ -23,7 +23,8 @@ words-cut [] = refl
 words-cut (b ∷ l) = go (eqb b 32) (words-cut l)
   where
     go : (t : Bool) → words l ≡ take (toSpace l) l ∷ arguments (drop (toSpace l) l)
-        → (if t then [] ∷ words l else onto b (words l)) ≡ take (if not t then suc (toSpace l) else 0) (b ∷ l) ∷ arguments (drop (if not t then suc (toSpace l) else 0) (b ∷ l))
+        → (if t then [] ∷ words l else onto b (words l)) ≡ take (if not t then suc (toSpace l) else 0) (b ∷ l)
+        ∷ arguments (drop (if not t then suc (toSpace l) else 0) (b ∷ l))
     go true e = refl
     go false e = ap (onto b) e
 

@@ -35,7 +35,8 @@ digit-back d h = go (ltb d 10) refl
     go true e = decimal-back d (ltb-true d 10 e)
     go false e =
         let large = ltb-false d 10 e in
-        simp (above 48 57 (87 + d) (omega arith) (omega arith), above 65 70 (87 + d) (omega arith) (omega arith), inside 97 102 (87 + d) (omega arith) (omega arith)) (omega arith)
+        simp (above 48 57 (87 + d) (omega arith) (omega arith), above 65 70 (87 + d) (omega arith) (omega arith), inside 97 102 (87 + d) (omega arith) (omega arith))
+        (omega arith)
 
 last : (base n m b : ℕ) (w : List ℕ) → valueFrom base n w ≡ some m → digitOf b < base → valueFrom base n (w ++ (b ∷ [])) ≡ some (m * base + digitOf b)
 unfolding valueFrom

@@ -1,5 +1,5 @@
--- `codes::clipped` meets its contract. The loop's invariant: the piece has the codes of its points, what is decided is their decision, and the rule has reached it (`Reached`) after as many shortenings as are counted.
--- The measure is what is left of four. Assumes nothing.
+-- `codes::clipped` meets its contract: as the loop runs, the piece has the codes of its points, what is decided is their decision,
+-- and the rule has reached it (`Reached`) after as many shortenings as are counted. The measure is what is left of four. Assumes nothing.
 use mathlib.Core.Path.{_≡_, _∙_, sym}
 use Prim.Native.Nat.{_-_}
 use native.Mathlib.Omega.{arith}
@@ -17,7 +17,8 @@ use Rattle.codes.proofs.clipped.Statement.{statement}
 use Rattle.codes.proofs.clipped.Tie as tie
 
 abbrev Inv-loop : tie.InvT-loop
-Inv-loop w s a b p₀ decided₀ shortenings₀ p decided shortenings = PieceOf w s p × ((decided ≡ Steps·decided w s (p .start) (p .end)) × Reached w s (p .start) (p .end) shortenings)
+Inv-loop w s a b p₀ decided₀ shortenings₀ p decided shortenings =
+    PieceOf w s p × ((decided ≡ Steps·decided w s (p .start) (p .end)) × Reached w s (p .start) (p .end) shortenings)
 
 abbrev μ-loop : tie.MeasureT-loop
 μ-loop w s a b p₀ decided₀ shortenings₀ p decided shortenings = 4 - shortenings

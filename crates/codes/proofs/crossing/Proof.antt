@@ -14,7 +14,8 @@ use Rattle.codes.proofs.crossing.Statement.{statement}
 use Rattle.codes.proofs.crossing.Tie as tie
 
 module _ {w : Window} {s : Stroke} (k : Side) (hw : WindowOnTable w) (hs : StrokeOnTable s) where
-  asked : {j : Side} → j ≡ k → Apart s j → Within farthest (read (numberOf w k)) × (Within farthest (read (from s k)) × (Within farthest (read (to s k)) × (read (from s k) ≡ read (to s k) → ⊥)))
+  asked : {j : Side} → j ≡ k → Apart s j
+      → Within farthest (read (numberOf w k)) × (Within farthest (read (from s k)) × (Within farthest (read (to s k)) × (read (from s k) ≡ read (to s k) → ⊥)))
   asked e h = (
     read-on-table (number-on k hw),
     (read-on-table (from-on k hs), (read-on-table (to-on k hs), λ q. apart-ends s k (subst (Apart s) e h) (sym (read-is (from-on k hs)) ∙ q ∙ read-is (to-on k hs)))),
@@ -39,7 +40,8 @@ meeting-requires-3 : tie.Need-meeting-requires-3
 meeting-requires-3 c κs = let m = c .before .before .before in let p = m .before .pre in asked bottom (p .0) (p .1 .0) (arm bottom (m .match .keys3)) (p .1 .1)
 
 meeting-requires-4 : tie.Need-meeting-requires-4
-meeting-requires-4 c κs = let m = c .before .before .before in let p = m .before .pre in asked top (p .0) (p .1 .0) (top-of _ (m .match .rest .0 .0 .1) (m .match .rest .0 .1) (m .match .rest .1)) (p .1 .1)
+meeting-requires-4 c κs = let m = c .before .before .before in let p = m .before .pre in
+    asked top (p .0) (p .1 .0) (top-of _ (m .match .rest .0 .0 .1) (m .match .rest .0 .1) (m .match .rest .1)) (p .1 .1)
 
 returns : tie.Need-returns
 returns c = let m = c .before .before .before .before in let p = m .before .pre in met left (p .0) (p .1 .0) (arm left (m .match .keys1)) (c .meeting .ensures)
@@ -51,7 +53,8 @@ returns-3 : tie.Need-returns-3
 returns-3 c = let m = c .before .before .before .before in let p = m .before .pre in met bottom (p .0) (p .1 .0) (arm bottom (m .match .keys3)) (c .meeting3 .ensures)
 
 returns-4 : tie.Need-returns-4
-returns-4 c = let m = c .before .before .before .before in let p = m .before .pre in met top (p .0) (p .1 .0) (top-of _ (m .match .rest .0 .0 .1) (m .match .rest .0 .1) (m .match .rest .1)) (c .meeting4 .ensures)
+returns-4 c = let m = c .before .before .before .before in let p = m .before .pre in
+    met top (p .0) (p .1 .0) (top-of _ (m .match .rest .0 .0 .1) (m .match .rest .0 .1) (m .match .rest .1)) (c .meeting4 .ensures)
 
 pub crossing-spec : {M : Type 1} → statement M
 crossing-spec = tie.close (tie.spec meeting-requires meeting-requires-2 meeting-requires-3 meeting-requires-4 returns returns-2 returns-3 returns-4)

@@ -57,7 +57,8 @@ enum-told : tie.Need-enum-told
 enum-told c = search needs
 
 returns : tie.Need-returns
-returns c = rw (toZ-ofZ {w = w32} (record { sfits = c .opposite .ok })) (ap Integer.Is (c .opposite .ensures) ∙ sym (below (c .before .before .before .before) ∙ ap minus (c .before .before .n .given .1)))
+returns c = rw (toZ-ofZ {w = w32} (record { sfits = c .opposite .ok }))
+    (ap Integer.Is (c .opposite .ensures) ∙ sym (below (c .before .before .before .before) ∙ ap minus (c .before .before .n .given .1)))
 
 returns-2 : tie.Need-returns-2
 returns-2 c = sym (below (c .before .before) ∙ ap minus (c .enum-told .given .1))

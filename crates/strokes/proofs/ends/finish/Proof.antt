@@ -55,7 +55,8 @@ returns-2 c =
     let u = sym (back w32 (a .x .to) (c .struct-told4 .given .1 .1 .1 .1 .0 .1)) in
     let v = sym (back w32 _ (c .before .rounded .ok)) in
     transport (λ i. FinishOf (a .s) (a .x) (a .y) (record { t = record { num = n i; den = d i }; x = u i; y = v i }))
-    (finish-x (p .1 .0) (p .1 .1) (c .before .before .before .before .before .before .if3 .taken) (rounded-plain (pos (a .x .end)) (p .0 .y1) (p .0 .y2) (c .before .rounded .ensures)))
+    (finish-x (p .1 .0) (p .1 .1) (c .before .before .before .before .before .before .if3 .taken)
+    (rounded-plain (pos (a .x .end)) (p .0 .y1) (p .0 .y2) (c .before .rounded .ensures)))
 
 -- ---- on a side of the y axis
 cast-t13 : tie.Need-cast-t13

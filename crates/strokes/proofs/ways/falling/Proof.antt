@@ -13,7 +13,8 @@ gap-requires-2 : tie.Need-gap-requires-2
 gap-requires-2 c κs = let f = c .before .fits in let p = c .before .pre in gap-asks (f .at) (f .a) (omega arith) (p .c-on) (p .d-on) (p .last)
 
 gap-requires-3 : tie.Need-gap-requires-3
-gap-requires-3 c κs = let f = c .before .before .fits in let p = c .before .before .pre in gap-asks (f .to) (f .a) (omega arith) (p .b-on) (p .d-on) (≤-trans (p .middle) (p .last))
+gap-requires-3 c κs = let f = c .before .before .fits in let p = c .before .before .pre in
+    gap-asks (f .to) (f .a) (omega arith) (p .b-on) (p .d-on) (≤-trans (p .middle) (p .last))
 
 returns : tie.Need-returns
 returns c = let f = c .before .before .before .fits in record {

@@ -40,13 +40,23 @@ up-into-ranged c =
     let t1 : g .b ≤ℤ g .hi = lt-left w32 (f .hi) (f .b) (c .if2 .left) in
     let area = p .1 .1 .1 .1 .0 in
     let reach = p .1 .1 .1 .1 .1 .up t0 in
-    record { a-on = p .1 .1 .0; b-on = p .0; c-on = p .1 .1 .1 .0; d-on = p .1 .1 .1 .0; first = omega zarith; middle = omega zarith; last = omega zarith; some = omega zarith }
+    record {
+      a-on = p .1 .1 .0;
+      b-on = p .0;
+      c-on = p .1 .1 .1 .0;
+      d-on = p .1 .1 .1 .0;
+      first = omega zarith;
+      middle = omega zarith;
+      last = omega zarith;
+      some = omega zarith;
+    }
 
 rising-requires-2 : tie.Need-rising-requires-2
 rising-requires-2 c κs = ranged-read (up-into-ranged c)
 
 returns-2 : tie.Need-returns-2
-returns-2 c = let g = up-into-ranged (c .before) in let f = c .before .before .before .fits in up-into g (lt-left w32 (f .hi) (f .b) (c .before .if2 .left)) (risen-plain g (c .rising2 .ensures))
+returns-2 c = let g = up-into-ranged (c .before) in let f = c .before .before .before .fits in
+    up-into g (lt-left w32 (f .hi) (f .b) (c .before .if2 .left)) (risen-plain g (c .rising2 .ensures))
 
 -- down through both sides
 down-across-ranged : (c : tie.Then4) → let g = c .before .before .before .args in Ranged (g .b) (g .lo) (g .hi) (g .a)
@@ -78,13 +88,23 @@ down-into-ranged c =
     let t2 : g .lo ≤ℤ g .b = lt-left w32 (f .b) (f .lo) (c .if4 .left) in
     let area = p .1 .1 .1 .1 .0 in
     let reach = p .1 .1 .1 .1 .1 .down t0 t1 in
-    record { a-on = p .1 .1 .1 .0; b-on = p .1 .1 .1 .0; c-on = p .1 .0; d-on = p .1 .1 .0; first = omega zarith; middle = omega zarith; last = omega zarith; some = omega zarith }
+    record {
+      a-on = p .1 .1 .1 .0;
+      b-on = p .1 .1 .1 .0;
+      c-on = p .1 .0;
+      d-on = p .1 .1 .0;
+      first = omega zarith;
+      middle = omega zarith;
+      last = omega zarith;
+      some = omega zarith;
+    }
 
 falling-requires-2 : tie.Need-falling-requires-2
 falling-requires-2 c κs = ranged-read (down-into-ranged c)
 
 returns-4 : tie.Need-returns-4
-returns-4 c = let g = down-into-ranged (c .before) in let f = c .before .before .before .before .fits in down-into g (lt-left w32 (f .b) (f .lo) (c .before .if4 .left)) (fallen-plain g (c .falling2 .ensures))
+returns-4 c = let g = down-into-ranged (c .before) in let f = c .before .before .before .before .fits in
+    down-into g (lt-left w32 (f .b) (f .lo) (c .before .if4 .left)) (fallen-plain g (c .falling2 .ensures))
 
 -- down, and out
 down-out-ranged : (c : tie.Then5) → let g = c .before .before .before .args in Ranged (g .b) (g .lo) (g .a) (g .a)
@@ -96,13 +116,23 @@ down-out-ranged c =
     let t1 : g .a ≤ℤ g .hi = lt-left w32 (f .hi) (f .a) (c .before .if3 .left) in
     let t2 : g .b <ℤ g .lo = lt-taken w32 (f .b) (f .lo) (c .if5 .taken) in
     let area = p .1 .1 .1 .1 .0 in
-    record { a-on = p .1 .1 .1 .0; b-on = p .0; c-on = p .1 .1 .0; d-on = p .1 .1 .0; first = omega zarith; middle = omega zarith; last = omega zarith; some = omega zarith }
+    record {
+      a-on = p .1 .1 .1 .0;
+      b-on = p .0;
+      c-on = p .1 .1 .0;
+      d-on = p .1 .1 .0;
+      first = omega zarith;
+      middle = omega zarith;
+      last = omega zarith;
+      some = omega zarith;
+    }
 
 falling-requires-3 : tie.Need-falling-requires-3
 falling-requires-3 c κs = ranged-read (down-out-ranged c)
 
 returns-5 : tie.Need-returns-5
-returns-5 c = let g = down-out-ranged (c .before) in let f = c .before .before .before .before .fits in down-out g (lt-left w32 (f .hi) (f .a) (c .before .before .if3 .left)) (fallen-plain g (c .falling3 .ensures))
+returns-5 c = let g = down-out-ranged (c .before) in let f = c .before .before .before .before .fits in
+    down-out g (lt-left w32 (f .hi) (f .a) (c .before .before .if3 .left)) (fallen-plain g (c .falling3 .ensures))
 
 -- up, and out
 up-out-ranged : (c : tie.Then6) → let g = c .before .before .before .before .args in Ranged (g .a) (g .a) (g .hi) (g .b)
@@ -115,13 +145,23 @@ up-out-ranged c =
     let t2 : g .lo ≤ℤ g .b = lt-left w32 (f .b) (f .lo) (c .before .if5 .left) in
     let t3 : g .hi <ℤ g .b = lt-taken w32 (f .hi) (f .b) (c .if6 .taken) in
     let area = p .1 .1 .1 .1 .0 in
-    record { a-on = p .1 .1 .0; b-on = p .1 .1 .0; c-on = p .1 .0; d-on = p .1 .1 .1 .0; first = omega zarith; middle = omega zarith; last = omega zarith; some = omega zarith }
+    record {
+      a-on = p .1 .1 .0;
+      b-on = p .1 .1 .0;
+      c-on = p .1 .0;
+      d-on = p .1 .1 .1 .0;
+      first = omega zarith;
+      middle = omega zarith;
+      last = omega zarith;
+      some = omega zarith;
+    }
 
 rising-requires-3 : tie.Need-rising-requires-3
 rising-requires-3 c κs = ranged-read (up-out-ranged c)
 
 returns-6 : tie.Need-returns-6
-returns-6 c = let g = up-out-ranged (c .before) in let f = c .before .before .before .before .before .fits in up-out g (lt-left w32 (f .a) (f .lo) (c .before .before .before .before .if1 .left)) (risen-plain g (c .rising3 .ensures))
+returns-6 c = let g = up-out-ranged (c .before) in let f = c .before .before .before .before .before .fits in
+    up-out g (lt-left w32 (f .a) (f .lo) (c .before .before .before .before .if1 .left)) (risen-plain g (c .rising3 .ensures))
 
 -- all of it between the sides
 returns-7 : tie.Need-returns-7
@@ -137,4 +177,5 @@ returns-7 c =
     }))
 
 pub passage-spec : {M : Type 1} → statement M
-passage-spec = tie.close (tie.spec rising-requires returns rising-requires-2 returns-2 falling-requires returns-3 falling-requires-2 returns-4 falling-requires-3 returns-5 rising-requires-3 returns-6 returns-7)
+passage-spec = tie.close (tie.spec rising-requires returns rising-requires-2 returns-2 falling-requires returns-3 falling-requires-2 returns-4 falling-requires-3
+    returns-5 rising-requires-3 returns-6 returns-7)

@@ -13,7 +13,8 @@ gap-requires-2 : tie.Need-gap-requires-2
 gap-requires-2 c κs = let f = c .before .fits in let p = c .before .pre in gap-asks (f .a) (f .at) (omega arith) (p .a-on) (p .b-on) (p .first)
 
 gap-requires-3 : tie.Need-gap-requires-3
-gap-requires-3 c κs = let f = c .before .before .fits in let p = c .before .before .pre in gap-asks (f .a) (f .to) (omega arith) (p .a-on) (p .c-on) (≤-trans (p .first) (p .middle))
+gap-requires-3 c κs = let f = c .before .before .fits in let p = c .before .before .pre in
+    gap-asks (f .a) (f .to) (omega arith) (p .a-on) (p .c-on) (≤-trans (p .first) (p .middle))
 
 returns : tie.Need-returns
 returns c = let f = c .before .before .before .fits in record {
