@@ -1,4 +1,5 @@
--- The call as a function, which satisfies the statement and so is the only one that does: with it a worked example computes. There are at most four shortenings, so five looks at the codes.
+-- The call as a function, which satisfies the statement and so is the only one that does: with it a worked example computes.
+-- There are at most four shortenings, so five looks at the codes.
 use mathlib.Core.Path.{_≡_, refl}
 use Prim.Native.Nat.{ℕ, zero, suc, _+_, _≤_, _<_}
 use borrow.Author.Tests.{ltb-true, ltb-false, eqb-true, eqb-false}
@@ -13,17 +14,18 @@ use Rattle.fraction.specs.declared.Fraction.{Fraction}
 use Rattle.grid.specs.declared.Stroke.{Stroke}
 use Rattle.grid.specs.declared.Window.{Window}
 use Rattle.grid.specs.Table.{farthest, WindowOnTable, StrokeOnTable}
+use Rattle.grid.specs.Sides.{Side, sideAt, numberOf}
 use Rattle.grid.proofs.Refusals.{window-on-table, stroke-on-table}
 use Rattle.spans.specs.declared.Span.{Span}
 use Rattle.spans.specs.Parts.{zeroth, unit}
 use Rattle.strokes.specs.Strokes.{strokeCallRefusal}
 use Rattle.strokes.proofs.Computed.{answerOf, answerOf-is}
 use Rattle.strokes.proofs.Refusing.{nothing-refused}
-use Rattle.codes.specs.Codes.{Side, number, code, lowestBit}
+use Rattle.codes.specs.Codes.{code, lowestBit}
 use Rattle.codes.specs.Steps.{decided, OnLine, Shortening, start, end, Run, kept, lost, shorten, CohenSutherland}
-use Rattle.codes.specs.Workers.{sideOf, Apart, Meeting}
+use Rattle.codes.specs.Workers.{Apart, WayMeets}
 use Rattle.codes.specs.declared.CountedAnswer.{CountedAnswer}
-use Rattle.codes.proofs.Crossings.{meets-on, meets-back, line, from, to, line-on, from-on, to-on, apart-ends, meets-side, apart}
+use Rattle.codes.proofs.Crossings.{meets-on, meets-back, from, to, number-on, from-on, to-on, apart-ends, meets-side, apart}
 use Rattle.codes.proofs.Decided.{code-small, start-side, end-side, start-beyond, end-beyond}
 use Rattle.codes.proofs.Runs.{cohen-sutherland-unique}
 use Rattle.codes.proofs.Shortenings.{span, Ordered, Reached, reached-first, reached-next}
@@ -35,19 +37,20 @@ meetingOf c a b =
     then record { num = pos 0 -ℤ (c -ℤ a); den = pos 0 -ℤ (b -ℤ a) }
     else record { num = c -ℤ a; den = b -ℤ a }
 
-meetingOf-is : {c a b : ℤ} → Within farthest c → Within farthest a → Within farthest b → (a ≡ b → ⊥) → Meeting c a b (meetingOf c a b)
+meetingOf-is : {c a b : ℤ} → Within farthest c → Within farthest a → Within farthest b → (a ≡ b → ⊥) → WayMeets c a b (meetingOf c a b)
 unfolding meetingOf
-meetingOf-is {c} {a} {b} wc wa wb n = by-test (ltZ (b -ℤ a) (pos 0)) (Meeting c a b) (λ e. meets-back wc wa wb (lt-yes refl refl e)) (λ e. meets-on wc wa wb (lt-no refl refl e) n)
+meetingOf-is {c} {a} {b} wc wa wb n =
+    by-test (ltZ (b -ℤ a) (pos 0)) (WayMeets c a b) (λ e. meets-back wc wa wb (lt-yes refl refl e)) (λ e. meets-on wc wa wb (lt-no refl refl e) n)
 
 abbrev crossingOf : Window → Stroke → Side → Fraction
-crossingOf w s k = meetingOf (line w k) (from s k) (to s k)
+crossingOf w s k = meetingOf (numberOf w k) (from s k) (to s k)
 
 unfoldable pub stepOf : Window → Stroke → Fraction → Fraction → Span
-stepOf w s f g = if ltb (decided w s f g) 6 then span (crossingOf w s (sideOf (lowestBit (code w s f)))) g else span f (crossingOf w s (sideOf (lowestBit (code w s g))))
+stepOf w s f g = if ltb (decided w s f g) 6 then span (crossingOf w s (sideAt (lowestBit (code w s f)))) g else span f (crossingOf w s (sideAt (lowestBit (code w s g))))
 
 module _ {w : Window} {s : Stroke} (hw : WindowOnTable w) (hs : StrokeOnTable s) where
   crosses : (k : Side) → Apart s k → OnLine w s k (crossingOf w s k)
-  crosses k h = meets-side w s k (meetingOf-is (line-on k hw) (from-on k hs) (to-on k hs) (apart-ends s k h)) .line
+  crosses k h = meets-side w s k (meetingOf-is (number-on k hw) (from-on k hs) (to-on k hs) (apart-ends s k h)) .line
 
   stepOf-is : (f g : Fraction) → Ordered f g → 2 ≤ decided w s f g → Shortening w s f g (stepOf w s f g .first) (stepOf w s f g .last)
   unfolding stepOf
@@ -55,12 +58,12 @@ module _ {w : Window} {s : Stroke} (hw : WindowOnTable w) (hs : StrokeOnTable s)
       by-test (ltb (decided w s f g) 6) (λ (r : Span). Shortening w s f g (r .first) (r .last))
       (λ t.
       let e = start-side (code-small w s f) (code-small w s g) l (ltb-true (decided w s f g) 6 t) in
-      let k = sideOf (lowestBit (code w s f)) in
+      let k = sideAt (lowestBit (code w s f)) in
       let b = start-beyond w s f g k e in
       start k e (crosses k (apart w s f g k (o .proper .den0) (o .proper .den1) (b .0) (b .1))))
       (λ t.
       let e = end-side (code-small w s f) (code-small w s g) (ltb-false (decided w s f g) 6 t) in
-      let k = sideOf (lowestBit (code w s g)) in
+      let k = sideAt (lowestBit (code w s g)) in
       let b = end-beyond w s f g k e in
       end k e (crosses k (apart w s g f k (o .proper .den1) (o .proper .den0) (b .1) (b .0))))
 

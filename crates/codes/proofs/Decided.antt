@@ -1,4 +1,5 @@
--- What a decision says of the two points: which of them lies beyond which side. The rule on codes is computed over all pairs of codes, and a bit of a code is the test of its side.
+-- What a decision says of the two points: which of them lies beyond which side.
+-- The rule on codes is computed over all pairs of codes, and a bit of a code is the test of its side.
 use mathlib.Core.Path.{_≡_, refl, sym, subst, _∙_}
 use mathlib.Core.Bool.{Bool, true, false, not, _&&_, Bool·beq}
 use Prim.Native.Nat.{ℕ, _/_, _%_, _^_, _<_, _≤_}
@@ -12,15 +13,15 @@ use Rattle.whole.specs.Choice.{if_then_else_}
 use Rattle.fraction.specs.declared.Fraction.{Fraction}
 use Rattle.grid.specs.declared.Stroke.{Stroke}
 use Rattle.grid.specs.declared.Window.{Window}
-use Rattle.codes.specs.Codes.{Side, left, right, bottom, top, number, past, code, keep, missed, shortenStart, shortenEnd, lowestBit, decision}
+use Rattle.grid.specs.Sides.{Side, left, right, bottom, top, placeOf, sideAt}
+use Rattle.codes.specs.Codes.{past, code, keep, missed, shortenStart, shortenEnd, lowestBit, decision}
 use Rattle.codes.specs.Steps.{decided}
-use Rattle.codes.specs.Workers.{sideOf}
 use Rattle.codes.proofs.Everywhere.{implies, implied, bits, every-side, sides, some-side, side, every-pair, pairs}
 
 -- ---- the rule on codes, as numbers
 -- bit k of a is set
 abbrev set : Side → ℕ → Bool
-set k a = eqb (a / 2 ^ number k % 2) 1
+set k a = eqb (a / 2 ^ placeOf k % 2) 1
 
 -- the bits of side k in the codes of the start and the end
 abbrev neither : Side → ℕ → ℕ → Bool
@@ -56,24 +57,25 @@ module _ {a b : ℕ} (ha : a < 16) (hb : b < 16) where
   unfolding decision trailingZeros
   missed-shared e = side (λ k. both k a b) (where-is missed (λ a b. some-side (λ k. both k a b)) tt e)
 
-  start-set : (k : Side) → decision a b ≡ shortenStart (number k) → T (first-only k a b)
+  start-set : (k : Side) → decision a b ≡ shortenStart (placeOf k) → T (first-only k a b)
   unfolding decision trailingZeros
-  start-set k e = where-is (shortenStart (number k)) (first-only k) (sides (λ k. always (is (shortenStart (number k))) (first-only k)) tt k) e
+  start-set k e = where-is (shortenStart (placeOf k)) (first-only k) (sides (λ k. always (is (shortenStart (placeOf k))) (first-only k)) tt k) e
 
-  end-set : (k : Side) → decision a b ≡ shortenEnd (number k) → T (last-only k a b)
+  end-set : (k : Side) → decision a b ≡ shortenEnd (placeOf k) → T (last-only k a b)
   unfolding decision trailingZeros
-  end-set k e = where-is (shortenEnd (number k)) (last-only k) (sides (λ k. always (is (shortenEnd (number k))) (last-only k)) tt k) e
+  end-set k e = where-is (shortenEnd (placeOf k)) (last-only k) (sides (λ k. always (is (shortenEnd (placeOf k))) (last-only k)) tt k) e
 
   -- a shortening is at the side whose number is the count of trailing zeros
-  pub start-side : 2 ≤ decision a b → decision a b < 6 → decision a b ≡ shortenStart (number (sideOf (lowestBit a)))
-  unfolding decision trailingZeros sideOf
-  start-side l h = eqb→eq (decision a b) (shortenStart (number (sideOf (lowestBit a))))
-      (found (λ a b. leb 2 (decision a b) && ltb (decision a b) 6) (λ a b. is (shortenStart (number (sideOf (lowestBit a)))) a b) tt (yes-and (leb 2 (decision a b)) (ltb (decision a b) 6) (le→leb 2 (decision a b) l) (lt→ltb (decision a b) 6 h)))
+  pub start-side : 2 ≤ decision a b → decision a b < 6 → decision a b ≡ shortenStart (placeOf (sideAt (lowestBit a)))
+  unfolding decision trailingZeros
+  start-side l h = eqb→eq (decision a b) (shortenStart (placeOf (sideAt (lowestBit a))))
+      (found (λ a b. leb 2 (decision a b) && ltb (decision a b) 6) (λ a b. is (shortenStart (placeOf (sideAt (lowestBit a)))) a b) tt
+      (yes-and (leb 2 (decision a b)) (ltb (decision a b) 6) (le→leb 2 (decision a b) l) (lt→ltb (decision a b) 6 h)))
 
-  pub end-side : 6 ≤ decision a b → decision a b ≡ shortenEnd (number (sideOf (lowestBit b)))
-  unfolding decision trailingZeros sideOf
-  end-side l = eqb→eq (decision a b) (shortenEnd (number (sideOf (lowestBit b))))
-      (found (λ a b. leb 6 (decision a b)) (λ a b. is (shortenEnd (number (sideOf (lowestBit b)))) a b) tt (le→leb 6 (decision a b) l))
+  pub end-side : 6 ≤ decision a b → decision a b ≡ shortenEnd (placeOf (sideAt (lowestBit b)))
+  unfolding decision trailingZeros
+  end-side l = eqb→eq (decision a b) (shortenEnd (placeOf (sideAt (lowestBit b))))
+      (found (λ a b. leb 6 (decision a b)) (λ a b. is (shortenEnd (placeOf (sideAt (lowestBit b)))) a b) tt (le→leb 6 (decision a b) l))
 
   -- the plain cases
   pub or-keep : bitOr a b ≡ 0 → decision a b ≡ keep
@@ -154,12 +156,12 @@ module _ (w : Window) (s : Stroke) (f g : Fraction) where
       let t = and-yes (set (k .0) a) (set (k .0) b) (k .1) in
       (k .0, set-beyond w s f (k .0) (t .0), set-beyond w s g (k .0) (t .1))
 
-  pub start-beyond : (k : Side) → decided w s f g ≡ shortenStart (number k) → (pos 0 <ℤ past w s k f) × (past w s k g ≤ℤ pos 0)
+  pub start-beyond : (k : Side) → decided w s f g ≡ shortenStart (placeOf k) → (pos 0 <ℤ past w s k f) × (past w s k g ≤ℤ pos 0)
   start-beyond k e =
       let t = and-yes (set k a) (not (set k b)) (start-set (code-small w s f) (code-small w s g) k e) in
       (set-beyond w s f k (t .0), clear-inside w s g k (t .1))
 
-  pub end-beyond : (k : Side) → decided w s f g ≡ shortenEnd (number k) → (past w s k f ≤ℤ pos 0) × (pos 0 <ℤ past w s k g)
+  pub end-beyond : (k : Side) → decided w s f g ≡ shortenEnd (placeOf k) → (past w s k f ≤ℤ pos 0) × (pos 0 <ℤ past w s k g)
   end-beyond k e =
       let t = and-yes (not (set k a)) (set k b) (end-set (code-small w s f) (code-small w s g) k e) in
       (clear-inside w s f k (t .0), set-beyond w s g k (t .1))

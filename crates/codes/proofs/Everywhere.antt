@@ -8,7 +8,7 @@ use native.Mathlib.Omega.{arith}
 use lib.Dec.{T}
 use lib.ListN.{getD}
 use mir.Facts.{and-yes, or-yes}
-use Rattle.codes.specs.Codes.{Side, left, right, bottom, top}
+use Rattle.grid.specs.Sides.{Side, left, right, bottom, top}
 
 abbrev pub implies : Bool → Bool → Bool
 implies a b = not a || b
@@ -29,7 +29,8 @@ abbrev pub every-bits : (Bool → Bool → Bool → Bool → Bool) → Bool
 every-bits f = either (λ a. either (λ b. either (λ c. either (f a b c))))
 
 pub bits : (f : Bool → Bool → Bool → Bool → Bool) → T (every-bits f) → (a b c d : Bool) → T (f a b c d)
-bits f t a b c d = bit (f a b c) (bit (λ c. either (f a b c)) (bit (λ b. either (λ c. either (f a b c))) (bit (λ a. either (λ b. either (λ c. either (f a b c)))) t a) b) c) d
+bits f t a b c d = bit (f a b c)
+    (bit (λ c. either (f a b c)) (bit (λ b. either (λ c. either (f a b c))) (bit (λ a. either (λ b. either (λ c. either (f a b c)))) t a) b) c) d
 
 -- ---- the four sides
 abbrev pub every-side : (Side → Bool) → Bool

@@ -1,4 +1,5 @@
--- How far the points of a stroke lie past a side is linear in the fraction. So one lemma on linear forms says that a shortened end lies between the two ends, and one that what both ends have every point between them has.
+-- How far the points of a stroke lie past a side is linear in the fraction.
+-- So one lemma on linear forms says that a shortened end lies between the two ends, and one that what both ends have every point between them has.
 use mathlib.Core.Path.{_≡_, sym, subst, _∙_}
 use mathlib.Core.Logic.{⊎-elim}
 use mathlib.Core.List.{[], _∷_}
@@ -12,7 +13,8 @@ use Rattle.whole.proofs.Order.{≤-total, zarith}
 use Rattle.fraction.specs.declared.Fraction.{Fraction}
 use Rattle.grid.specs.declared.Stroke.{Stroke}
 use Rattle.grid.specs.declared.Window.{Window}
-use Rattle.codes.specs.Codes.{Side, left, right, bottom, top, past}
+use Rattle.grid.specs.Sides.{Side, left, right, bottom, top}
+use Rattle.codes.specs.Codes.{past}
 
 -- a linear form at a fraction, in the numbers and as it is quoted
 abbrev pub form : ℤ → ℤ → Fraction → ℤ

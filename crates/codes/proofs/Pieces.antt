@@ -16,6 +16,7 @@ use Rattle.fraction.specs.declared.Fraction.{Fraction}
 use Rattle.grid.specs.declared.Stroke.{Stroke}
 use Rattle.grid.specs.declared.Window.{Window}
 use Rattle.grid.specs.Refusals.{none}
+use Rattle.grid.specs.Sides.{Side, placeOf, sideAt}
 use Rattle.spans.specs.Parts.{zeroth, unit}
 use Rattle.spans.proofs.Cutting.{one-within}
 use Rattle.spans.proofs.Parts.{lowest-zeroth, lowest-unit}
@@ -23,23 +24,23 @@ use Rattle.strokes.specs.Strokes.{blank}
 use Rattle.strokes.specs.Workers.{wholeAnswer}
 use Rattle.strokes.proofs.Answers.{nothing-kept, span-kept}
 use Rattle.strokes.proofs.Points.{point-start, point-finish}
-use Rattle.codes.specs.Codes.{Side, number, code, keep, missed, shortenStart, shortenEnd, lowestBit, decision}
+use Rattle.codes.specs.Codes.{code, keep, missed, shortenStart, shortenEnd, lowestBit, decision}
 use Rattle.codes.specs.Steps.{decided, start, end, Run, kept, lost}
-use Rattle.codes.specs.Workers.{outsideOf, marksOf, endCode, Ends, sideOf, Apart, Crossing, PieceOf, Kept, Finished}
+use Rattle.codes.specs.Workers.{outsideOf, marksOf, endCode, PartOfWay, Apart, StrokeMeets, PieceOf, KeptFrom, Finished}
 use Rattle.codes.specs.declared.CountedAnswer.{CountedAnswer}
 use Rattle.codes.specs.declared.Piece.{Piece}
 use Rattle.codes.proofs.Crossings.{apart}
 use Rattle.codes.proofs.Decided.{code-small, start-side, end-side, start-beyond, end-beyond}
 use Rattle.codes.proofs.Shortenings.{Ordered, first-ordered, first-time, last-time, shortened-ordered, Reached, reached-keep, reached-missed, reached-end}
 
-ends-ordered : {f g : Fraction} → Ends f g → Ordered f g
-ends-ordered h = record {
+part-ordered : {f g : Fraction} → PartOfWay f g → Ordered f g
+part-ordered h = record {
   proper = record { low = h .start .time .low; high = h .end .time .high; den0 = h .start .time .den; den1 = h .end .time .den };
   order = h .order;
 }
 
-ordered-ends : {f g : Fraction} → Ordered f g → Within 32766 (f .den) → Within 32766 (g .den) → Ends f g
-ordered-ends o wf wg = record { start = record { time = first-time o; small = wf }; end = record { time = last-time o; small = wg }; order = o .order }
+ordered-part : {f g : Fraction} → Ordered f g → Within 32766 (f .den) → Within 32766 (g .den) → PartOfWay f g
+ordered-part o wf wg = record { start = record { time = first-time o; small = wf }; end = record { time = last-time o; small = wg }; order = o .order }
 
 module _ {w : Window} {s : Stroke} {p : Piece} (h : PieceOf w s p) where
   abbrev f : Fraction
@@ -61,25 +62,25 @@ module _ {w : Window} {s : Stroke} {p : Piece} (h : PieceOf w s p) where
     abbrev own : d ≡ decision (p .a) (p .b)
     own = e ∙ sym decided-is
 
-    pub decided-start : 2 ≤ d → d < 6 → decided w s f g ≡ shortenStart (number (sideOf (lowestBit (p .a))))
+    pub decided-start : 2 ≤ d → d < 6 → decided w s f g ≡ shortenStart (placeOf (sideAt (lowestBit (p .a))))
     decided-start l u = sym decided-is ∙ start-side small-a small-b (subst (λ (n : ℕ). 2 ≤ n) own l) (subst (λ (n : ℕ). n < 6) own u)
 
-    pub decided-end : 6 ≤ d → decided w s f g ≡ shortenEnd (number (sideOf (lowestBit (p .b))))
+    pub decided-end : 6 ≤ d → decided w s f g ≡ shortenEnd (placeOf (sideAt (lowestBit (p .b))))
     decided-end l = sym decided-is ∙ end-side small-a small-b (subst (λ (n : ℕ). 6 ≤ n) own l)
 
-  module _ (k : Side) (e : decided w s f g ≡ shortenStart (number k)) where
+  module _ (k : Side) (e : decided w s f g ≡ shortenStart (placeOf k)) where
     pub start-apart : Apart s k
-    start-apart = let b = start-beyond w s f g k e in apart w s f g k (h .ends .start .time .den) (h .ends .end .time .den) (b .0) (b .1)
+    start-apart = let b = start-beyond w s f g k e in apart w s f g k (h .part .start .time .den) (h .part .end .time .den) (b .0) (b .1)
 
-    pub start-ends : {c : Fraction} → Crossing w s k c → Ends c g
-    start-ends m = ordered-ends (shortened-ordered (ends-ordered (h .ends)) (start k e (m .line))) (m .small) (h .ends .end .small)
+    pub start-part : {c : Fraction} → StrokeMeets w s k c → PartOfWay c g
+    start-part m = ordered-part (shortened-ordered (part-ordered (h .part)) (start k e (m .line))) (m .small) (h .part .end .small)
 
-  module _ (k : Side) (e : decided w s f g ≡ shortenEnd (number k)) where
+  module _ (k : Side) (e : decided w s f g ≡ shortenEnd (placeOf k)) where
     pub end-apart : Apart s k
-    end-apart = let b = end-beyond w s f g k e in apart w s g f k (h .ends .end .time .den) (h .ends .start .time .den) (b .1) (b .0)
+    end-apart = let b = end-beyond w s f g k e in apart w s g f k (h .part .end .time .den) (h .part .start .time .den) (b .1) (b .0)
 
-    pub end-ends : {c : Fraction} → Crossing w s k c → Ends f c
-    end-ends m = ordered-ends (shortened-ordered (ends-ordered (h .ends)) (end k e (m .line))) (h .ends .start .small) (m .small)
+    pub end-part : {c : Fraction} → StrokeMeets w s k c → PartOfWay f c
+    end-part m = ordered-part (shortened-ordered (part-ordered (h .part)) (end k e (m .line))) (h .part .start .small) (m .small)
 
 -- ---- the codes of the stroke's own ends
 module _ (lo hi a b : ℤ) (under over : ℕ) where
@@ -105,11 +106,11 @@ module _ (w : Window) (s : Stroke) where
   end-code = λ i. bitOr (marks-end (w .left) (w .right) (s .x1) (s .x2) 1 2 i) (marks-end (w .bottom) (w .top) (s .y1) (s .y2) 4 8 i)
 
 -- ---- the whole stroke, and the two ends of a run
-pub first-ends : Ends zeroth unit
-first-ends = ordered-ends first-ordered (one-within (omega arith)) (one-within (omega arith))
+pub whole-part : PartOfWay zeroth unit
+whole-part = ordered-part first-ordered (one-within (omega arith)) (one-within (omega arith))
 
-pub whole-kept : {s : Stroke} {q : CountedAnswer} → q ≡ record { answer = wholeAnswer s; shortenings = 0 } → Kept s zeroth unit 0 q
-whole-kept {s} e = subst (Kept s zeroth unit 0) (sym e) (record {
+pub whole-kept : {s : Stroke} {q : CountedAnswer} → q ≡ record { answer = wholeAnswer s; shortenings = 0 } → KeptFrom s zeroth unit 0 q
+whole-kept {s} e = subst (KeptFrom s zeroth unit 0) (sym e) (record {
   clipped = λ w g.
       span-kept g (omega zarith) (record { t = zeroth; x = s .x1; y = s .y1 }) (record { t = unit; x = s .x2; y = s .y2 })
       (point-start {f = zeroth} (omega zarith) refl) (point-finish {f = unit} (omega zarith) refl) (lowest-zeroth refl) (lowest-unit refl);
@@ -117,7 +118,7 @@ whole-kept {s} e = subst (Kept s zeroth unit 0) (sym e) (record {
 })
 
 module _ {w : Window} {s : Stroke} {f g : Fraction} {n : ℕ} {q : CountedAnswer} (r : Reached w s f g n) where
-  pub finished-kept : Ends f g → decided w s f g ≡ keep → Kept s f g n q → Finished w s q
+  pub finished-kept : PartOfWay f g → decided w s f g ≡ keep → KeptFrom s f g n q → Finished w s q
   finished-kept h e k = record {
     clipped = k .clipped w (reached-keep r e (h .start .small) (h .end .small));
     run = subst (Run w s zeroth unit) (sym (k .count)) (reached-end r (kept e));

@@ -1,4 +1,5 @@
--- The rule's run is the only one, and it has at most four shortenings. A code depends on the fraction's value alone, and a stroke meets the line of a side that it passes at one fraction alone.
+-- The rule's run is the only one, and it has at most four shortenings.
+-- A code depends on the fraction's value alone, and a stroke meets the line of a side that it passes at one fraction alone.
 use mathlib.Core.Path.{_≡_, refl, sym, ap, subst, _∙_}
 use mathlib.Core.List.{[], _∷_}
 use Prim.Native.Nat.{ℕ, zero, suc, _≤_}
@@ -15,15 +16,15 @@ use Rattle.whole.proofs.Order.{zarith}
 use Rattle.fraction.specs.declared.Fraction.{Fraction}
 use Rattle.grid.specs.declared.Stroke.{Stroke}
 use Rattle.grid.specs.declared.Window.{Window}
+use Rattle.grid.specs.Sides.{Side, left, right, bottom, top, placeOf, sideAt}
 use Rattle.spans.specs.Parts.{zeroth, unit}
 use Rattle.strokes.specs.Strokes.{Clipping, strokeCallRefusal}
 use Rattle.strokes.specs.declared.StrokeAnswer.{StrokeAnswer}
 use Rattle.strokes.proofs.Unique.{clipping-unique}
-use Rattle.codes.specs.Codes.{Side, left, right, bottom, top, number, past, code, decision}
+use Rattle.codes.specs.Codes.{past, code, decision}
 use Rattle.codes.specs.Steps.{decided, OnLine, Shortening, start, end, Run, kept, lost, shorten, CohenSutherland}
-use Rattle.codes.specs.Workers.{sideOf}
 use Rattle.codes.specs.declared.CountedAnswer.{CountedAnswer}
-use Rattle.codes.proofs.Crossings.{side-of, number-small}
+use Rattle.codes.proofs.Crossings.{side-of, place-small}
 use Rattle.codes.proofs.Decided.{start-beyond, end-beyond}
 use Rattle.codes.proofs.Forms.{form, same-fraction, slope, base, beyond-form, form-beyond, on-form}
 use Rattle.codes.proofs.Sides.{open-sides, open-≤, shut}
@@ -65,14 +66,15 @@ module _ (w : Window) (s : Stroke) where
 
   code-same : {f g : Fraction} → Same f g → code w s f ≡ code w s g
   unfolding code
-  code-same h = λ i. bitOr (bitOr (if beyond-same left h i then 1 else 0) (if beyond-same right h i then 2 else 0)) (bitOr (if beyond-same bottom h i then 4 else 0) (if beyond-same top h i then 8 else 0))
+  code-same h = λ i. bitOr (bitOr (if beyond-same left h i then 1 else 0) (if beyond-same right h i then 2 else 0))
+      (bitOr (if beyond-same bottom h i then 4 else 0) (if beyond-same top h i then 8 else 0))
 
   decided-same : {f g f′ g′ : Fraction} → Same f f′ → Same g g′ → decided w s f g ≡ decided w s f′ g′
   decided-same p q = λ i. decision (code-same p i) (code-same q i)
 
 -- ---- a side's number tells the side
-same-side : {j k : Side} → number j ≡ number k → j ≡ k
-same-side {j} {k} e = sym (side-of j) ∙ ap sideOf e ∙ side-of k
+same-side : {j k : Side} → placeOf j ≡ placeOf k → j ≡ k
+same-side {j} {k} e = sym (side-of j) ∙ ap sideAt e ∙ side-of k
 
 -- ---- one run
 zero-or-not : (n : ℕ) {A : Type 0} → (n ≡ 0 → A) → ((n ≡ 0 → ⊥) → A) → A
@@ -100,8 +102,8 @@ module _ {w : Window} {s : Stroke} where
       let d = decided-same w s p q in
       let i : k′ ≡ k = same-side (omega arith) in
       (p, meets-once k g (end-beyond w s f g k e .1) on (subst (λ (j : Side). OnLine w s j c) i on′))
-  shortened-same p q (start k e on) (end k′ e′ on′) = absurd (omega (arith, decided-same w s p q, number-small k))
-  shortened-same p q (end k e on) (start k′ e′ on′) = absurd (omega (arith, decided-same w s p q, number-small k′))
+  shortened-same p q (start k e on) (end k′ e′ on′) = absurd (omega (arith, decided-same w s p q, place-small k))
+  shortened-same p q (end k e on) (start k′ e′ on′) = absurd (omega (arith, decided-same w s p q, place-small k′))
 
   run-same : {f g f′ g′ : Fraction} {m n : ℕ} → Same f f′ → Same g g′ → Run w s f g m → Run w s f′ g′ n → m ≡ n
   run-same p q (shorten t r) (shorten t′ r′) = let h = shortened-same p q t t′ in ap suc (run-same (h .0) (h .1) r r′)

@@ -1,4 +1,5 @@
--- One shortening, and what holds as the rule runs: the two fractions lie in order from 0 to 1, every kept fraction lies between them, and each shortening shuts a side for good.
+-- One shortening, and what holds as the rule runs: the two fractions lie in order from 0 to 1, every kept fraction lies between them,
+-- and each shortening shuts a side for good.
 use mathlib.Core.Path.{_≡_, sym, subst}
 use Prim.Native.Nat.{ℕ, suc, _+_, _≤_, _<_}
 use native.Mathlib.Nat.{zero-add}
@@ -10,16 +11,18 @@ use Rattle.whole.proofs.Order.{zarith, ≡→≤}
 use Rattle.fraction.specs.declared.Fraction.{Fraction}
 use Rattle.grid.specs.declared.Stroke.{Stroke}
 use Rattle.grid.specs.declared.Window.{Window}
+use Rattle.grid.specs.Sides.{Side, placeOf}
 use Rattle.spans.specs.declared.Span.{Span}
 use Rattle.spans.specs.Parts.{Time, zeroth, unit}
 use Rattle.spans.specs.Spans.{InSpan, ProperSpan, SpanOf}
 use Rattle.spans.proofs.Cutting.{in-time}
 use Rattle.spans.proofs.Parts.{all-proper, in-all, time-within}
 use Rattle.strokes.specs.Strokes.{Keeps}
-use Rattle.codes.specs.Codes.{Side, past, number, keep, missed, shortenStart, shortenEnd}
+use Rattle.codes.specs.Codes.{past, keep, missed, shortenStart, shortenEnd}
 use Rattle.codes.specs.Steps.{decided, OnLine, Shortening, start, end, Run, shorten}
 use Rattle.codes.proofs.Decided.{keep-inside, missed-beyond, start-beyond, end-beyond}
-use Rattle.codes.proofs.Forms.{form, _≼_, ≼-refl, mixed, between-≤, between->, upto-form, form-upto, from-form, form-from, slope, base, beyond-form, form-beyond, inside-form, form-inside, on-form}
+use Rattle.codes.proofs.Forms.{form, _≼_, ≼-refl, mixed, between-≤, between->, upto-form, form-upto, from-form, form-from}
+use Rattle.codes.proofs.Forms.{slope, base, beyond-form, form-beyond, inside-form, form-inside, on-form}
 use Rattle.codes.proofs.Sides.{fraction, keeps-inside, inside-keeps, open-sides, open-falls, open-≤, shut, shut-inside, inside-shut, beyond-open}
 
 abbrev pub span : Fraction → Fraction → Span
@@ -61,10 +64,10 @@ not-both : {z : ℤ} → pos 0 <ℤ z → z ≤ℤ pos 0 → ⊥
 not-both h k = omega zarith
 
 module _ {w : Window} {s : Stroke} where
-  start-mixed : {f g : Fraction} (c : Fraction) (k : Side) → Ordered f g → decided w s f g ≡ shortenStart (number k) → OnLine w s k c → Mixed f g c
+  start-mixed : {f g : Fraction} (c : Fraction) (k : Side) → Ordered f g → decided w s f g ≡ shortenStart (placeOf k) → OnLine w s k c → Mixed f g c
   start-mixed {f} {g} c k o e on = let b = start-beyond w s f g k e in side-mixed w s k f g c (o .proper .den0) (o .proper .den1) (b .0) (b .1) on
 
-  end-mixed : {f g : Fraction} (c : Fraction) (k : Side) → Ordered f g → decided w s f g ≡ shortenEnd (number k) → OnLine w s k c → Mixed f g c
+  end-mixed : {f g : Fraction} (c : Fraction) (k : Side) → Ordered f g → decided w s f g ≡ shortenEnd (placeOf k) → OnLine w s k c → Mixed f g c
   end-mixed {f} {g} c k o e on = let b = end-beyond w s f g k e in λ x y p q. side-mixed w s k g f c (o .proper .den1) (o .proper .den0) (b .1) (b .0) on x y q p
 
   pub shortened-ordered : {f g f′ g′ : Fraction} → Ordered f g → Shortening w s f g f′ g′ → Ordered f′ g′
@@ -153,7 +156,8 @@ module _ {w : Window} {s : Stroke} where
         inside : (p q : ℤ) → pos 0 <ℤ q → InSpan (span f g) p q → (k : Side) → past w s k f ≤ℤ pos 0 → past w s k g ≤ℤ pos 0 → past w s k (fraction p q) ≤ℤ pos 0
         inside p q h i k x y =
             form-inside w s k (fraction p q)
-            (between-≤ f (fraction p q) g (r .ordered .proper .den0) h (r .ordered .proper .den1) (i .from) (i .upto) (slope w s k) (base w s k) (inside-form w s k f x) (inside-form w s k g y))
+            (between-≤ f (fraction p q) g (r .ordered .proper .den0) h (r .ordered .proper .den1) (i .from) (i .upto) (slope w s k) (base w s k)
+            (inside-form w s k f x) (inside-form w s k g y))
 
     -- both points are beyond one side: so is every point between them
     pub reached-missed : decided w s f g ≡ missed → (p q : ℤ) → Keeps w s p q → ⊥
@@ -162,5 +166,6 @@ module _ {w : Window} {s : Stroke} where
         let i = r .stays p q h in
         not-both
         (form-beyond w s (b .0) (fraction p q)
-        (between-> f (fraction p q) g (r .ordered .proper .den0) (h .time .den) (r .ordered .proper .den1) (i .from) (i .upto) (slope w s (b .0)) (base w s (b .0)) (beyond-form w s (b .0) f (b .1)) (beyond-form w s (b .0) g (b .2))))
+        (between-> f (fraction p q) g (r .ordered .proper .den0) (h .time .den) (r .ordered .proper .den1) (i .from) (i .upto) (slope w s (b .0)) (base w s (b .0))
+        (beyond-form w s (b .0) f (b .1)) (beyond-form w s (b .0) g (b .2))))
         (keeps-inside w s p q h (b .0))

@@ -10,9 +10,10 @@ use Rattle.whole.proofs.Order.{zarith, sub-is}
 use Rattle.fraction.specs.declared.Fraction.{Fraction}
 use Rattle.grid.specs.declared.Stroke.{Stroke}
 use Rattle.grid.specs.declared.Window.{Window}
+use Rattle.grid.specs.Sides.{Side, left, right, bottom, top}
 use Rattle.spans.specs.Parts.{Time}
 use Rattle.strokes.specs.Strokes.{Keeps}
-use Rattle.codes.specs.Codes.{Side, left, right, bottom, top, past}
+use Rattle.codes.specs.Codes.{past}
 
 abbrev pub fraction : ℤ → ℤ → Fraction
 fraction n d = record { num = n; den = d }

@@ -11,9 +11,10 @@ use lib.Signed.{_<ℤ_}
 use Rattle.fraction.specs.declared.Fraction.{Fraction}
 use Rattle.grid.specs.declared.Stroke.{Stroke}
 use Rattle.grid.specs.declared.Window.{Window}
+use Rattle.grid.specs.Sides.{Side, placeOf}
 use Rattle.spans.specs.Parts.{zeroth, unit}
 use Rattle.strokes.specs.Strokes.{Clipping, strokeCallRefusal}
-use Rattle.codes.specs.Codes.{Side, number, past, code, keep, missed, shortenStart, shortenEnd, decision}
+use Rattle.codes.specs.Codes.{past, code, keep, missed, shortenStart, shortenEnd, decision}
 use Rattle.codes.specs.declared.CountedAnswer.{CountedAnswer}
 
 abbrev pub decided : Window → Stroke → Fraction → Fraction → ℕ
@@ -24,8 +25,8 @@ pub record OnLine (w : Window) (s : Stroke) (k : Side) (f : Fraction) : Type 0 w
   pub on : past w s k f ≡ pos 0
 
 pub data Shortening (w : Window) (s : Stroke) : Fraction → Fraction → Fraction → Fraction → Type 0 where
-  start : {f g h : Fraction} (k : Side) → decided w s f g ≡ shortenStart (number k) → OnLine w s k h → Shortening w s f g h g
-  end : {f g h : Fraction} (k : Side) → decided w s f g ≡ shortenEnd (number k) → OnLine w s k h → Shortening w s f g f h
+  start : {f g h : Fraction} (k : Side) → decided w s f g ≡ shortenStart (placeOf k) → OnLine w s k h → Shortening w s f g h g
+  end : {f g h : Fraction} (k : Side) → decided w s f g ≡ shortenEnd (placeOf k) → OnLine w s k h → Shortening w s f g f h
 
 pub data Run (w : Window) (s : Stroke) : Fraction → Fraction → ℕ → Type 0 where
   kept : {f g : Fraction} → decided w s f g ≡ keep → Run w s f g 0

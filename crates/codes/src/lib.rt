@@ -17,11 +17,12 @@ ghost use Rattle.whole.specs.Choice.{if_then_else_};
 ghost use Rattle.whole.specs.Within.{Within};
 ghost use Rattle.grid.specs.Table.{farthest, WindowOnTable, StrokeOnTable};
 ghost use Rattle.grid.specs.Refusals.{none};
+ghost use Rattle.grid.specs.Sides.{sideAt};
 ghost use Rattle.strokes.specs.Strokes.{blank as Strokes·blank};
 ghost use Rattle.strokes.specs.Workers.{OnWay, wholeAnswer};
 ghost use Rattle.codes.specs.Codes.{code as Codes·code, decision as Codes·decision};
 ghost use Rattle.codes.specs.Steps.{decided as Steps·decided, CohenSutherland};
-ghost use Rattle.codes.specs.Workers.{outsideOf, marksOf, endCode, Ends, sideOf, Apart, Meeting, Crossing, PieceOf, Shortened, EndAt, Kept, Finished};
+ghost use Rattle.codes.specs.Workers.{outsideOf, marksOf, endCode, PartOfWay, Apart, WayMeets, StrokeMeets, PieceOf, Shortened, EndAt, KeptFrom, Finished};
 
 // The bits of a position code.
 const LEFT: u8 = 1;
@@ -47,13 +48,14 @@ struct Piece {
     b: u8,
 }
 
+// One bit of a code: set where the point lies beyond the bit's side.
 fn mark(beyond: bool, bit: u8) -> u8
     ensures { λ r. ⌜ r ≡ (if beyond then bit else 0) ⌝ }
 {
     if beyond { bit } else { 0 }
 }
 
-// The bits of one coordinate at t of the way from a to b. On the border it is inside.
+// The two bits of one coordinate at the fraction t of the way from a to b: `under` below lo, `over` above hi. On the border it is inside.
 fn outside(lo: i32, hi: i32, a: i32, b: i32, t: Fraction, under: u8, over: u8) -> u8
     requires { ⌜ Within farthest lo ⌝ }
     requires { ⌜ Within farthest hi ⌝ }
@@ -77,7 +79,7 @@ fn code(w: Window, s: Stroke, t: Fraction) -> u8
         | outside(w.bottom, w.top, s.y1, s.y2, t, BELOW, ABOVE)
 }
 
-// The bits of one coordinate x of an end of the stroke.
+// The same two bits for a coordinate x of an end of the stroke, which needs no products.
 fn marks(lo: i32, hi: i32, x: i32, under: u8, over: u8) -> u8
     ensures { λ r. ⌜ r ≡ marksOf lo hi x under over ⌝ }
 {
@@ -91,6 +93,7 @@ fn end_code(w: Window, x: i32, y: i32) -> u8
     marks(w.left, w.right, x, LEFT, RIGHT) | marks(w.bottom, w.top, y, BELOW, ABOVE)
 }
 
+// What the rule does with a piece whose points have the codes a and b, by the table.
 fn decision(a: u8, b: u8) -> u8
     requires { ⌜ a < 16 ⌝ }
     requires { ⌜ b < 16 ⌝ }
@@ -105,7 +108,7 @@ fn meeting(c: i32, a: i32, b: i32) -> Fraction
     requires { ⌜ Within farthest a ⌝ }
     requires { ⌜ Within farthest b ⌝ }
     requires { ⌜ (a ≡ b → ⊥) ⌝ }
-    ensures { λ r. ⌜ Meeting c a b r ⌝ }
+    ensures { λ r. ⌜ WayMeets c a b r ⌝ }
 {
     let n = (c - a) as i64;
     let d = (b - a) as i64;
@@ -119,8 +122,8 @@ fn meeting(c: i32, a: i32, b: i32) -> Fraction
 fn crossing(w: Window, s: Stroke, side: u32) -> Fraction
     requires { ⌜ WindowOnTable w ⌝ }
     requires { ⌜ StrokeOnTable s ⌝ }
-    requires { ⌜ Apart s (sideOf side) ⌝ }
-    ensures { λ r. ⌜ Crossing w s (sideOf side) r ⌝ }
+    requires { ⌜ Apart s (sideAt side) ⌝ }
+    ensures { λ r. ⌜ StrokeMeets w s (sideAt side) r ⌝ }
 {
     match side {
         0 => meeting(w.left, s.x1, s.x2),
@@ -169,6 +172,7 @@ fn refused(r: Refusal) -> CountedAnswer
     }
 }
 
+// A stroke that is missed, with the count all the same.
 fn missed(shortenings: u32) -> CountedAnswer
     ensures { λ q. ⌜ q ≡ record { answer = Strokes·blank none; shortenings = shortenings } ⌝ }
 {
@@ -210,8 +214,8 @@ fn end_at(s: Stroke, t: Fraction) -> End
 // A stroke that is kept from start to end.
 fn kept(s: Stroke, start: Fraction, end: Fraction, shortenings: u32) -> CountedAnswer
     requires { ⌜ StrokeOnTable s ⌝ }
-    requires { ⌜ Ends start end ⌝ }
-    ensures { λ q. ⌜ Kept s start end shortenings q ⌝ }
+    requires { ⌜ PartOfWay start end ⌝ }
+    ensures { λ q. ⌜ KeptFrom s start end shortenings q ⌝ }
 {
     let a = end_at(s, start);
     let b = end_at(s, end);

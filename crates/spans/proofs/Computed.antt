@@ -13,7 +13,10 @@ unfoldable pub cutBy : ℤ → ℤ → Span → Span
 cutBy p q s =
     if ltZ q (pos 0)
     then (if ltZ p (pos 0)
-    then (if ltZ (s .first .num *ℤ (pos 0 -ℤ p)) ((pos 0 -ℤ q) *ℤ s .first .den) then record { first = record { num = pos 0 -ℤ q; den = pos 0 -ℤ p }; last = s .last } else s)
+    then (if ltZ (s .first .num *ℤ (pos 0 -ℤ p)) ((pos 0 -ℤ q) *ℤ s .first .den) then record {
+      first = record { num = pos 0 -ℤ q; den = pos 0 -ℤ p };
+      last = s .last;
+    } else s)
     else record { first = record { num = pos 1; den = pos 1 }; last = record { num = pos 0; den = pos 1 } })
     else (if ltZ q p then (if ltZ (q *ℤ s .last .den) (s .last .num *ℤ p) then record { first = s .first; last = record { num = q; den = p } } else s) else s)
 

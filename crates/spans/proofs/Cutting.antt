@@ -13,7 +13,10 @@ use Rattle.spans.specs.Parts.{Time}
 use Rattle.spans.specs.Spans.{InSpan, ProperSpan, SpanCut}
 
 pub minus-within : {A : ℕ} {z : ℤ} → Within A z → Within A (pos 0 -ℤ z)
-minus-within {A} {z} h = record { low = omega (zarith, sub-is (pos 0) z, h .high, h .low, neg-plus (pos A), neg-minus (pos A)); high = omega (zarith, sub-is (pos 0) z, h .low, neg-plus (pos A), neg-minus (pos A)) }
+minus-within {A} {z} h = record {
+  low = omega (zarith, sub-is (pos 0) z, h .high, h .low, neg-plus (pos A), neg-minus (pos A));
+  high = omega (zarith, sub-is (pos 0) z, h .low, neg-plus (pos A), neg-minus (pos A));
+}
 
 pub one-within : {A : ℕ} → 1 ≤ A → Within A (pos 1)
 one-within {A} h = record { low = omega (zarith, neg-plus (pos A), neg-minus (pos A)); high = omega zarith }
@@ -60,7 +63,8 @@ module _ (p q : ℤ) (s : Span) (g : ProperSpan s) where
   D = var 7
 
   -- the start is beyond the side, and it comes in later than the span does
-  pub comes-later : q <ℤ pos 0 → p <ℤ pos 0 → (s .first .num *ℤ (pos 0 -ℤ p)) <ℤ ((pos 0 -ℤ q) *ℤ s .first .den) → SpanCut p q s (record { first = record { num = pos 0 -ℤ q; den = pos 0 -ℤ p }; last = s .last })
+  pub comes-later : q <ℤ pos 0 → p <ℤ pos 0 → (s .first .num *ℤ (pos 0 -ℤ p)) <ℤ ((pos 0 -ℤ q) *ℤ s .first .den)
+      → SpanCut p q s (record { first = record { num = pos 0 -ℤ q; den = pos 0 -ℤ p }; last = s .last })
   comes-later hq hp l = record {
     proper = record {
       low = omega (zarith, sub-is (pos 0) q);

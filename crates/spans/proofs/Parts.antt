@@ -54,7 +54,10 @@ module _ {K : ℤ → ℤ → Type 0} where
 
 -- ---- all kept
 pub lowest-zeroth : {n d : ℤ} → n ≡ pos 0 → LowestOf n d zeroth
-lowest-zeroth {n} {d} e = record { lowest = lowest-over-one (pos 0); same = eq-by (n ∷ d ∷ []) (con (pos 0) ⊗ x1) (x0 ⊗ con (pos 1)) (eqn (con (negsuc 0)) x0 (con (pos 0)) e) tt }
+lowest-zeroth {n} {d} e = record {
+  lowest = lowest-over-one (pos 0);
+  same = eq-by (n ∷ d ∷ []) (con (pos 0) ⊗ x1) (x0 ⊗ con (pos 1)) (eqn (con (negsuc 0)) x0 (con (pos 0)) e) tt;
+}
 
 pub lowest-unit : {n d : ℤ} → n ≡ d → LowestOf n d unit
 lowest-unit {n} {d} e = record { lowest = lowest-over-one (pos 1); same = eq-by (n ∷ d ∷ []) (con (pos 1) ⊗ x1) (x0 ⊗ con (pos 1)) (eqn (con (negsuc 0)) x0 x1 e) tt }
@@ -88,7 +91,8 @@ module _ {A : ℕ} {K : ℤ → ℤ → Type 0} {s : Span} (g : SpanOf A K s) wh
   none-left pos-den l n d k =
       let i = g .stays n d k in
       clash (ρ n d)
-      (le (x0 ⊗ var 5) (var 4 ⊗ x1) (i .from) ⊠ po x3 (g .proper .den1) ⊞ le (var 4 ⊗ x3) (x2 ⊗ var 5) (i .upto) ⊠ po x1 (g .proper .den0) ⊞ lt (x2 ⊗ x1) (x0 ⊗ x3) l ⊠ po (var 5) (pos-den n d k)) tt
+      (le (x0 ⊗ var 5) (var 4 ⊗ x1) (i .from) ⊠ po x3 (g .proper .den1) ⊞ le (var 4 ⊗ x3) (x2 ⊗ var 5) (i .upto) ⊠ po x1 (g .proper .den0) ⊞ lt (x2 ⊗ x1) (x0 ⊗ x3) l
+      ⊠ po (var 5) (pos-den n d k)) tt
 
   module _ (l : (s .first .num *ℤ s .last .den) ≤ℤ (s .last .num *ℤ s .first .den)) where
     pub in-first : InSpan s (s .first .num) (s .first .den)
@@ -104,7 +108,8 @@ module _ {A : ℕ} {K : ℤ → ℤ → Type 0} {s : Span} (g : SpanOf A K s) wh
           lowest = q .lowest;
           keeps = g .keeps (e .num) (e .den) p (record {
             from = ge r (x0 ⊗ var 5) (var 4 ⊗ x1) (eq (con (pos 1)) (var 4 ⊗ x1) (x0 ⊗ var 5) (q .same)) tt;
-            upto = ge-by r (po x1 (g .proper .den0)) (var 4 ⊗ x3) (x2 ⊗ var 5) (le (x0 ⊗ x3) (x2 ⊗ x1) l ⊠ po (var 5) p ⊞ eq (neg x3) (var 4 ⊗ x1) (x0 ⊗ var 5) (q .same)) tt;
+            upto = ge-by r (po x1 (g .proper .den0)) (var 4 ⊗ x3) (x2 ⊗ var 5)
+                (le (x0 ⊗ x3) (x2 ⊗ x1) l ⊠ po (var 5) p ⊞ eq (neg x3) (var 4 ⊗ x1) (x0 ⊗ var 5) (q .same)) tt;
           });
           least = λ n d k. ge-by (s .first .num ∷ s .first .den ∷ n ∷ d ∷ e .num ∷ e .den ∷ []) (po x1 (g .proper .den0)) (var 4 ⊗ x3) (x2 ⊗ var 5)
               (le (x0 ⊗ x3) (x2 ⊗ x1) (g .stays n d k .from) ⊠ po (var 5) p ⊞ eq (neg x3) (var 4 ⊗ x1) (x0 ⊗ var 5) (q .same)) tt;

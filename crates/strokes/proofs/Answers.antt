@@ -19,10 +19,10 @@ use Rattle.spans.specs.Spans.{SpanOf}
 use Rattle.spans.proofs.Cutting.{in-time}
 use Rattle.spans.proofs.Parts.{all, all-proper, all-sized, in-all, part-missed, none-left, span-part, lowest-zeroth, lowest-unit}
 use Rattle.strokes.specs.Strokes.{Keeps, PointAt, Clipped, blank}
-use Rattle.strokes.specs.Workers.{Inside, keptAnswer, wholeAnswer, missedCut, CutIs}
+use Rattle.strokes.specs.Workers.{EndsInside, keptAnswer, wholeAnswer, missedCut, CutIs}
 use Rattle.strokes.specs.declared.Cut.{Cut}
 use Rattle.strokes.specs.declared.End.{End}
-use Rattle.strokes.proofs.Ways.{all-between}
+use Rattle.strokes.proofs.Coordinates.{all-between}
 use Rattle.strokes.proofs.Points.{point-start, point-finish, point-lowest}
 
 module _ {w : Window} {s : Stroke} where
@@ -37,10 +37,14 @@ module _ {w : Window} {s : Stroke} where
   }
 
   -- ---- plainly in the window, and so on the table
-  pub inside-always : Inside w s → (n d : ℤ) → Time n d → Keeps w s n d
-  inside-always k n d t = record { time = t; x = all-between (k .x .a-low) (k .x .b-low) (k .x .a-high) (k .x .b-high) t; y = all-between (k .y .a-low) (k .y .b-low) (k .y .a-high) (k .y .b-high) t }
+  pub inside-always : EndsInside w s → (n d : ℤ) → Time n d → Keeps w s n d
+  inside-always k n d t = record {
+    time = t;
+    x = all-between (k .x .a-low) (k .x .b-low) (k .x .a-high) (k .x .b-high) t;
+    y = all-between (k .y .a-low) (k .y .b-low) (k .y .a-high) (k .y .b-high) t;
+  }
 
-  pub inside-on-table : WindowOnTable w → Inside w s → StrokeOnTable s
+  pub inside-on-table : WindowOnTable w → EndsInside w s → StrokeOnTable s
   inside-on-table h k = record {
     x1 = inner (h .left) (h .right) (k .x .a-low) (k .x .a-high);
     y1 = inner (h .bottom) (h .top) (k .y .a-low) (k .y .a-high);
@@ -80,12 +84,14 @@ module _ {w : Window} {s : Stroke} where
   -- ---- all of it
   pub whole-answer : ((n d : ℤ) → Time n d → Keeps w s n d) → Clipped w s (wholeAnswer s)
   whole-answer always =
-      span-kept (always-kept always) (omega zarith) (record { t = zeroth; x = s .x1; y = s .y1 }) (record { t = unit; x = s .x2; y = s .y2 }) (point-start {f = zeroth} (omega zarith) refl) (point-finish {f = unit} (omega zarith) refl)
+      span-kept (always-kept always) (omega zarith) (record { t = zeroth; x = s .x1; y = s .y1 }) (record { t = unit; x = s .x2; y = s .y2 })
+      (point-start {f = zeroth} (omega zarith) refl) (point-finish {f = unit} (omega zarith) refl)
       (lowest-zeroth refl) (lowest-unit refl)
 
   -- ---- cuts
   pub cut-missed : ((n d : ℤ) → Keeps w s n d → ⊥) → CutIs w s missedCut
   cut-missed never = record { missed = λ e. never; kept = λ e. absurd (ff-tt e) }
 
-  pub cut-kept : {c : Cut} {t u : Fraction} → c .kept ≡ true → Clipped w s (keptAnswer (record { t = t; x = c .ax; y = c .ay }) (record { t = u; x = c .bx; y = c .by }) t u) → CutIs w s c
+  pub cut-kept : {c : Cut} {t u : Fraction} → c .kept ≡ true
+      → Clipped w s (keptAnswer (record { t = t; x = c .ax; y = c .ay }) (record { t = u; x = c .bx; y = c .by }) t u) → CutIs w s c
   cut-kept {c} {t} {u} k a = record { missed = λ e. absurd (tt-ff (sym k ∙ e)); kept = λ e. record { first = t; last = u; answer = a } }

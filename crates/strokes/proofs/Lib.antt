@@ -1,5 +1,5 @@
 pub mod Reading
-pub mod Ways
+pub mod Coordinates
 pub mod Places
 pub mod Points
 pub mod Answers

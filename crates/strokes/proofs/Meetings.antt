@@ -1,4 +1,5 @@
--- The ways of both coordinates: the later start and the earlier end are the ends of the span of the kept fractions, and nothing is kept where one way ends before the other starts.
+-- The ways of both coordinates: the later start and the earlier end are the ends of the span of the kept fractions,
+-- and nothing is kept where one way ends before the other starts.
 use mathlib.Core.Path.{_≡_, refl}
 use mathlib.Core.Logic.{⊎-elim}
 use mathlib.Core.List.{[], _∷_}
@@ -23,30 +24,32 @@ use Rattle.spans.specs.Spans.{ProperSpan, SpanOf}
 use Rattle.spans.proofs.Cutting.{in-time}
 use Rattle.spans.proofs.Parts.{time-within}
 use Rattle.strokes.specs.declared.End.{End}
-use Rattle.strokes.specs.declared.Way.{Way}
+use Rattle.strokes.specs.declared.ways.Way.{Way}
 use Rattle.strokes.specs.Strokes.{Keeps}
-use Rattle.strokes.specs.Workers.{Short, WayAt, On, WayOf, Overlap, OnWay, StartOf, FinishOf}
+use Rattle.strokes.specs.Workers.{ProperWay, WayAt, FromStartToEnd, WayOf, Overlap, OnWay, StartOf, FinishOf}
 use Rattle.strokes.proofs.Points.{point-start, point-finish}
 
 positive : {k : ℕ} → 0 < k → pos 0 <ℤ pos k
 positive h = omega zarith
 
 -- ---- the numbers of short ways, and their products, which fit 32 bits
-pub end-small : {r : Way} → Short r → r .end ≤ 32766
+pub end-small : {r : Way} → ProperWay r → r .end ≤ 32766
 end-small k = omega (arith, k .high, k .small)
 
-pub start-small : {r : Way} → Short r → r .start ≤ 32766
+pub start-small : {r : Way} → ProperWay r → r .start ≤ 32766
 start-small k = omega (arith, k .order, end-small k)
 
 pub product-fits : {m n : ℕ} → m ≤ 32766 → n ≤ 32766 → Fits w32 (m * n)
 product-fits h k = record { fits = omega (arith, mul-le-mul h k) }
 
 -- ---- one way ends before the other starts
-pub never-both : {x y : Way} → Short x → Short y → y .end * x .long < x .start * y .long → (n d : ℤ) → pos 0 <ℤ d → On x n d → On y n d → ⊥
+pub never-both : {x y : Way} → ProperWay x → ProperWay y → y .end * x .long < x .start * y .long → (n d : ℤ) → pos 0 <ℤ d → FromStartToEnd x n d
+    → FromStartToEnd y n d → ⊥
 never-both {x} {y} f g l n d h i j =
     let m : pos (y .end * x .long) <ℤ pos (x .start * y .long) = omega zarith in
     clash ((pos (x .start)) ∷ (pos (x .long)) ∷ (pos (y .end)) ∷ (pos (y .long)) ∷ n ∷ d ∷ [])
-    (po (var 5) h ⊠ lt (x2 ⊗ x1) (x0 ⊗ x3) m ⊞ po x3 (positive (g .long)) ⊠ le (x0 ⊗ var 5) (var 4 ⊗ x1) (i .from) ⊞ po x1 (positive (f .long)) ⊠ le (var 4 ⊗ x3) (x2 ⊗ var 5) (j .upto)) tt
+    (po (var 5) h ⊠ lt (x2 ⊗ x1) (x0 ⊗ x3) m ⊞ po x3 (positive (g .long)) ⊠ le (x0 ⊗ var 5) (var 4 ⊗ x1) (i .from) ⊞ po x1 (positive (f .long))
+    ⊠ le (var 4 ⊗ x3) (x2 ⊗ var 5) (j .upto)) tt
 
 -- ---- a place on a way, as a fraction
 on-way : {n d : ℕ} → 0 < d → d ≤ 32766 → n ≤ d → OnWay (record { num = pos n; den = pos d })
@@ -60,14 +63,14 @@ module _ {s : Stroke} {x y : Way} (fx : WayAt (s .x1) (s .x2) x) (fy : WayAt (s 
     x-in = omega (zarith, p);
     y-in = omega (zarith, q);
     least = λ n d h i j.
-        ge-by ((pos (x .long)) ∷ n ∷ (pos (x .start)) ∷ d ∷ []) (po x0 (positive (fx .short .long))) (con (pos 0) ⊗ x3) (x1 ⊗ con (pos 1))
+        ge-by ((pos (x .long)) ∷ n ∷ (pos (x .start)) ∷ d ∷ []) (po x0 (positive (fx .proper .long))) (con (pos 0) ⊗ x3) (x1 ⊗ con (pos 1))
         (le (x2 ⊗ x3) (x1 ⊗ x0) i ⊞ eq x3 x2 (con (pos 0)) (λ k. pos (p k))) tt;
     point = point-start {f = zeroth} (omega zarith) refl;
   }
 
   pub start-x : {v : ℤ} → y .start * x .long ≤ x .start * y .long → Rounded (s .y1) (along (s .y1) (s .y2) (pos (x .start)) (pos (x .long))) (pos (x .long)) v
       → StartOf s x y (record { t = record { num = pos (x .start); den = pos (x .long) }; x = x .at; y = v })
-  start-x h r = let k = fx .short in record {
+  start-x h r = let k = fx .proper in record {
     way = on-way (k .long) (k .small) (let o = k .order in let e = k .high in omega arith);
     x-in = omega zarith;
     y-in = omega zarith;
@@ -77,7 +80,7 @@ module _ {s : Stroke} {x y : Way} (fx : WayAt (s .x1) (s .x2) x) (fy : WayAt (s 
 
   pub start-y : {v : ℤ} → x .start * y .long ≤ y .start * x .long → Rounded (s .x1) (along (s .x1) (s .x2) (pos (y .start)) (pos (y .long))) (pos (y .long)) v
       → StartOf s x y (record { t = record { num = pos (y .start); den = pos (y .long) }; x = v; y = y .at })
-  start-y h r = let k = fy .short in record {
+  start-y h r = let k = fy .proper in record {
     way = on-way (k .long) (k .small) (let o = k .order in let e = k .high in omega arith);
     x-in = omega zarith;
     y-in = omega zarith;
@@ -91,14 +94,14 @@ module _ {s : Stroke} {x y : Way} (fx : WayAt (s .x1) (s .x2) x) (fy : WayAt (s 
     x-out = omega (zarith, p);
     y-out = omega (zarith, q);
     greatest = λ n d h i j.
-        ge-by ((pos (x .long)) ∷ n ∷ (pos (x .end)) ∷ d ∷ []) (po x0 (positive (fx .short .long))) (x1 ⊗ con (pos 1)) (con (pos 1) ⊗ x3)
+        ge-by ((pos (x .long)) ∷ n ∷ (pos (x .end)) ∷ d ∷ []) (po x0 (positive (fx .proper .long))) (x1 ⊗ con (pos 1)) (con (pos 1) ⊗ x3)
         (le (x1 ⊗ x0) (x2 ⊗ x3) i ⊞ eq (neg x3) x2 x0 (λ k. pos (p k))) tt;
     point = point-finish {f = unit} (omega zarith) refl;
   }
 
   pub finish-x : {v : ℤ} → x .end * y .long ≤ y .end * x .long → Rounded (s .y1) (along (s .y1) (s .y2) (pos (x .end)) (pos (x .long))) (pos (x .long)) v
       → FinishOf s x y (record { t = record { num = pos (x .end); den = pos (x .long) }; x = x .to; y = v })
-  finish-x h r = let k = fx .short in record {
+  finish-x h r = let k = fx .proper in record {
     way = on-way (k .long) (k .small) (k .high);
     x-out = omega zarith;
     y-out = omega zarith;
@@ -108,7 +111,7 @@ module _ {s : Stroke} {x y : Way} (fx : WayAt (s .x1) (s .x2) x) (fy : WayAt (s 
 
   pub finish-y : {v : ℤ} → y .end * x .long ≤ x .end * y .long → Rounded (s .x1) (along (s .x1) (s .x2) (pos (y .end)) (pos (y .long))) (pos (y .long)) v
       → FinishOf s x y (record { t = record { num = pos (y .end); den = pos (y .long) }; x = v; y = y .to })
-  finish-y h r = let k = fy .short in record {
+  finish-y h r = let k = fy .proper in record {
     way = on-way (k .long) (k .small) (k .high);
     x-out = omega zarith;
     y-out = omega zarith;
@@ -117,22 +120,24 @@ module _ {s : Stroke} {x y : Way} (fx : WayAt (s .x1) (s .x2) x) (fy : WayAt (s 
   }
 
 -- ---- fractions in a row: m/l ≤ t ≤ n/d, and the other way round
-after : (m n : ℤ) {l d : ℤ} (t : Fraction) → pos 0 <ℤ t .den → pos 0 <ℤ l → pos 0 <ℤ d → (m *ℤ t .den) ≤ℤ (t .num *ℤ l) → (t .num *ℤ d) ≤ℤ (n *ℤ t .den) → (m *ℤ d) ≤ℤ (n *ℤ l)
+after : (m n : ℤ) {l d : ℤ} (t : Fraction) → pos 0 <ℤ t .den → pos 0 <ℤ l → pos 0 <ℤ d → (m *ℤ t .den) ≤ℤ (t .num *ℤ l) → (t .num *ℤ d) ≤ℤ (n *ℤ t .den)
+    → (m *ℤ d) ≤ℤ (n *ℤ l)
 after m n {l} {d} t h hl hd i j =
     ge-by (m ∷ l ∷ n ∷ d ∷ (t .num) ∷ (t .den) ∷ []) (po (var 5) h) (x0 ⊗ x3) (x2 ⊗ x1)
     (po x3 hd ⊠ le (x0 ⊗ var 5) (var 4 ⊗ x1) i ⊞ po x1 hl ⊠ le (var 4 ⊗ x3) (x2 ⊗ var 5) j) tt
 
-before : (m n : ℤ) {l d : ℤ} (t : Fraction) → pos 0 <ℤ t .den → pos 0 <ℤ l → pos 0 <ℤ d → (t .num *ℤ l) ≤ℤ (m *ℤ t .den) → (n *ℤ t .den) ≤ℤ (t .num *ℤ d) → (n *ℤ l) ≤ℤ (m *ℤ d)
+before : (m n : ℤ) {l d : ℤ} (t : Fraction) → pos 0 <ℤ t .den → pos 0 <ℤ l → pos 0 <ℤ d → (t .num *ℤ l) ≤ℤ (m *ℤ t .den) → (n *ℤ t .den) ≤ℤ (t .num *ℤ d)
+    → (n *ℤ l) ≤ℤ (m *ℤ d)
 before m n {l} {d} t h hl hd i j =
     ge-by (m ∷ l ∷ n ∷ d ∷ (t .num) ∷ (t .den) ∷ []) (po (var 5) h) (x2 ⊗ x1) (x0 ⊗ x3)
     (po x3 hd ⊠ le (var 4 ⊗ x1) (x0 ⊗ var 5) i ⊞ po x1 hl ⊠ le (x2 ⊗ var 5) (var 4 ⊗ x3) j) tt
 
 -- ---- what is kept is from the later start to the earlier end
 module _ {w : Window} {s : Stroke} {x y : Way} (f : WayOf (w .left) (w .right) (s .x1) (s .x2) x) (g : WayOf (w .bottom) (w .top) (s .y1) (s .y2) y) where
-  kept-on : {n d : ℤ} → Keeps w s n d → On x n d × On y n d
+  kept-on : {n d : ℤ} → Keeps w s n d → FromStartToEnd x n d × FromStartToEnd y n d
   kept-on {n} {d} k = (f .stays n d (k .time) (k .x), g .stays n d (k .time) (k .y))
 
-  pub none-kept : ((n d : ℤ) → pos 0 <ℤ d → On x n d → On y n d → ⊥) → (n d : ℤ) → Keeps w s n d → ⊥
+  pub none-kept : ((n d : ℤ) → pos 0 <ℤ d → FromStartToEnd x n d → FromStartToEnd y n d → ⊥) → (n d : ℤ) → Keeps w s n d → ⊥
   none-kept never n d k = never n d (k .time .den) (kept-on k .0) (kept-on k .1)
 
   module _ {a b : End} (p : StartOf s x y a) (q : FinishOf s x y b) where
@@ -141,35 +146,42 @@ module _ {w : Window} {s : Stroke} {x y : Way} (f : WayOf (w .left) (w .right) (
 
     pub ends-span : SpanOf 32766 (Keeps w s) (record { first = a .t; last = b .t })
     ends-span =
-        let px = positive (f .way .short .long) in
-        let py = positive (g .way .short .long) in
+        let px = positive (f .way .proper .long) in
+        let py = positive (g .way .proper .long) in
         let u = p .way .time .den in
         let v = q .way .time .den in record {
           proper = proper;
           sized = record { n0 = time-within (p .way .time) (p .way .small); d0 = p .way .small; n1 = time-within (q .way .time) (q .way .small); d1 = q .way .small };
-          stays = λ n d k. let o = kept-on k in record { from = p .least n d (k .time .den) (o .0 .from) (o .1 .from); upto = q .greatest n d (k .time .den) (o .0 .upto) (o .1 .upto) };
+          stays = λ n d k. let o = kept-on k in
+              record { from = p .least n d (k .time .den) (o .0 .from) (o .1 .from); upto = q .greatest n d (k .time .den) (o .0 .upto) (o .1 .upto) };
           keeps = λ n d h i. let t = in-time proper h i in record {
             time = t;
-            x = f .keeps n d t (record { from = after (pos (x .start)) n (a .t) u px h (p .x-in) (i .from); upto = before (pos (x .end)) n (b .t) v px h (q .x-out) (i .upto) });
-            y = g .keeps n d t (record { from = after (pos (y .start)) n (a .t) u py h (p .y-in) (i .from); upto = before (pos (y .end)) n (b .t) v py h (q .y-out) (i .upto) });
+            x = f .keeps n d t (record {
+              from = after (pos (x .start)) n (a .t) u px h (p .x-in) (i .from);
+              upto = before (pos (x .end)) n (b .t) v px h (q .x-out) (i .upto);
+            });
+            y = g .keeps n d t (record {
+              from = after (pos (y .start)) n (a .t) u py h (p .y-in) (i .from);
+              upto = before (pos (y .end)) n (b .t) v py h (q .y-out) (i .upto);
+            });
           };
         }
 
     pub ends-meet : Overlap x y → (a .t .num *ℤ b .t .den) ≤ℤ (b .t .num *ℤ a .t .den)
     ends-meet o =
-        let hx = mul-le-mul (f .way .short .order) (le-refl (x .long)) in
-        let hy = mul-le-mul (g .way .short .order) (le-refl (y .long)) in
+        let hx = mul-le-mul (f .way .proper .order) (le-refl (x .long)) in
+        let hy = mul-le-mul (g .way .proper .order) (le-refl (y .long)) in
         let i = o .x-first in
         let j = o .y-first in
         q .greatest (a .t .num) (a .t .den) (p .way .time .den)
-        (p .least (pos (x .end)) (pos (x .long)) (positive (f .way .short .long)) (omega zarith) (omega zarith))
-        (p .least (pos (y .end)) (pos (y .long)) (positive (g .way .short .long)) (omega zarith) (omega zarith))
+        (p .least (pos (x .end)) (pos (x .long)) (positive (f .way .proper .long)) (omega zarith) (omega zarith))
+        (p .least (pos (y .end)) (pos (y .long)) (positive (g .way .proper .long)) (omega zarith) (omega zarith))
 
   -- the later start is kept
   pub some-kept : Overlap x y → ((n d : ℤ) → Keeps w s n d → ⊥) → ⊥
   some-kept o never =
-      let k = f .way .short in
-      let l = g .way .short in
+      let k = f .way .proper in
+      let l = g .way .proper in
       let hx = mul-le-mul (k .order) (le-refl (x .long)) in
       let hy = mul-le-mul (l .order) (le-refl (y .long)) in
       let i = o .x-first in
@@ -181,8 +193,18 @@ module _ {w : Window} {s : Stroke} {x y : Way} (f : WayOf (w .left) (w .right) (
       ⊎-elim
       (λ h.
       let t = on-way (k .long) (k .small) (omega arith) .time in
-      never (pos (x .start)) (pos (x .long)) (record { time = t; x = f .keeps _ _ t (record { from = omega zarith; upto = omega zarith }); y = g .keeps _ _ t (record { from = omega zarith; upto = omega zarith }) }))
+      never (pos (x .start)) (pos (x .long))
+      (record {
+        time = t;
+        x = f .keeps _ _ t (record { from = omega zarith; upto = omega zarith });
+        y = g .keeps _ _ t (record { from = omega zarith; upto = omega zarith });
+      }))
       (λ h.
       let t = on-way (l .long) (l .small) (omega arith) .time in
-      never (pos (y .start)) (pos (y .long)) (record { time = t; x = f .keeps _ _ t (record { from = omega zarith; upto = omega zarith }); y = g .keeps _ _ t (record { from = omega zarith; upto = omega zarith }) }))
+      never (pos (y .start)) (pos (y .long))
+      (record {
+        time = t;
+        x = f .keeps _ _ t (record { from = omega zarith; upto = omega zarith });
+        y = g .keeps _ _ t (record { from = omega zarith; upto = omega zarith });
+      }))
       (≤-total (pos (y .start * x .long)) (pos (x .start * y .long)))

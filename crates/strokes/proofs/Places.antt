@@ -1,4 +1,5 @@
--- The places on the way of one coordinate: what is measured up or down from a is exact, and is on the way between `at` and `to`; so is what is between lo and hi, in each of the cases of `passage`.
+-- The places on the way of one coordinate: what is measured up or down from a is exact, and is on the way between `at` and `to`;
+-- so is what is between lo and hi, in each of the cases of `passage`.
 use mathlib.Core.Path.{_≡_}
 use mathlib.Core.List.{[], _∷_}
 use native.Mathlib.Omega.{arith}
@@ -10,10 +11,10 @@ use Rattle.whole.proofs.Gaps.{gap-small}
 use Rattle.whole.proofs.Order.{zarith, sub-is, <→≤}
 use Rattle.whole.proofs.Polynomials.{ring}
 use Rattle.fraction.specs.Rounding.{along}
-use Rattle.strokes.specs.declared.Way.{Way}
-use Rattle.strokes.specs.Strokes.{Across}
-use Rattle.strokes.specs.Workers.{Between, Ranged, Risen, Fallen, WayAt, WayOf, On}
-use Rattle.strokes.proofs.Ways.{all-between}
+use Rattle.strokes.specs.declared.ways.Way.{Way}
+use Rattle.strokes.specs.Strokes.{KeepsCoordinate}
+use Rattle.strokes.specs.Workers.{EndsBetween, Ranged, Risen, Fallen, WayAt, WayOf, FromStartToEnd}
+use Rattle.strokes.proofs.Coordinates.{all-between}
 
 -- the way's two ends, its length, a place on it with its coordinate, and a fraction
 abbrev A : Expr
@@ -49,16 +50,18 @@ refl-≤ z = omega zarith
 
 -- ---- a place at s of the way, with the coordinate p
 up-exact : (a b p q l s : ℤ) → l ≡ b -ℤ a → s ≡ p -ℤ a → q ≡ p → along a b s l ≡ q *ℤ l
-up-exact a b p q l s el es eq′ = eq-by (a ∷ b ∷ l ∷ s ∷ p ∷ q ∷ []) (A ⊗ L ⊕ S ⊗ (B ⊖ A)) (var 5 ⊗ L) (eqn L S (P ⊖ A) es ⊹ eqn (neg L) (var 5) P eq′ ⊹ eqn (neg S) L (B ⊖ A) el) tt
+up-exact a b p q l s el es eq′ =
+    eq-by (a ∷ b ∷ l ∷ s ∷ p ∷ q ∷ []) (A ⊗ L ⊕ S ⊗ (B ⊖ A)) (var 5 ⊗ L) (eqn L S (P ⊖ A) es ⊹ eqn (neg L) (var 5) P eq′ ⊹ eqn (neg S) L (B ⊖ A) el) tt
 
 down-exact : (a b p q l s : ℤ) → l ≡ a -ℤ b → s ≡ a -ℤ p → q ≡ p → along a b s l ≡ q *ℤ l
-down-exact a b p q l s el es eq′ = eq-by (a ∷ b ∷ l ∷ s ∷ p ∷ q ∷ []) (A ⊗ L ⊕ S ⊗ (B ⊖ A)) (var 5 ⊗ L) (eqn (neg L) S (A ⊖ P) es ⊹ eqn (neg L) (var 5) P eq′ ⊹ eqn S L (A ⊖ B) el) tt
+down-exact a b p q l s el es eq′ =
+    eq-by (a ∷ b ∷ l ∷ s ∷ p ∷ q ∷ []) (A ⊗ L ⊕ S ⊗ (B ⊖ A)) (var 5 ⊗ L) (eqn (neg L) S (A ⊖ P) es ⊹ eqn (neg L) (var 5) P eq′ ⊹ eqn S L (A ⊖ B) el) tt
 
 -- ---- up
 module _ {a at to b : ℤ} {r : Way} (g : Ranged a at to b) (k : Risen a at to b r) where
   risen-at : WayAt a b r
   risen-at = record {
-    short = record {
+    proper = record {
       long = let h = g .some in omega (zarith, k .long, sub-is b a);
       small = gap-small (g .a-on) (g .d-on) (k .long);
       order = let h = g .middle in omega (zarith, k .start, k .end, sub-is at a, sub-is to a);
@@ -68,17 +71,19 @@ module _ {a at to b : ℤ} {r : Way} (g : Ranged a at to b) (k : Risen a at to b
     to = up-exact a b to (r .to) (pos (r .long)) (pos (r .end)) (k .long) (k .end) (k .to);
   }
 
-  risen-on : (n d : ℤ) → Across at to a b n d → On r n d
+  risen-on : (n d : ℤ) → KeepsCoordinate at to a b n d → FromStartToEnd r n d
   risen-on n d h =
       let l = pos (r .long) in record {
-        from = ge (a ∷ b ∷ l ∷ (pos (r .start)) ∷ at ∷ n ∷ d ∷ []) (S ⊗ D) (N ⊗ L) (le (P ⊗ D) X (h .above) ⊞ eq N L (B ⊖ A) (k .long) ⊞ eq (neg D) S (P ⊖ A) (k .start)) tt;
+        from = ge (a ∷ b ∷ l ∷ (pos (r .start)) ∷ at ∷ n ∷ d ∷ []) (S ⊗ D) (N ⊗ L)
+            (le (P ⊗ D) X (h .above) ⊞ eq N L (B ⊖ A) (k .long) ⊞ eq (neg D) S (P ⊖ A) (k .start)) tt;
         upto = ge (a ∷ b ∷ l ∷ (pos (r .end)) ∷ to ∷ n ∷ d ∷ []) (N ⊗ L) (S ⊗ D) (le X (P ⊗ D) (h .below) ⊞ eq (neg N) L (B ⊖ A) (k .long) ⊞ eq D S (P ⊖ A) (k .end)) tt;
       }
 
-  on-risen : (n d : ℤ) → On r n d → Across at to a b n d
+  on-risen : (n d : ℤ) → FromStartToEnd r n d → KeepsCoordinate at to a b n d
   on-risen n d h =
       let l = pos (r .long) in record {
-        above = ge (a ∷ b ∷ l ∷ (pos (r .start)) ∷ at ∷ n ∷ d ∷ []) (P ⊗ D) X (le (S ⊗ D) (N ⊗ L) (h .from) ⊞ eq (neg N) L (B ⊖ A) (k .long) ⊞ eq D S (P ⊖ A) (k .start)) tt;
+        above = ge (a ∷ b ∷ l ∷ (pos (r .start)) ∷ at ∷ n ∷ d ∷ []) (P ⊗ D) X
+            (le (S ⊗ D) (N ⊗ L) (h .from) ⊞ eq (neg N) L (B ⊖ A) (k .long) ⊞ eq D S (P ⊖ A) (k .start)) tt;
         below = ge (a ∷ b ∷ l ∷ (pos (r .end)) ∷ to ∷ n ∷ d ∷ []) X (P ⊗ D) (le (N ⊗ L) (S ⊗ D) (h .upto) ⊞ eq N L (B ⊖ A) (k .long) ⊞ eq (neg D) S (P ⊖ A) (k .end)) tt;
       }
 
@@ -86,7 +91,7 @@ module _ {a at to b : ℤ} {r : Way} (g : Ranged a at to b) (k : Risen a at to b
 module _ {a at to b : ℤ} {r : Way} (g : Ranged b to at a) (k : Fallen a at to b r) where
   fallen-at : WayAt a b r
   fallen-at = record {
-    short = record {
+    proper = record {
       long = let h = g .some in omega (zarith, k .long, sub-is a b);
       small = gap-small (g .a-on) (g .d-on) (k .long);
       order = let h = g .middle in omega (zarith, k .start, k .end, sub-is a at, sub-is a to);
@@ -96,18 +101,20 @@ module _ {a at to b : ℤ} {r : Way} (g : Ranged b to at a) (k : Fallen a at to 
     to = down-exact a b to (r .to) (pos (r .long)) (pos (r .end)) (k .long) (k .end) (k .to);
   }
 
-  fallen-on : (n d : ℤ) → Across to at a b n d → On r n d
+  fallen-on : (n d : ℤ) → KeepsCoordinate to at a b n d → FromStartToEnd r n d
   fallen-on n d h =
       let l = pos (r .long) in record {
-        from = ge (a ∷ b ∷ l ∷ (pos (r .start)) ∷ at ∷ n ∷ d ∷ []) (S ⊗ D) (N ⊗ L) (le X (P ⊗ D) (h .below) ⊞ eq N L (A ⊖ B) (k .long) ⊞ eq (neg D) S (A ⊖ P) (k .start)) tt;
+        from = ge (a ∷ b ∷ l ∷ (pos (r .start)) ∷ at ∷ n ∷ d ∷ []) (S ⊗ D) (N ⊗ L)
+            (le X (P ⊗ D) (h .below) ⊞ eq N L (A ⊖ B) (k .long) ⊞ eq (neg D) S (A ⊖ P) (k .start)) tt;
         upto = ge (a ∷ b ∷ l ∷ (pos (r .end)) ∷ to ∷ n ∷ d ∷ []) (N ⊗ L) (S ⊗ D) (le (P ⊗ D) X (h .above) ⊞ eq (neg N) L (A ⊖ B) (k .long) ⊞ eq D S (A ⊖ P) (k .end)) tt;
       }
 
-  on-fallen : (n d : ℤ) → On r n d → Across to at a b n d
+  on-fallen : (n d : ℤ) → FromStartToEnd r n d → KeepsCoordinate to at a b n d
   on-fallen n d h =
       let l = pos (r .long) in record {
         above = ge (a ∷ b ∷ l ∷ (pos (r .end)) ∷ to ∷ n ∷ d ∷ []) (P ⊗ D) X (le (N ⊗ L) (S ⊗ D) (h .upto) ⊞ eq N L (A ⊖ B) (k .long) ⊞ eq (neg D) S (A ⊖ P) (k .end)) tt;
-        below = ge (a ∷ b ∷ l ∷ (pos (r .start)) ∷ at ∷ n ∷ d ∷ []) X (P ⊗ D) (le (S ⊗ D) (N ⊗ L) (h .from) ⊞ eq (neg N) L (A ⊖ B) (k .long) ⊞ eq D S (A ⊖ P) (k .start)) tt;
+        below = ge (a ∷ b ∷ l ∷ (pos (r .start)) ∷ at ∷ n ∷ d ∷ []) X (P ⊗ D)
+            (le (S ⊗ D) (N ⊗ L) (h .from) ⊞ eq (neg N) L (A ⊖ B) (k .long) ⊞ eq D S (A ⊖ P) (k .start)) tt;
       }
 
 -- ---- the cases
@@ -118,14 +125,16 @@ module _ {lo hi a b : ℤ} {r : Way} where
   pub up-into : Ranged a lo b b → b ≤ℤ hi → Risen a lo b b r → WayOf lo hi a b r
   up-into g l k = record {
     way = risen-at g k;
-    stays = λ n d t h. risen-on g k n d (record { above = h .above; below = all-between {lo = a} {hi = b} (refl-≤ a) (<→≤ (g .some)) (<→≤ (g .some)) (refl-≤ b) t .below });
+    stays = λ n d t h. risen-on g k n d
+        (record { above = h .above; below = all-between {lo = a} {hi = b} (refl-≤ a) (<→≤ (g .some)) (<→≤ (g .some)) (refl-≤ b) t .below });
     keeps = λ n d t h. record { above = on-risen g k n d h .above; below = all-between {lo = a} (refl-≤ a) (<→≤ (g .some)) (let s = g .some in omega zarith) l t .below };
   }
 
   pub up-out : Ranged a a hi b → lo ≤ℤ a → Risen a a hi b r → WayOf lo hi a b r
   up-out g l k = record {
     way = risen-at g k;
-    stays = λ n d t h. risen-on g k n d (record { above = all-between {lo = a} {hi = b} (refl-≤ a) (<→≤ (g .some)) (<→≤ (g .some)) (refl-≤ b) t .above; below = h .below });
+    stays = λ n d t h. risen-on g k n d
+        (record { above = all-between {lo = a} {hi = b} (refl-≤ a) (<→≤ (g .some)) (<→≤ (g .some)) (refl-≤ b) t .above; below = h .below });
     keeps = λ n d t h. record { above = all-between {hi = b} l (let s = g .some in omega zarith) (<→≤ (g .some)) (refl-≤ b) t .above; below = on-risen g k n d h .below };
   }
 
@@ -135,22 +144,30 @@ module _ {lo hi a b : ℤ} {r : Way} where
   pub down-into : Ranged b b hi a → lo ≤ℤ b → Fallen a hi b b r → WayOf lo hi a b r
   down-into g l k = record {
     way = fallen-at g k;
-    stays = λ n d t h. fallen-on g k n d (record { above = all-between {lo = b} {hi = a} (<→≤ (g .some)) (refl-≤ b) (refl-≤ a) (<→≤ (g .some)) t .above; below = h .below });
-    keeps = λ n d t h. record { above = all-between {hi = a} (let s = g .some in omega zarith) l (refl-≤ a) (<→≤ (g .some)) t .above; below = on-fallen g k n d h .below };
+    stays = λ n d t h. fallen-on g k n d
+        (record { above = all-between {lo = b} {hi = a} (<→≤ (g .some)) (refl-≤ b) (refl-≤ a) (<→≤ (g .some)) t .above; below = h .below });
+    keeps = λ n d t h. record {
+      above = all-between {hi = a} (let s = g .some in omega zarith) l (refl-≤ a) (<→≤ (g .some)) t .above;
+      below = on-fallen g k n d h .below;
+    };
   }
 
   pub down-out : Ranged b lo a a → a ≤ℤ hi → Fallen a a lo b r → WayOf lo hi a b r
   down-out g l k = record {
     way = fallen-at g k;
-    stays = λ n d t h. fallen-on g k n d (record { above = h .above; below = all-between {lo = b} {hi = a} (<→≤ (g .some)) (refl-≤ b) (refl-≤ a) (<→≤ (g .some)) t .below });
-    keeps = λ n d t h. record { above = on-fallen g k n d h .above; below = all-between {lo = b} (<→≤ (g .some)) (refl-≤ b) l (let s = g .some in omega zarith) t .below };
+    stays = λ n d t h. fallen-on g k n d
+        (record { above = h .above; below = all-between {lo = b} {hi = a} (<→≤ (g .some)) (refl-≤ b) (refl-≤ a) (<→≤ (g .some)) t .below });
+    keeps = λ n d t h. record {
+      above = on-fallen g k n d h .above;
+      below = all-between {lo = b} (<→≤ (g .some)) (refl-≤ b) l (let s = g .some in omega zarith) t .below;
+    };
   }
 
 -- all of it
-pub all-on : {lo hi a b : ℤ} → Between lo hi a b → WayOf lo hi a b (record { long = 1; start = 0; end = 1; at = a; to = b })
+pub all-on : {lo hi a b : ℤ} → EndsBetween lo hi a b → WayOf lo hi a b (record { long = 1; start = 0; end = 1; at = a; to = b })
 all-on {lo} {hi} {a} {b} k = record {
   way = record {
-    short = record { long = omega arith; small = omega arith; order = omega arith; high = omega arith };
+    proper = record { long = omega arith; small = omega arith; order = omega arith; high = omega arith };
     at = ring (a ∷ b ∷ []) (A ⊗ one ⊕ con (pos 0) ⊗ (B ⊖ A)) (A ⊗ one) tt;
     to = ring (a ∷ b ∷ []) (A ⊗ one ⊕ one ⊗ (B ⊖ A)) (B ⊗ one) tt;
   };

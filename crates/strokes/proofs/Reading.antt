@@ -11,8 +11,8 @@ use Rattle.whole.proofs.Comparisons.{bits}
 use Rattle.whole.proofs.Ranges.{within-abs, fits-abs}
 use Rattle.fraction.specs.Rounding.{along, Rounded}
 use Rattle.grid.specs.Table.{farthest}
-use Rattle.strokes.specs.declared.Way.{Way}
-use Rattle.strokes.specs.Workers.{Reaches, Ranged, Risen, Fallen, WayOf}
+use Rattle.strokes.specs.declared.ways.Way.{Way}
+use Rattle.strokes.specs.Workers.{MayReach, Ranged, Risen, Fallen, WayOf}
 
 pub table-fits : {z : ℤ} → Within farthest z → SFits w32 z
 table-fits h = fits-abs (omega (arith, within-abs h))
@@ -43,8 +43,9 @@ fallen-plain {r = r} k h = transport (λ i. Fallen (read-is (k .d-on) i) (read-i
 -- and for a way between two sides
 module _ {lo hi a b : ℤ} (wl : Within farthest lo) (wh : Within farthest hi) (wa : Within farthest a) (wb : Within farthest b) where
   -- what `passage` asks
-  pub passage-asks : lo <ℤ hi → Reaches lo hi a b
-      → Within farthest (read lo) × (Within farthest (read hi) × (Within farthest (read a) × (Within farthest (read b) × ((read lo <ℤ read hi) × Reaches (read lo) (read hi) (read a) (read b)))))
+  pub passage-asks : lo <ℤ hi → MayReach lo hi a b
+      → Within farthest (read lo) × (Within farthest (read hi)
+      × (Within farthest (read a) × (Within farthest (read b) × ((read lo <ℤ read hi) × MayReach (read lo) (read hi) (read a) (read b)))))
   passage-asks l k = (
     read-on-table wl,
     (
@@ -53,7 +54,11 @@ module _ {lo hi a b : ℤ} (wl : Within farthest lo) (wh : Within farthest hi) (
         read-on-table wa,
         (
           read-on-table wb,
-          (subst₂ _<ℤ_ (sym (read-is wl)) (sym (read-is wh)) l, transport (λ i. Reaches (sym (read-is wl) i) (sym (read-is wh) i) (sym (read-is wa) i) (sym (read-is wb) i)) k),
+          (
+            subst₂ _<ℤ_ (sym (read-is wl)) (sym (read-is wh)) l,
+            transport
+                (λ i. MayReach (sym (read-is wl) i) (sym (read-is wh) i) (sym (read-is wa) i) (sym (read-is wb) i)) k,
+          ),
         ),
       ),
     ),

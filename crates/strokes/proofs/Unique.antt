@@ -25,10 +25,21 @@ module _ {w : Window} {s : Stroke} where
       go true e =
           let f = sym (same .0) ∙ e in
           let one = point-unique (p .part .first e .keeps .time .den) (p .start e) (subst (λ (t : Fraction). PointAt s t (b .ax) (b .ay)) (sym (same .1)) (q .start f)) in
-          let other = point-unique (p .part .last e .keeps .time .den) (p .finish e) (subst (λ (t : Fraction). PointAt s t (b .bx) (b .by)) (sym (same .2)) (q .finish f)) in
+          let other = point-unique (p .part .last e .keeps .time .den) (p .finish e)
+          (subst (λ (t : Fraction). PointAt s t (b .bx) (b .by)) (sym (same .2)) (q .finish f)) in
           let number = p .number ∙ sym (q .number) in
           let place = p .place ∙ sym (q .place) in
-          λ i. record { number = number i; place = place i; kept = same .0 i; t0 = same .1 i; t1 = same .2 i; ax = one .0 i; ay = one .1 i; bx = other .0 i; by = other .1 i }
+          λ i. record {
+            number = number i;
+            place = place i;
+            kept = same .0 i;
+            t0 = same .1 i;
+            t1 = same .2 i;
+            ax = one .0 i;
+            ay = one .1 i;
+            bx = other .0 i;
+            by = other .1 i;
+          }
 
   pub clipping-unique : {a b : StrokeAnswer} → Clipping w s a → Clipping w s b → a ≡ b
   clipping-unique {a} {b} p q = go (strokeCallRefusal w s .number) refl
@@ -41,7 +52,8 @@ module _ {w : Window} {s : Stroke} where
 
   -- the rounded points of a kept stroke lie in the window
   pub points-inside : {a : StrokeAnswer} → Clipped w s a → a .kept ≡ true
-      → (((w .left ≤ℤ a .ax) × (a .ax ≤ℤ w .right)) × ((w .bottom ≤ℤ a .ay) × (a .ay ≤ℤ w .top))) × (((w .left ≤ℤ a .bx) × (a .bx ≤ℤ w .right)) × ((w .bottom ≤ℤ a .by) × (a .by ≤ℤ w .top)))
+      → (((w .left ≤ℤ a .ax) × (a .ax ≤ℤ w .right)) × ((w .bottom ≤ℤ a .ay) × (a .ay ≤ℤ w .top)))
+      × (((w .left ≤ℤ a .bx) × (a .bx ≤ℤ w .right)) × ((w .bottom ≤ℤ a .by) × (a .by ≤ℤ w .top)))
   points-inside p e =
       let f = p .part .first e .keeps in
       let l = p .part .last e .keeps in

@@ -1,5 +1,5 @@
 -- What a stroke call on a rectangle promises, whatever rule it runs.
---   Across lo hi a b n d   the coordinate at n/d of the way from a to b is from lo to hi
+--   KeepsCoordinate lo hi a b n d   the coordinate at the fraction n/d of the way from a to b is from lo to hi
 --   Keeps w s n d          n/d is a fraction from 0 to 1, and the stroke's point there lies in the closed window
 --   strokeCallRefusal w s  what the call refuses: 2, 3, then 6
 --   blank r                refused by r, or missed where r is none: not kept, fractions 0/1, points 0
@@ -20,14 +20,14 @@ use Rattle.grid.specs.Refusals.{none, first, windowRefusal, strokeRefusal}
 use Rattle.spans.specs.Parts.{Time, Part, zeroth}
 use Rattle.strokes.specs.declared.StrokeAnswer.{StrokeAnswer}
 
-pub record Across (lo hi a b n d : ℤ) : Type 0 where
+pub record KeepsCoordinate (lo hi a b n d : ℤ) : Type 0 where
   pub above : (lo *ℤ d) ≤ℤ along a b n d
   pub below : along a b n d ≤ℤ (hi *ℤ d)
 
 pub record Keeps (w : Window) (s : Stroke) (n d : ℤ) : Type 0 where
   pub time : Time n d
-  pub x : Across (w .left) (w .right) (s .x1) (s .x2) n d
-  pub y : Across (w .bottom) (w .top) (s .y1) (s .y2) n d
+  pub x : KeepsCoordinate (w .left) (w .right) (s .x1) (s .x2) n d
+  pub y : KeepsCoordinate (w .bottom) (w .top) (s .y1) (s .y2) n d
 
 unfoldable pub strokeCallRefusal : Window → Stroke → Refusal
 strokeCallRefusal w s = first (windowRefusal w ∷ strokeRefusal s ∷ [])

@@ -1,22 +1,23 @@
 -- What the workers behind a stroke call promise each other.
---   Between lo hi a b    both ends of the way from a to b are between lo and hi
---   Reaches lo hi a b    they are not both below lo, nor both above hi
---   Inside w s, Reaching w s   so it is for both coordinates of a stroke
+--   EndsBetween lo hi a b   both ends of the way from a to b are between lo and hi, and so is all of it
+--   MayReach lo hi a b   the two ends are not both below lo, nor both above hi: the way from a to b may come between them
+--   EndsInside w s, Reaching w s   EndsBetween, and MayReach, for both coordinates of a stroke and the window's sides
 --   Ranged a b c d       four numbers of the table in rising order, the last above the first
---   Risen, Fallen a p q b r   r is the way up or down from a to b, with the places of p and q on it
---   Short r              a way has a length of 1 to 32,766, and starts and ends on it in this order
+--   Risen, Fallen a p q b r   r is the way up, or down, from a to b, which is between two sides from p to q
+--   ProperWay r          a way has a length of 1 to 32,766, and its start and its end are on it in this order
 --   WayAt a b r          r is such a way from a to b, and its two coordinates are exact
---   On r n d             n/d of the way is from its start to its end
---   WayOf lo hi a b r    on r is what of the way from a to b is between lo and hi
+--   FromStartToEnd r n d   the fraction n/d of the way is from its start to its end
+--   WayOf lo hi a b r    r is a way from a to b, and from its start to its end it is between lo and hi, nowhere else
 --   Overlap x y          neither way ends before the other starts
---   OnWay f              f is a fraction from 0 to 1, with a denominator as small as a stroke's run
+--   OnWay f              f is a fraction from 0 to 1, with a denominator no larger than the longest way
 --   StartOf, FinishOf s x y e   e is the later start, or the earlier end, of the two ways, with the rounded point
---   keptAnswer a b t u, KeptAnswer a b r   the answer for what is kept from a to b, with the fractions t and u; with its fractions in lowest terms
+--   keptAnswer a b t u   the answer for a stroke that is kept from the point of a to that of b, with the fractions t and u
+--   KeptAnswer a b r     r is such an answer, with the fractions of a and b in lowest terms
 --   wholeAnswer s        the answer for a stroke that is kept whole
 --   missedCut, wholeCut s   what is left of a stroke that is missed, and of one that is kept whole
 --   Ends w s c           the points of a kept cut are those of an answer
 --   CutIs w s c          c is what the window leaves of the stroke
---   KeepsAny w s b        b says whether it leaves anything
+--   KeepsAny w s b       b says whether the window keeps any point of the stroke
 use mathlib.Core.Path.{_≡_}
 use mathlib.Core.Bool.{Bool, true, false}
 use Prim.Native.Nat.{_*_, _<_, _≤_}
@@ -30,30 +31,30 @@ use Rattle.grid.specs.declared.Stroke.{Stroke}
 use Rattle.grid.specs.declared.Window.{Window}
 use Rattle.grid.specs.Table.{farthest}
 use Rattle.spans.specs.Parts.{Time, zeroth, unit}
-use Rattle.strokes.specs.Strokes.{Across, Keeps, PointAt, Clipped}
+use Rattle.strokes.specs.Strokes.{KeepsCoordinate, Keeps, PointAt, Clipped}
 use Rattle.strokes.specs.declared.Cut.{Cut}
 use Rattle.strokes.specs.declared.End.{End}
 use Rattle.strokes.specs.declared.StrokeAnswer.{StrokeAnswer}
-use Rattle.strokes.specs.declared.Way.{Way}
+use Rattle.strokes.specs.declared.ways.Way.{Way}
 
 -- ---- where a stroke plainly lies
-pub record Between (lo hi a b : ℤ) : Type 0 where
+pub record EndsBetween (lo hi a b : ℤ) : Type 0 where
   pub a-low : lo ≤ℤ a
   pub a-high : a ≤ℤ hi
   pub b-low : lo ≤ℤ b
   pub b-high : b ≤ℤ hi
 
-pub record Reaches (lo hi a b : ℤ) : Type 0 where
+pub record MayReach (lo hi a b : ℤ) : Type 0 where
   pub up : a <ℤ lo → lo ≤ℤ b
   pub down : lo ≤ℤ a → hi <ℤ a → b ≤ℤ hi
 
-pub record Inside (w : Window) (s : Stroke) : Type 0 where
-  pub x : Between (w .left) (w .right) (s .x1) (s .x2)
-  pub y : Between (w .bottom) (w .top) (s .y1) (s .y2)
+pub record EndsInside (w : Window) (s : Stroke) : Type 0 where
+  pub x : EndsBetween (w .left) (w .right) (s .x1) (s .x2)
+  pub y : EndsBetween (w .bottom) (w .top) (s .y1) (s .y2)
 
 pub record Reaching (w : Window) (s : Stroke) : Type 0 where
-  pub x : Reaches (w .left) (w .right) (s .x1) (s .x2)
-  pub y : Reaches (w .bottom) (w .top) (s .y1) (s .y2)
+  pub x : MayReach (w .left) (w .right) (s .x1) (s .x2)
+  pub y : MayReach (w .bottom) (w .top) (s .y1) (s .y2)
 
 -- ---- the way of one coordinate
 pub record Ranged (a b c d : ℤ) : Type 0 where
@@ -80,25 +81,25 @@ pub record Fallen (a p q b : ℤ) (r : Way) : Type 0 where
   pub at : r .at ≡ p
   pub to : r .to ≡ q
 
-pub record Short (r : Way) : Type 0 where
+pub record ProperWay (r : Way) : Type 0 where
   pub long : 0 < r .long
   pub small : r .long ≤ 32766
   pub order : r .start ≤ r .end
   pub high : r .end ≤ r .long
 
 pub record WayAt (a b : ℤ) (r : Way) : Type 0 where
-  pub short : Short r
+  pub proper : ProperWay r
   pub at : along a b (pos (r .start)) (pos (r .long)) ≡ r .at *ℤ pos (r .long)
   pub to : along a b (pos (r .end)) (pos (r .long)) ≡ r .to *ℤ pos (r .long)
 
-pub record On (r : Way) (n d : ℤ) : Type 0 where
+pub record FromStartToEnd (r : Way) (n d : ℤ) : Type 0 where
   pub from : (pos (r .start) *ℤ d) ≤ℤ (n *ℤ pos (r .long))
   pub upto : (n *ℤ pos (r .long)) ≤ℤ (pos (r .end) *ℤ d)
 
 pub record WayOf (lo hi a b : ℤ) (r : Way) : Type 0 where
   pub way : WayAt a b r
-  pub stays : (n d : ℤ) → Time n d → Across lo hi a b n d → On r n d
-  pub keeps : (n d : ℤ) → Time n d → On r n d → Across lo hi a b n d
+  pub stays : (n d : ℤ) → Time n d → KeepsCoordinate lo hi a b n d → FromStartToEnd r n d
+  pub keeps : (n d : ℤ) → Time n d → FromStartToEnd r n d → KeepsCoordinate lo hi a b n d
 
 -- ---- both ways
 pub record Overlap (x y : Way) : Type 0 where
@@ -113,14 +114,16 @@ pub record StartOf (s : Stroke) (x y : Way) (e : End) : Type 0 where
   pub way : OnWay (e .t)
   pub x-in : (pos (x .start) *ℤ e .t .den) ≤ℤ (e .t .num *ℤ pos (x .long))
   pub y-in : (pos (y .start) *ℤ e .t .den) ≤ℤ (e .t .num *ℤ pos (y .long))
-  pub least : (n d : ℤ) → pos 0 <ℤ d → (pos (x .start) *ℤ d) ≤ℤ (n *ℤ pos (x .long)) → (pos (y .start) *ℤ d) ≤ℤ (n *ℤ pos (y .long)) → (e .t .num *ℤ d) ≤ℤ (n *ℤ e .t .den)
+  pub least : (n d : ℤ) → pos 0 <ℤ d → (pos (x .start) *ℤ d) ≤ℤ (n *ℤ pos (x .long)) → (pos (y .start) *ℤ d) ≤ℤ (n *ℤ pos (y .long))
+      → (e .t .num *ℤ d) ≤ℤ (n *ℤ e .t .den)
   pub point : PointAt s (e .t) (e .x) (e .y)
 
 pub record FinishOf (s : Stroke) (x y : Way) (e : End) : Type 0 where
   pub way : OnWay (e .t)
   pub x-out : (e .t .num *ℤ pos (x .long)) ≤ℤ (pos (x .end) *ℤ e .t .den)
   pub y-out : (e .t .num *ℤ pos (y .long)) ≤ℤ (pos (y .end) *ℤ e .t .den)
-  pub greatest : (n d : ℤ) → pos 0 <ℤ d → (n *ℤ pos (x .long)) ≤ℤ (pos (x .end) *ℤ d) → (n *ℤ pos (y .long)) ≤ℤ (pos (y .end) *ℤ d) → (n *ℤ e .t .den) ≤ℤ (e .t .num *ℤ d)
+  pub greatest : (n d : ℤ) → pos 0 <ℤ d → (n *ℤ pos (x .long)) ≤ℤ (pos (x .end) *ℤ d) → (n *ℤ pos (y .long)) ≤ℤ (pos (y .end) *ℤ d)
+      → (n *ℤ e .t .den) ≤ℤ (e .t .num *ℤ d)
   pub point : PointAt s (e .t) (e .x) (e .y)
 
 -- ---- answers

@@ -55,16 +55,22 @@ same-digits f (suc zero) n h w =
     let l : n < 10 = w .1 in
     let e : n % 10 ≡ n = omega arith in
     rw (lt-ltb n 10 l) (ap (λ x. x ∷ []) (glyph (n % 10) (mod-lt n (lit< tt)) ∙ ap (λ x. 48 + x) e))
-same-digits zero (suc (suc k)) n h w = absurd (not-le-of-lt h (le-trans (pow-le-pow-right {n = 10} (lit< tt) {i = 1} {j = suc (suc k) - 1} (omega arith)) (w .2 (omega arith))))
+same-digits zero (suc (suc k)) n h w =
+    absurd (not-le-of-lt h (le-trans (pow-le-pow-right {n = 10} (lit< tt) {i = 1} {j = suc (suc k) - 1} (omega arith)) (w .2 (omega arith))))
 same-digits (suc f) (suc (suc k)) n h w =
     let e : suc (suc k) - 1 ≡ suc k = omega arith in
     let more : 10 ^ suc k ≤ n = subst (λ (x : ℕ). 10 ^ x ≤ n) e (w .2 (omega arith)) in
     let ten : 10 ≤ n = le-trans (pow-le-pow-right {n = 10} (lit< tt) {i = 1} {j = suc k} (omega arith)) more in
     let one-less : suc k - 1 ≡ k = omega arith in
-    let less : Io.Fewest 10 1 (n / 10) (suc k) =
-    (omega arith, div-lt-iff-lt-mul (lit< tt) .1 (subst (λ (x : ℕ). n < x) (pow-suc 10 (suc k)) (w .1)), λ l. subst (λ (x : ℕ). 10 ^ x ≤ n / 10) (sym one-less) (le-div-iff-mul-le (lit< tt) .1 (subst (λ (x : ℕ). x ≤ n) (pow-suc 10 k) more))) in
+    let less : Io.Fewest 10 1 (n / 10) (suc k) = (
+      omega arith,
+      div-lt-iff-lt-mul (lit< tt) .1 (subst (λ (x : ℕ). n < x) (pow-suc 10 (suc k)) (w .1)),
+      λ l. subst (λ (x : ℕ). 10 ^ x ≤ n / 10) (sym one-less)
+          (le-div-iff-mul-le (lit< tt) .1 (subst (λ (x : ℕ). x ≤ n) (pow-suc 10 k) more)),
+    ) in
     rw (le-ltb n 10 ten)
-    (ap₂ (λ x y. x ++ y ∷ []) (same-digits f (suc k) (n / 10) (div-lt-iff-lt-mul (lit< tt) .1 (subst (λ (x : ℕ). n < x) (pow-suc 10 (suc f)) h)) less) (glyph (n % 10) (mod-lt n (lit< tt))))
+    (ap₂ (λ x y. x ++ y ∷ []) (same-digits f (suc k) (n / 10) (div-lt-iff-lt-mul (lit< tt) .1 (subst (λ (x : ℕ). n < x) (pow-suc 10 (suc f)) h)) less)
+    (glyph (n % 10) (mod-lt n (lit< tt))))
 
 pub natural-is : {n k : ℕ} → n < 10 ^ 20 → Io.Fewest 10 1 n k → Io.digits 10 k n ≡ natural n
 unfolding natural
@@ -72,7 +78,8 @@ natural-is {n} {k} h w = same-digits 19 k n h w
 
 -- ---- by the sign
 
-pub positive : {before after : List ℕ} {at end size : ℕ} (z : ℤ) → ltZ z (pos 0) ≡ false → size ≡ natAbs z → Put before after at end (natural size) → Put before after at end (integer z)
+pub positive : {before after : List ℕ} {at end size : ℕ} (z : ℤ) → ltZ z (pos 0) ≡ false → size ≡ natAbs z → Put before after at end (natural size)
+    → Put before after at end (integer z)
 unfolding integer
 positive {before} {after} {at} {end} (pos n) e s p = subst (λ (k : ℕ). Put before after at end (natural k)) s p
 positive (negsuc n) e s p = absurd (subst T e tt)

@@ -15,7 +15,8 @@ put-nothing page h = record { text = sym (append-nil _); rest = refl; ends = ome
 later : (a b : List ℕ) (i k n : ℕ) → i + n ≡ k → drop i a ≡ drop i b → drop k a ≡ drop k b
 later a b i k n e h = ap (λ (x : ℕ). drop x a) (sym e) ∙ sym (drop-drop n i a) ∙ ap (drop n) h ∙ drop-drop n i b ∙ ap (λ (x : ℕ). drop x b) e
 
-pub put-byte : {before after word : List ℕ} {at end : ℕ} (b : ℕ) → end < length after → Put before after at end word → Put before (set after end b) at (end + 1) (word ++ b ∷ [])
+pub put-byte : {before after word : List ℕ} {at end : ℕ} (b : ℕ) → end < length after → Put before after at end word
+    → Put before (set after end b) at (end + 1) (word ++ b ∷ [])
 put-byte {before} {after} {word} {at} {end} b h p =
     record {
       text = rw add-one (take-suc-set after end b h ∙ ap (λ (x : List ℕ). x ++ b ∷ []) (p .text) ∙ append-assoc (take at before) word (b ∷ []));
@@ -29,7 +30,8 @@ put-byte {before} {after} {word} {at} {end} b h p =
 pub put-to : {before after word : List ℕ} {at end : ℕ} (to : ℕ) → end ≡ to → Put before after at end word → Put before after at to word
 put-to {before} {after} {word} {at} to e p = subst (λ (n : ℕ). Put before after at n word) e p
 
-pub put-four : (page : List ℕ) (at a b c d : ℕ) → at + 4 ≤ length page → Put page (set (set (set (set page at a) (at + 1) b) (at + 2) c) (at + 3) d) at (at + 4) (a ∷ b ∷ c ∷ d ∷ [])
+pub put-four : (page : List ℕ) (at a b c d : ℕ) → at + 4 ≤ length page
+    → Put page (set (set (set (set page at a) (at + 1) b) (at + 2) c) (at + 3) d) at (at + 4) (a ∷ b ∷ c ∷ d ∷ [])
 put-four page at a b c d h =
     put-to (at + 4) (omega arith) (put-byte d (simp length-set (omega arith))
     (put-to (at + 3) (omega arith) (put-byte c (simp length-set (omega arith))
@@ -49,7 +51,8 @@ put-then {a} {b} {c} {u} {v} {i} {j} {k} p q =
 pub put-more : {before after : List ℕ} (word : List ℕ) {at : ℕ} (i : ℕ) → i < length word → at + i < length after
     → Put before after at (at + i) (take i word) → Put before (set after (at + i) (getD word i 0)) at (at + (i + 1)) (take (i + 1) word)
 put-more {before} {after} word {at} i h l p =
-    put-to (at + (i + 1)) (omega arith) (subst (Put before (set after (at + i) (getD word i 0)) at (at + i + 1)) (rw add-one (sym (take-suc word i 0 h))) (put-byte (getD word i 0) l p))
+    put-to (at + (i + 1)) (omega arith)
+    (subst (Put before (set after (at + i) (getD word i 0)) at (at + i + 1)) (rw add-one (sym (take-suc word i 0 h))) (put-byte (getD word i 0) l p))
 
 -- put up to a place from which another word stands already
 pub put-in-front : {a b c u v : List ℕ} {i j : ℕ} → Put a b i j u → Put b c 0 i v → take j c ≡ v ++ u

@@ -10,8 +10,8 @@ use lib.Dec.{eqb, leb, leb·zero, leb·suc-zero, leb·suc-suc}
 use lib.IntN.{ℤ, pos, negsuc, negℤ}
 use lib.ListN.{length, getD, drop}
 use Rattle.whole.specs.Choice.{if_then_else_}
-use Rattle.words.specs.Digits.{value}
-use Rattle.words.specs.Words.{upTo, hasMinus, numeral, unsigned, integer}
+use Rattle.words.specs.Digits.{wordValue}
+use Rattle.words.specs.Words.{upTo, hasMinus, numeral, unsigned, asInteger}
 use Rattle.words.specs.declared.Natural.{Natural}
 use Rattle.words.specs.declared.Natural.the-variants as Natural
 use Rattle.words.specs.declared.Integer.{Integer}
@@ -60,19 +60,19 @@ plus Natural.Bad = Integer.Bad
 plus (Natural.Is n) = Integer.Is (pos n)
 
 module _ (w : List ℕ) where
-  with-minus : hasMinus w ≡ true → numeral w ≡ Option·map (λ n. negℤ (pos n)) (value 10 (drop 1 w))
+  with-minus : hasMinus w ≡ true → numeral w ≡ Option·map (λ n. negℤ (pos n)) (wordValue 10 (drop 1 w))
   unfolding numeral
   with-minus h = simp h
 
-  without : hasMinus w ≡ false → numeral w ≡ Option·map pos (value 10 w)
+  without : hasMinus w ≡ false → numeral w ≡ Option·map pos (wordValue 10 w)
   unfolding numeral
   without h = simp h
 
-  pub integer-minus : hasMinus w ≡ true → integer (numeral w) ≡ minus (upTo (2 ^ 31) (value 10 (drop 1 w)))
-  unfolding integer upTo
-  integer-minus h = ap integer (with-minus h) ∙ go (value 10 (drop 1 w))
+  pub integer-minus : hasMinus w ≡ true → asInteger (numeral w) ≡ minus (upTo (2 ^ 31) (wordValue 10 (drop 1 w)))
+  unfolding asInteger upTo
+  integer-minus h = ap asInteger (with-minus h) ∙ go (wordValue 10 (drop 1 w))
     where
-      go : (o : Option ℕ) → integer (Option·map (λ n. negℤ (pos n)) o) ≡ minus (upTo (2 ^ 31) o)
+      go : (o : Option ℕ) → asInteger (Option·map (λ n. negℤ (pos n)) o) ≡ minus (upTo (2 ^ 31) o)
       go none = refl
       go (some zero) = refl
       go (some (suc n)) = at (leb (suc n) (2 ^ 31))
@@ -81,11 +81,11 @@ module _ (w : List ℕ) where
           at true = refl
           at false = refl
 
-  pub integer-plus : hasMinus w ≡ false → integer (numeral w) ≡ plus (upTo 2147483647 (value 10 w))
-  unfolding integer upTo
-  integer-plus h = ap integer (without h) ∙ go (value 10 w)
+  pub integer-plus : hasMinus w ≡ false → asInteger (numeral w) ≡ plus (upTo 2147483647 (wordValue 10 w))
+  unfolding asInteger upTo
+  integer-plus h = ap asInteger (without h) ∙ go (wordValue 10 w)
     where
-      go : (o : Option ℕ) → integer (Option·map pos o) ≡ plus (upTo 2147483647 o)
+      go : (o : Option ℕ) → asInteger (Option·map pos o) ≡ plus (upTo 2147483647 o)
       go none = refl
       go (some n) = rw (leb·suc-suc n 2147483647) (at (leb n 2147483647))
         where
@@ -93,18 +93,18 @@ module _ (w : List ℕ) where
           at true = refl
           at false = refl
 
-  pub unsigned-minus : (most : ℕ) → hasMinus w ≡ true → unsigned most (numeral w) ≡ upTo 0 (value 10 (drop 1 w))
+  pub unsigned-minus : (most : ℕ) → hasMinus w ≡ true → unsigned most (numeral w) ≡ upTo 0 (wordValue 10 (drop 1 w))
   unfolding unsigned upTo
-  unsigned-minus most h = ap (unsigned most) (with-minus h) ∙ go (value 10 (drop 1 w))
+  unsigned-minus most h = ap (unsigned most) (with-minus h) ∙ go (wordValue 10 (drop 1 w))
     where
       go : (o : Option ℕ) → unsigned most (Option·map (λ n. negℤ (pos n)) o) ≡ upTo 0 o
       go none = refl
       go (some zero) = simp (leb·zero most)
       go (some (suc n)) = simp (leb·suc-zero n)
 
-  pub unsigned-plus : (most : ℕ) → hasMinus w ≡ false → unsigned most (numeral w) ≡ upTo most (value 10 w)
+  pub unsigned-plus : (most : ℕ) → hasMinus w ≡ false → unsigned most (numeral w) ≡ upTo most (wordValue 10 w)
   unfolding unsigned upTo
-  unsigned-plus most h = ap (unsigned most) (without h) ∙ go (value 10 w)
+  unsigned-plus most h = ap (unsigned most) (without h) ∙ go (wordValue 10 w)
     where
       go : (o : Option ℕ) → unsigned most (Option·map pos o) ≡ upTo most o
       go none = refl

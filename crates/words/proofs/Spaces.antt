@@ -10,7 +10,7 @@ use lib.ListN.{length, take, drop}
 use lib.Seq.{drop-cons, drop-drop}
 use Rattle.whole.specs.Choice.{if_then_else_}
 use Rattle.text.specs.Runs.{run, isNot}
-use Rattle.words.specs.Words.{numeral, integer, words, arguments, onto, number, integers}
+use Rattle.words.specs.Words.{numeral, asInteger, words, arguments, onto, andInteger, integers}
 use Rattle.words.specs.declared.Integer.{Integer}
 
 -- how many bytes come before the first space
@@ -23,7 +23,8 @@ words-cut [] = refl
 words-cut (b ∷ l) = go (eqb b 32) (words-cut l)
   where
     go : (t : Bool) → words l ≡ take (toSpace l) l ∷ arguments (drop (toSpace l) l)
-        → (if t then [] ∷ words l else onto b (words l)) ≡ take (if not t then suc (toSpace l) else 0) (b ∷ l) ∷ arguments (drop (if not t then suc (toSpace l) else 0) (b ∷ l))
+        → (if t then [] ∷ words l else onto b (words l)) ≡ take (if not t then suc (toSpace l) else 0) (b ∷ l)
+        ∷ arguments (drop (if not t then suc (toSpace l) else 0) (b ∷ l))
     go true e = refl
     go false e = ap (onto b) e
 
@@ -37,7 +38,7 @@ arguments-cut l at h =
 
 -- and the number that the first is
 pub integers-cut : (l : List ℕ) (at end : ℕ) (r : Integer) → at < length l → let start = at + 1 in end ≡ start + toSpace (drop start l)
-    → r ≡ integer (numeral (take (end - start) (drop start l))) → integers (arguments (drop at l)) ≡ number r (integers (arguments (drop end l)))
+    → r ≡ asInteger (numeral (take (end - start) (drop start l))) → integers (arguments (drop at l)) ≡ andInteger r (integers (arguments (drop end l)))
 unfolding integers
 integers-cut l at end r h e k =
     let long : end - (at + 1) ≡ toSpace (drop (at + 1) l) = omega arith in

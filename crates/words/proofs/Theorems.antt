@@ -14,7 +14,7 @@ use lib.IntN.{ℤ, pos, negsuc, natAbs}
 use lib.ListN.{length, length-append}
 use Rattle.io.specs.Digits.{glyph, digits}
 use Rattle.whole.specs.Choice.{if_then_else_}
-use Rattle.words.specs.Digits.{between, digitOf, valueFrom, value}
+use Rattle.words.specs.Digits.{between, digitOf, valueFrom, wordValue}
 use Rattle.text.specs.Pages as Pages
 use Rattle.words.specs.Words.{hasMinus, numeral, upTo, single, pattern}
 use Rattle.words.specs.declared.Single.the-variants as Single
@@ -35,7 +35,8 @@ digit-back d h = go (ltb d 10) refl
     go true e = decimal-back d (ltb-true d 10 e)
     go false e =
         let large = ltb-false d 10 e in
-        simp (above 48 57 (87 + d) (omega arith) (omega arith), above 65 70 (87 + d) (omega arith) (omega arith), inside 97 102 (87 + d) (omega arith) (omega arith)) (omega arith)
+        simp (above 48 57 (87 + d) (omega arith) (omega arith), above 65 70 (87 + d) (omega arith) (omega arith), inside 97 102 (87 + d) (omega arith) (omega arith))
+        (omega arith)
 
 last : (base n m b : ℕ) (w : List ℕ) → valueFrom base n w ≡ some m → digitOf b < base → valueFrom base n (w ++ (b ∷ [])) ≡ some (m * base + digitOf b)
 unfolding valueFrom
@@ -81,22 +82,22 @@ naturals-back (suc k) n h = go (ltb n 10) refl (naturals-back k (n / 10) (div-lt
 
 -- ---- words
 
-value-back : (base k n : ℕ) (w : List ℕ) → 0 < base → base ≤ 16 → 0 < k → n < base ^ k → w ≡ digits base k n → value base w ≡ some n
+value-back : (base k n : ℕ) (w : List ℕ) → 0 < base → base ≤ 16 → 0 < k → n < base ^ k → w ≡ digits base k n → wordValue base w ≡ some n
 value-back base k n w b c p h e = value-is base w (rw e (rw (length-digits base k n) p)) ∙ rw e (digits-back base k n b c h)
 
-pub natural-back : (n : ℕ) → n < 10 ^ 20 → value 10 (Pages.natural n) ≡ some n
+pub natural-back : (n : ℕ) → n < 10 ^ 20 → wordValue 10 (Pages.natural n) ≡ some n
 unfolding Pages.natural
 natural-back n h = let b = naturals-back 19 n h in value-is 10 (Pages.digits 20 n) (b .0) ∙ b .1
 
-minus-first : (w : List ℕ) → value 10 (45 ∷ w) ≡ none
-unfolding value valueFrom digitOf between
+minus-first : (w : List ℕ) → wordValue 10 (45 ∷ w) ≡ none
+unfolding wordValue valueFrom digitOf between
 minus-first w = refl
 
 -- no digit is a minus
-digit-first : (n : ℕ) (w : List ℕ) → value 10 w ≡ some n → hasMinus w ≡ false
+digit-first : (n : ℕ) (w : List ℕ) → wordValue 10 w ≡ some n → hasMinus w ≡ false
 unfolding hasMinus
 digit-first n [] e = refl
-digit-first n (b ∷ w) e = ne-eqb b 45 λ m. clash (sym e ∙ ap (λ a. value 10 (a ∷ w)) m ∙ minus-first w)
+digit-first n (b ∷ w) e = ne-eqb b 45 λ m. clash (sym e ∙ ap (λ a. wordValue 10 (a ∷ w)) m ∙ minus-first w)
   where
     clash : some n ≡ none → ⊥
     clash s = let z : _≡_ {A = ℕ} 0 1 = cc in omega arith

@@ -12,17 +12,17 @@ use lib.Dec.{ltb}
 use lib.ListN.{length, getD, drop}
 use lib.Seq.{drop-cons}
 use Rattle.whole.specs.Choice.{if_then_else_}
-use Rattle.words.specs.Digits.{digitOf, valueFrom, value}
+use Rattle.words.specs.Digits.{digitOf, valueFrom, wordValue}
 use Rattle.words.specs.Words.{upTo}
 use Rattle.words.specs.declared.Natural.the-variants as Natural
 
-pub value-is : (base : ℕ) (w : List ℕ) → 0 < length w → value base w ≡ valueFrom base 0 w
-unfolding value
+pub value-is : (base : ℕ) (w : List ℕ) → 0 < length w → wordValue base w ≡ valueFrom base 0 w
+unfolding wordValue
 value-is base [] h = absurd (omega arith)
 value-is base (b ∷ w) h = refl
 
-pub no-value : (base : ℕ) (w : List ℕ) → length w ≡ 0 → value base w ≡ none
-unfolding value
+pub no-value : (base : ℕ) (w : List ℕ) → length w ≡ 0 → wordValue base w ≡ none
+unfolding wordValue
 no-value base [] h = refl
 no-value base (b ∷ w) h = absurd (omega arith)
 

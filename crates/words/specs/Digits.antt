@@ -2,7 +2,7 @@
 --   between lo hi b      b is from lo to hi
 --   digitOf b            the value of the byte b as a digit, letters from 10 on, large or small; 16 where it is none
 --   valueFrom base n w   the number that n becomes by the digits w, in a base; none where a byte of w is no digit of it
---   value base w         the number that the word w is, one digit or more
+--   wordValue base w     the number that the word w is, one digit or more
 use mathlib.Core.Bool.{Bool, _&&_}
 use mathlib.Core.List.{List, [], _∷_}
 use mathlib.Core.Option.{Option, none, some}
@@ -24,6 +24,6 @@ unfoldable pub valueFrom : ℕ → ℕ → List ℕ → Option ℕ
 valueFrom base n [] = some n
 valueFrom base n (b ∷ w) = if ltb (digitOf b) base then valueFrom base (n * base + digitOf b) w else none
 
-unfoldable pub value : ℕ → List ℕ → Option ℕ
-value base [] = none
-value base (b ∷ w) = valueFrom base 0 (b ∷ w)
+unfoldable pub wordValue : ℕ → List ℕ → Option ℕ
+wordValue base [] = none
+wordValue base (b ∷ w) = valueFrom base 0 (b ∷ w)

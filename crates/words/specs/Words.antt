@@ -3,14 +3,14 @@
 --   hasMinus w        the word w begins with a minus
 --   numeral w         the whole number that the word w is: decimal digits, with a minus in front or without
 --   unsigned most o   the number o, where it is one from 0 to `most`
---   integer o         the number o, where it is one that an i32 holds
+--   asInteger o       the number o, where it is one that an i32 holds
 --   withBits n        the f32 with the bits n, where there are such; every pattern of a NaN is the NaN
 --   single w          the f32 that the word w is: eight hexadecimal digits of its bits
 --   pattern x         the word of the f32 x, in small letters
 --   onto b ws         the words ws, with the byte b in front of the first
 --   words l           l, cut at each space
 --   arguments l       the words of l after its first byte; none where it is empty
---   and x o           the list o, where there is one, with x in front; number n o: the same, where n is a number
+--   and x o           the list o, where there is one, with x in front;  andInteger n o: the same, where n is a number
 --   integers ws       the numbers that the words ws are, where each is one that an i32 holds
 --   pairs w           the bytes that w is, as pairs of hexadecimal digits
 --   bytes w           the same for a word, which is not empty; a minus alone stands for no bytes
@@ -27,7 +27,7 @@ use lib.ListN.{length, take, drop}
 use lib.Signed.{mag}
 use Rattle.io.specs.Digits.{digits}
 use Rattle.whole.specs.Choice.{if_then_else_}
-use Rattle.words.specs.Digits.{digitOf, value}
+use Rattle.words.specs.Digits.{digitOf, wordValue}
 use Rattle.words.specs.declared.Natural.{Natural}
 use Rattle.words.specs.declared.Natural.the-variants as Natural
 use Rattle.words.specs.declared.Integer.{Integer}
@@ -47,23 +47,23 @@ hasMinus [] = false
 hasMinus (b ∷ w) = eqb b 45
 
 unfoldable pub numeral : List ℕ → Option ℤ
-numeral w = if hasMinus w then Option·map (λ n. negℤ (pos n)) (value 10 (drop 1 w)) else Option·map pos (value 10 w)
+numeral w = if hasMinus w then Option·map (λ n. negℤ (pos n)) (wordValue 10 (drop 1 w)) else Option·map pos (wordValue 10 w)
 
 unfoldable pub unsigned : ℕ → Option ℤ → Natural
 unsigned most none = Natural.Bad
 unsigned most (some (pos n)) = if leb n most then Natural.Is n else Natural.Bad
 unsigned most (some (negsuc n)) = Natural.Bad
 
-unfoldable pub integer : Option ℤ → Integer
-integer none = Integer.Bad
-integer (some z) = if ltb (mag z) (2 ^ 31) then Integer.Is z else Integer.Bad
+unfoldable pub asInteger : Option ℤ → Integer
+asInteger none = Integer.Bad
+asInteger (some z) = if ltb (mag z) (2 ^ 31) then Integer.Is z else Integer.Bad
 
 abbrev pub withBits : Natural → Single
 withBits Natural.Bad = Single.Bad
 withBits (Natural.Is n) = Single.Is (ofBits binary32 n)
 
 unfoldable pub single : List ℕ → Single
-single w = if eqb (length w) 8 then withBits (upTo 0xffff_ffff (value 16 w)) else Single.Bad
+single w = if eqb (length w) 8 then withBits (upTo 0xffff_ffff (wordValue 16 w)) else Single.Bad
 
 abbrev pub pattern : Float → List ℕ
 pattern x = digits 16 8 (toBits binary32 x)
@@ -88,13 +88,13 @@ abbrev pub and : {A : Type 0} → A → Option (List A) → Option (List A)
 and x none = none
 and x (some xs) = some (x ∷ xs)
 
-abbrev pub number : Integer → Option (List ℤ) → Option (List ℤ)
-number Integer.Bad o = none
-number (Integer.Is z) o = and z o
+abbrev pub andInteger : Integer → Option (List ℤ) → Option (List ℤ)
+andInteger Integer.Bad o = none
+andInteger (Integer.Is z) o = and z o
 
 unfoldable pub integers : List (List ℕ) → Option (List ℤ)
 integers [] = some []
-integers (w ∷ ws) = number (integer (numeral w)) (integers ws)
+integers (w ∷ ws) = andInteger (asInteger (numeral w)) (integers ws)
 
 unfoldable pub pairs : List ℕ → Option (List ℕ)
 pairs [] = some []

@@ -7,8 +7,8 @@ ghost use lib.Dec.{T};
 ghost use lib.Ieee.{binary32, ofBits, isNan};
 ghost use lib.ListN.{length};
 ghost use Rattle.text.specs.Pages.{Put};
-ghost use Rattle.words.specs.Digits.{digitOf, value};
-ghost use Rattle.words.specs.Words.{upTo, hasMinus, numeral, unsigned, integer, single, pattern, arguments, integers, pairs, bytes, Into};
+ghost use Rattle.words.specs.Digits.{digitOf, wordValue};
+ghost use Rattle.words.specs.Words.{upTo, hasMinus, numeral, unsigned, asInteger, single, pattern, arguments, integers, pairs, bytes, Into};
 
 // The number that a word is, or that it is none of those asked for.
 pub enum Natural {
@@ -48,7 +48,7 @@ fn digit(b: u8) -> u8
 fn read_natural(word: &[u8], base: u8, most: u64) -> Natural
     requires { ⌜ base ≤ 16 ⌝ }
     requires { ⌜ most < 2 ^ 32 ⌝ }
-    ensures { λ r. ⌜ r ≡ upTo most (value base (now (word .entry))) ⌝ }
+    ensures { λ r. ⌜ r ≡ upTo most (wordValue base (now (word .entry))) ⌝ }
 {
     if word.len() == 0 {
         return Natural::Bad;
@@ -102,7 +102,7 @@ fn opposite(n: u64) -> i32
 
 // A number that an i32 holds.
 pub fn read_integer(word: &[u8]) -> Integer
-    ensures { λ r. ⌜ r ≡ integer (numeral (now (word .entry))) ⌝ }
+    ensures { λ r. ⌜ r ≡ asInteger (numeral (now (word .entry))) ⌝ }
 {
     if has_minus(word) {
         return match read_natural(&word[1..], 10, 0x8000_0000) {

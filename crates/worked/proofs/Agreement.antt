@@ -1,4 +1,5 @@
--- What two calls say of one thing: a rectangle given as its four corners keeps of a stroke what the rectangle keeps, since a point lies in the one exactly when it lies in the other.
+-- What two calls say of one thing: a rectangle given as its four corners keeps of a stroke what the rectangle keeps,
+-- since a point lies in the one exactly when it lies in the other.
 use mathlib.Core.Path.{_≡_}
 use mathlib.Core.List.{List}
 use mathlib.Core.Logic.{_↔_}

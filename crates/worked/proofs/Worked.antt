@@ -7,7 +7,6 @@ use lib.Count.{trailingZeros}
 use lib.IntN.{ℤ}
 use lib.ListN.{length}
 use Rattle.codes.specs.Codes.{code, decision}
-use Rattle.codes.specs.Workers.{sideOf}
 use Rattle.codes.specs.declared.CountedAnswer.{CountedAnswer}
 use Rattle.codes.proofs.Computed.{meetingOf, stepOf, countOf, countedOf, countedOf-is, computed}
 use Rattle.codes.proofs.Runs.{same-two}
@@ -42,11 +41,16 @@ stroke-holds {s} e = record {
 }
 
 -- an outline: in any order what is computed in order 0
-outline-holds : {zs : List ℤ} {expected : Answer} {output : List ℤ} → answerOf ten 0 zs 32 ≡ expected → outputOf ten 0 zs (zeros 32) ≡ output → OutlineHolds zs expected output
+outline-holds : {zs : List ℤ} {expected : Answer} {output : List ℤ}
+    → answerOf ten 0 zs 32 ≡ expected → outputOf ten 0 zs (zeros 32) ≡ output → OutlineHolds zs expected output
 outline-holds {zs} p q = record { in-order = λ o l a after h. let k = any-order l (omega arith) h (outlines.answer-is ten 0 zs (zeros 32)) in (k .0 ∙ p, k .1 ∙ q) }
 
 pub worked : All Holds table
-unfolding table countedOf countOf stepOf meetingOf sideOf code decision trailingZeros strokeCallRefusal strokeRefusal strokeAnswerOf clippedOf spanOf acrossOf cutBy lessThan roundedAt nearestToZero answerOf outputOf answered written outlineOf ringOf cutsOf cutOf passOf keptOf addedOf meet isBefore leastOf startOf numbersOf euclid lowestOf outlineRefusal first windowRefusal noArea badOrder badOutline rightCount offTable firstOff onTable unlessConvex strictlyConvex every next joins isLeft cornersOf value through sidesIn linesIn left-side right-side bottom-side top-side
+unfolding table countedOf countOf stepOf meetingOf code decision trailingZeros
+    strokeCallRefusal strokeRefusal strokeAnswerOf clippedOf spanOf acrossOf cutBy lessThan roundedAt nearestToZero euclid lowestOf
+    answerOf outputOf answered written outlineOf ringOf cutsOf cutOf passOf keptOf addedOf meet isBefore leastOf startOf numbersOf
+    outlineRefusal first windowRefusal noArea badOrder badOutline rightCount offTable firstOff onTable
+    unlessConvex strictlyConvex every next joins isLeft cornersOf value through sidesIn linesIn left-side right-side bottom-side top-side
 worked =
     stroke-holds refl ◂ stroke-holds refl ◂ stroke-holds refl ◂ stroke-holds refl ◂ stroke-holds refl ◂ stroke-holds refl ◂ stroke-holds refl
     ◂ outline-holds refl refl ◂ outline-holds refl refl ◂ outline-holds refl refl ◂ outline-holds refl refl ◂ outline-holds refl refl ◂ ∅

@@ -2,6 +2,10 @@
 --   Example   a stroke and what both stroke calls answer, the count of shortenings included;
 --             or an outline, what the outline call answers in every order, and its output of 32 numbers, zeros before the call
 --   Holds e   the calls' statements allow this answer and no other
+--   ten       the window of all of them;  zeros n: a list of n zeros
+--   from, over   a stroke by its four numbers, and a fraction by its two
+--   kept t u ax ay bx by n, missedAfter n   what both stroke calls answer where the stroke is kept, and where it is missed, after n shortenings
+--   gave n    what the outline call answers where it gives n numbers;  corners zs: the numbers that it gives for corners with the whole coordinates zs
 --   table     the examples in their order
 use mathlib.Core.Path.{_≡_}
 use mathlib.Core.Bool.{true}
@@ -55,13 +59,13 @@ kept t u ax ay bx by n = record {
   shortenings = n;
 }
 
-abbrev pub missed : ℕ → CountedAnswer
-missed n = record { answer = blank none; shortenings = n }
+abbrev pub missedAfter : ℕ → CountedAnswer
+missedAfter n = record { answer = blank none; shortenings = n }
 
 abbrev pub gave : ℕ → Answer
 gave n = record { number = 0; place = 0; count = n }
 
--- corners with whole coordinates, four numbers each
+-- four numbers a corner: each coordinate is a fraction over 1
 abbrev pub corners : List ℤ → List ℤ
 corners [] = []
 corners (z ∷ zs) = z ∷ pos 1 ∷ corners zs
@@ -73,7 +77,7 @@ table =
     -- B
     ∷ stroke (from (negsuc 4) (pos 5) (pos 5) (negsuc 4)) (kept (over (pos 1) (pos 2)) (over (pos 1) (pos 2)) (pos 0) (pos 0) (pos 0) (pos 0) 2)
     -- C
-    ∷ stroke (from (negsuc 4) (pos 4) (pos 4) (negsuc 4)) (missed 1)
+    ∷ stroke (from (negsuc 4) (pos 4) (pos 4) (negsuc 4)) (missedAfter 1)
     -- D
     ∷ stroke (from (negsuc 0) (pos 24) (pos 11) (negsuc 13)) (kept (over (pos 7) (pos 19)) (over (pos 12) (pos 19)) (pos 3) (pos 10) (pos 7) (pos 0) 4)
     -- E
@@ -81,7 +85,7 @@ table =
     -- F
     ∷ stroke (from (pos 10) (pos 10) (pos 10) (pos 10)) (kept zeroth unit (pos 10) (pos 10) (pos 10) (pos 10) 0)
     -- G
-    ∷ stroke (from (pos 11) (pos 10) (pos 11) (pos 10)) (missed 0)
+    ∷ stroke (from (pos 11) (pos 10) (pos 11) (pos 10)) (missedAfter 0)
     -- H
     ∷ outline (pos 5 ∷ negsuc 1 ∷ pos 12 ∷ pos 5 ∷ pos 5 ∷ pos 12 ∷ negsuc 1 ∷ pos 5 ∷ []) (gave 32)
     (corners (pos 3 ∷ pos 0 ∷ pos 7 ∷ pos 0 ∷ pos 10 ∷ pos 3 ∷ pos 10 ∷ pos 7 ∷ pos 7 ∷ pos 10 ∷ pos 3 ∷ pos 10 ∷ pos 0 ∷ pos 7 ∷ pos 0 ∷ pos 3 ∷ []))

@@ -1,5 +1,5 @@
--- `codes::clipped` meets its contract. The loop's invariant: the piece has the codes of its points, what is decided is their decision, and the rule has reached it (`Reached`) after as many shortenings as are counted.
--- The measure is what is left of four. Assumes nothing.
+-- `codes::clipped` meets its contract: as the loop runs, the piece has the codes of its points, what is decided is their decision,
+-- and the rule has reached it (`Reached`) after as many shortenings as are counted. The measure is what is left of four. Assumes nothing.
 use mathlib.Core.Path.{_≡_, _∙_, sym}
 use Prim.Native.Nat.{_-_}
 use native.Mathlib.Omega.{arith}
@@ -11,13 +11,14 @@ use Rattle.codes.specs.Steps.{decided as Steps·decided}
 use Rattle.codes.specs.Workers.{endCode, PieceOf}
 use Rattle.codes.specs.declared.Piece.{Piece}
 use Rattle.codes.proofs.Decided.{or-keep, and-missed}
-use Rattle.codes.proofs.Pieces.{start-code, end-code, first-ends, whole-kept, small-a, small-b, decided-is, finished-kept, finished-missed}
+use Rattle.codes.proofs.Pieces.{start-code, end-code, whole-part, whole-kept, small-a, small-b, decided-is, finished-kept, finished-missed}
 use Rattle.codes.proofs.Shortenings.{Reached, reached-first, reached-next, reached-less}
 use Rattle.codes.proofs.clipped.Statement.{statement}
 use Rattle.codes.proofs.clipped.Tie as tie
 
 abbrev Inv-loop : tie.InvT-loop
-Inv-loop w s a b p₀ decided₀ shortenings₀ p decided shortenings = PieceOf w s p × ((decided ≡ Steps·decided w s (p .start) (p .end)) × Reached w s (p .start) (p .end) shortenings)
+Inv-loop w s a b p₀ decided₀ shortenings₀ p decided shortenings =
+    PieceOf w s p × ((decided ≡ Steps·decided w s (p .start) (p .end)) × Reached w s (p .start) (p .end) shortenings)
 
 abbrev μ-loop : tie.MeasureT-loop
 μ-loop w s a b p₀ decided₀ shortenings₀ p decided shortenings = 4 - shortenings
@@ -32,7 +33,7 @@ piece c =
     let w = st .args .w in
     let s = st .args .s in
     let on = st .pre .1 in record {
-      ends = first-ends;
+      part = whole-part;
       a = c .before .before .before .end-code .ensures ∙ (λ i. endCode w (read-is (on .x1) i) (read-is (on .y1) i)) ∙ start-code w s;
       b = c .end-code2 .ensures ∙ (λ i. endCode w (read-is (on .x2) i) (read-is (on .y2) i)) ∙ end-code w s;
     }
@@ -49,7 +50,7 @@ whole-requires c κs = search needs
 returns : tie.Need-returns Inv-loop μ-loop
 returns c =
     let q = piece (c .before .before) in
-    finished-kept reached-first first-ends (sym (decided-is q) ∙ or-keep (small-a q) (small-b q) (c .before .if1 .taken)) (whole-kept (c .whole .ensures))
+    finished-kept reached-first whole-part (sym (decided-is q) ∙ or-keep (small-a q) (small-b q) (c .before .if1 .taken)) (whole-kept (c .whole .ensures))
 
 missed-requires : tie.Need-missed-requires Inv-loop μ-loop
 missed-requires c κs = tt
@@ -86,12 +87,12 @@ loop-again c =
     (h .piece, (c .decision2 .ensures ∙ decided-is (h .piece), reached-next (c .before .before .before .loop .inv .1 .1) (h .step)))
 
 kept-requires : tie.Need-kept-requires Inv-loop μ-loop
-kept-requires c κs = (c .before .before .before .before .before .before .before .before .before .before .before .before .pre .1, c .before .before .loop .inv .0 .ends)
+kept-requires c κs = (c .before .before .before .before .before .before .before .before .before .before .before .before .pre .1, c .before .before .loop .inv .0 .part)
 
 returns-3 : tie.Need-returns-3 Inv-loop μ-loop
 returns-3 c =
     let i = c .before .before .before .loop .inv in
-    finished-kept (i .1 .1) (i .0 .ends) (sym (i .1 .0) ∙ c .before .if3 .taken) (c .kept .ensures)
+    finished-kept (i .1 .1) (i .0 .part) (sym (i .1 .0) ∙ c .before .if3 .taken) (c .kept .ensures)
 
 missed-requires-2 : tie.Need-missed-requires-2 Inv-loop μ-loop
 missed-requires-2 c κs = tt

@@ -27,7 +27,8 @@ returns c =
     let a = c .before .before .before .before .before .before .before .before .before .before in
     let w = a .pre .0 in
     let s = a .pre .1 .0 in
-    let across = c .before .before .before .before .before .outside .ensures ∙ (λ i. outsideOf (read-is (w .left) i) (read-is (w .right) i) (read-is (s .x1) i) (read-is (s .x2) i) (a .args .t) 1 2) in
+    let across = c .before .before .before .before .before .outside .ensures
+    ∙ (λ i. outsideOf (read-is (w .left) i) (read-is (w .right) i) (read-is (s .x1) i) (read-is (s .x2) i) (a .args .t) 1 2) in
     let up = c .outside2 .ensures ∙ (λ i. outsideOf (read-is (w .bottom) i) (read-is (w .top) i) (read-is (s .y1) i) (read-is (s .y2) i) (a .args .t) 4 8) in
     λ i. bitOr (across i) (up i)
 

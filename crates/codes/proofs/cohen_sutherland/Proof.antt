@@ -13,7 +13,8 @@ use Rattle.codes.specs.declared.CountedAnswer.{CountedAnswer}
 use Rattle.codes.proofs.cohen_sutherland.Statement.{statement}
 use Rattle.codes.proofs.cohen_sutherland.Tie as tie
 
-refused : {w : Window} {s : Stroke} {r : Refusal} {q : CountedAnswer} → (strokeCallRefusal w s .number ≡ 0 → ⊥) → Clipping w s (blank r) → q ≡ record { answer = blank r; shortenings = 0 } → CohenSutherland w s q
+refused : {w : Window} {s : Stroke} {r : Refusal} {q : CountedAnswer} → (strokeCallRefusal w s .number ≡ 0 → ⊥) → Clipping w s (blank r)
+    → q ≡ record { answer = blank r; shortenings = 0 } → CohenSutherland w s q
 refused {w} {s} n p e = subst (CohenSutherland w s) (sym e) (record { clipping = p; refused = λ _. refl; done = λ z. absurd (n z) })
 
 abbrev counted : Refusal → CountedAnswer
@@ -52,7 +53,8 @@ refused-requires-2 c κs = search needs
 returns-2 : tie.Need-returns-2
 returns-2 c =
     let n = stroke-bad (c .before) in
-    refused (λ z. n (nothing-refused _ _ z .1)) (refused-stroke (window-good (c .before .before .before .before)) n) (c .refused2 .ensures ∙ ap counted (c .before .before .before .stroke-refusal .ensures))
+    refused (λ z. n (nothing-refused _ _ z .1)) (refused-stroke (window-good (c .before .before .before .before)) n)
+    (c .refused2 .ensures ∙ ap counted (c .before .before .before .stroke-refusal .ensures))
 
 clipped-requires : tie.Need-clipped-requires
 clipped-requires c κs = (window-on-table _ (window-good (c .before .before .before)), stroke-on-table _ (stroke-good c))

@@ -94,7 +94,8 @@ returns-3 c =
     let a = c .before .before .before .before .before .before .before .before .before .before .before .before .before .before .before .before in
     let s = a .pre .0 in
     let k = c .before .before .before in
-    subst₂ (λ (x y : ℤ). EndAt (a .args .s) (a .args .t) (record { t = a .args .t; x = x; y = y })) (sym (back w32 _ (k .rounded .ok))) (sym (back w32 _ (c .rounded2 .ok)))
+    subst₂ (λ (x y : ℤ). EndAt (a .args .s) (a .args .t) (record { t = a .args .t; x = x; y = y })) (sym (back w32 _ (k .rounded .ok)))
+    (sym (back w32 _ (c .rounded2 .ok)))
     (record { t = refl; point = record { across = plain a (s .x1) (s .x2) (k .rounded .ensures); up = plain a (s .y1) (s .y2) (c .rounded2 .ensures) } })
 
 pub end-at-spec : {M : Type 1} → statement M

@@ -20,7 +20,8 @@ returns c =
     let st = c .before .before .before .before .before .before in
     let w = st .args .w in
     let g = c .before .before .before .before .before .struct-told .given in
-    let across = c .before .before .before .marks .ensures ∙ (λ i. marksOf (back w32 (w .left) (g .0 .1) i) (back w32 (w .right) (g .1 .1 .0 .1) i) (toZ-ofZ (st .fits .x) i) 1 2) in
+    let across = c .before .before .before .marks .ensures
+    ∙ (λ i. marksOf (back w32 (w .left) (g .0 .1) i) (back w32 (w .right) (g .1 .1 .0 .1) i) (toZ-ofZ (st .fits .x) i) 1 2) in
     let up = c .marks2 .ensures ∙ (λ i. marksOf (back w32 (w .bottom) (g .1 .0 .1) i) (back w32 (w .top) (g .1 .1 .1 .0 .1) i) (toZ-ofZ (st .fits .y) i) 4 8) in
     λ i. bitOr (across i) (up i)
 

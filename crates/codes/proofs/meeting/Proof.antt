@@ -9,7 +9,7 @@ use Rattle.whole.proofs.Expressions.{Env}
 use Rattle.whole.proofs.Machine.{Code, par, lit, sub, cast, need, value}
 use Rattle.whole.proofs.Ranges.{Bounds}
 use Rattle.grid.specs.Table.{farthest}
-use Rattle.codes.specs.Workers.{Meeting}
+use Rattle.codes.specs.Workers.{WayMeets}
 use Rattle.codes.proofs.Crossings.{meets-on, meets-back}
 use Rattle.codes.proofs.meeting.Statement.{statement}
 use Rattle.codes.proofs.meeting.Tie as tie
@@ -55,14 +55,14 @@ returns : tie.Need-returns
 returns c =
     let a = c .before in
     let v = value β (env a) (bounds a) in
-    subst (Meeting (a .args .c) (a .args .a) (a .args .b)) (sym (λ i. record { num = v (minus 0) tt i; den = v (minus 2) tt i }))
+    subst (WayMeets (a .args .c) (a .args .a) (a .args .b)) (sym (λ i. record { num = v (minus 0) tt i; den = v (minus 2) tt i }))
     (meets-back (a .pre .0) (a .pre .1 .0) (a .pre .1 .1 .0) (lt-yes (v (wide 2) tt) refl (c .if1 .taken)))
 
 returns-2 : tie.Need-returns-2
 returns-2 c =
     let a = c .before in
     let v = value β (env a) (bounds a) in
-    subst (Meeting (a .args .c) (a .args .a) (a .args .b)) (sym (λ i. record { num = v (wide 0) tt i; den = v (wide 2) tt i }))
+    subst (WayMeets (a .args .c) (a .args .a) (a .args .b)) (sym (λ i. record { num = v (wide 0) tt i; den = v (wide 2) tt i }))
     (meets-on (a .pre .0) (a .pre .1 .0) (a .pre .1 .1 .0) (lt-no (v (wide 2) tt) refl (c .if1 .left)) (a .pre .1 .1 .1))
 
 pub meeting-spec : {M : Type 1} → statement M

@@ -1,4 +1,4 @@
--- `codes::outside` meets its contract: the numbers are small, so what the machine computes is what is meant, and each bit is the test of a difference's sign. Assumes nothing.
+-- `codes::outside` meets its contract: the numbers are small, so the machine computes what is meant, and each bit is the test of a difference's sign. Assumes nothing.
 use mathlib.Core.Path.{_≡_, ap, _∙_}
 use mathlib.Core.Bool.{Bool}
 use mathlib.Core.List.{List, [], _∷_}
@@ -81,7 +81,8 @@ mark-requires-2 : tie.Need-mark-requires-2
 mark-requires-2 c κs = search needs
 
 -- the test that the code makes, as the sign of a difference
-tested : (c : tie.Start) (k l : Code) → T (ok β k) → T (ok β l) → ltZ (machine (env c) k) (machine (env c) l) ≡ ltZ (pos 0) (means (env c) (erase l) -ℤ means (env c) (erase k))
+tested : (c : tie.Start) (k l : Code) → T (ok β k) → T (ok β l)
+    → ltZ (machine (env c) k) (machine (env c) l) ≡ ltZ (pos 0) (means (env c) (erase l) -ℤ means (env c) (erase k))
 tested c k l s t = (λ i. ltZ (value β (env c) (bounds c) k s i) (value β (env c) (bounds c) l t i)) ∙ diff-test (means (env c) (erase k)) (means (env c) (erase l))
 
 marked : (n : ℕ) {m : ℕ} {t u : Bool} → m ≡ (if t then n else 0) → t ≡ u → m ≡ (if u then n else 0)
@@ -90,7 +91,8 @@ marked n p q = p ∙ ap (λ (b : Bool). if b then n else 0) q
 returns : tie.Need-returns
 returns c =
     let a = c .before .before .before .before .before .before .before .before .before .before in
-    λ i. bitOr (marked (a .args .under) (c .before .before .before .mark .ensures) (tested a x (times 0) tt tt) i) (marked (a .args .over) (c .mark2 .ensures) (tested a (times 1) x tt tt) i)
+    λ i. bitOr (marked (a .args .under) (c .before .before .before .mark .ensures) (tested a x (times 0) tt tt) i)
+    (marked (a .args .over) (c .mark2 .ensures) (tested a (times 1) x tt tt) i)
 
 pub outside-spec : {M : Type 1} → statement M
 outside-spec = tie.close (tie.spec cast-x mul-x sub-x cast-x-2 mul-x-2 add-x cast-mark mul-mark mark-requires cast-mark-2 mul-mark-2 mark-requires-2 returns)

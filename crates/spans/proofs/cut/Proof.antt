@@ -74,7 +74,8 @@ less-requires c κs =
     subst (Comparable (s .args .s .first)) (comes-in s) (comparable (z .n0) (z .d0) (minus-within (s .pre .1 .0)) (minus-within (s .pre .0)))
 
 -- the answer of `less`, of the fractions that are meant
-later : (c : tie.After-less) {b : Bool} → c .less .result ≡ b → lessThan (c .before .before .before .before .before .args .s .first) (in-at (c .before .before .before .before .before)) ≡ b
+later : (c : tie.After-less) {b : Bool} → c .less .result ≡ b
+    → lessThan (c .before .before .before .before .before .args .s .first) (in-at (c .before .before .before .before .before)) ≡ b
 later c e = let s = c .before .before .before .before .before in ap (lessThan (s .args .s .first)) (comes-in s) ∙ sym (c .less .ensures) ∙ e
 
 returns : tie.Need-returns
@@ -102,7 +103,8 @@ less-requires-2 c κs =
     let z = s .pre .1 .1 .1 in
     subst (λ (g : Fraction). Comparable g (s .args .s .last)) (goes-out s) (comparable (s .pre .1 .0) (s .pre .0) (z .n1) (z .d1))
 
-sooner : (c : tie.After-less2) {b : Bool} → c .less2 .result ≡ b → lessThan (out-at (c .before .before .before .before .before)) (c .before .before .before .before .before .args .s .last) ≡ b
+sooner : (c : tie.After-less2) {b : Bool} → c .less2 .result ≡ b
+    → lessThan (out-at (c .before .before .before .before .before)) (c .before .before .before .before .before .args .s .last) ≡ b
 sooner c e = let s = c .before .before .before .before .before in ap (λ (g : Fraction). lessThan g (s .args .s .last)) (goes-out s) ∙ sym (c .less2 .ensures) ∙ e
 
 returns-4 : tie.Need-returns-4
@@ -111,7 +113,8 @@ returns-4 c =
     let s = t .before .before .before .before in
     let f = s .args .s in
     subst (λ (g : Fraction). SpanCut (s .args .p) (s .args .q) f (record { first = f .first; last = g })) (goes-out s)
-    (leaves-sooner (s .args .p) (s .args .q) f (s .pre .1 .1 .0) (q-not-below (t .before)) (p-above t) (less-taken (out-at s) (f .last) (sooner (c .before) (c .if5 .taken))))
+    (leaves-sooner (s .args .p) (s .args .q) f (s .pre .1 .1 .0) (q-not-below (t .before)) (p-above t)
+    (less-taken (out-at s) (f .last) (sooner (c .before) (c .if5 .taken))))
 
 returns-5 : tie.Need-returns-5
 returns-5 c =

@@ -53,7 +53,8 @@ lowest-small-requires : tie.Need-lowest-small-requires
 lowest-small-requires c κs = let s = c .before .before .before .before .before .before .before .before .before .before in omega (zarith, den-is s, s .pre .0 .den)
 
 returns-3 : tie.Need-returns-3
-returns-3 c = let s = c .before .before .before .before .before .before .before .before .before .before .before in subst₂ (λ (n d : ℤ). LowestOf n d (c .lowest-small .result)) (num-is s) (den-is s) (c .lowest-small .ensures)
+returns-3 c = let s = c .before .before .before .before .before .before .before .before .before .before .before in
+    subst₂ (λ (n d : ℤ). LowestOf n d (c .lowest-small .result)) (num-is s) (den-is s) (c .lowest-small .ensures)
 
 pub lowest-part-spec : {M : Type 1} → statement M
 lowest-part-spec = tie.close (tie.spec returns returns-2 cast-lowest-small cast-lowest-small-2 lowest-small-requires returns-3)

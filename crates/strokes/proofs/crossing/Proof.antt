@@ -13,17 +13,22 @@ passage-requires : tie.Need-passage-requires
 passage-requires c κs = let p = c .before .before .before .before .pre in passage-asks (p .0 .left) (p .0 .right) (p .1 .0 .x1) (p .1 .0 .x2) (p .0 .wide) (p .1 .1 .x)
 
 passage-requires-2 : tie.Need-passage-requires-2
-passage-requires-2 c κs = let p = c .before .before .before .before .before .before .before .before .before .pre in passage-asks (p .0 .bottom) (p .0 .top) (p .1 .0 .y1) (p .1 .0 .y2) (p .0 .tall) (p .1 .1 .y)
+passage-requires-2 c κs = let p = c .before .before .before .before .before .before .before .before .before .pre in
+    passage-asks (p .0 .bottom) (p .0 .top) (p .1 .0 .y1) (p .1 .0 .y2) (p .0 .tall) (p .1 .1 .y)
 
 -- the two ways
-way-x : (c : tie.After-passage2) → let a = c .before .before .before .before .before .before .before .before .before .before .args in WayOf (a .w .left) (a .w .right) (a .s .x1) (a .s .x2) (c .before .before .before .before .before .passage .result)
-way-x c = let p = c .before .before .before .before .before .before .before .before .before .before .pre in way-plain (p .0 .left) (p .0 .right) (p .1 .0 .x1) (p .1 .0 .x2) (c .before .before .before .before .before .passage .ensures)
+way-x : (c : tie.After-passage2) → let a = c .before .before .before .before .before .before .before .before .before .before .args in
+    WayOf (a .w .left) (a .w .right) (a .s .x1) (a .s .x2) (c .before .before .before .before .before .passage .result)
+way-x c = let p = c .before .before .before .before .before .before .before .before .before .before .pre in
+    way-plain (p .0 .left) (p .0 .right) (p .1 .0 .x1) (p .1 .0 .x2) (c .before .before .before .before .before .passage .ensures)
 
-way-y : (c : tie.After-passage2) → let a = c .before .before .before .before .before .before .before .before .before .before .args in WayOf (a .w .bottom) (a .w .top) (a .s .y1) (a .s .y2) (c .passage2 .result)
-way-y c = let p = c .before .before .before .before .before .before .before .before .before .before .pre in way-plain (p .0 .bottom) (p .0 .top) (p .1 .0 .y1) (p .1 .0 .y2) (c .passage2 .ensures)
+way-y : (c : tie.After-passage2) → let a = c .before .before .before .before .before .before .before .before .before .before .args in
+    WayOf (a .w .bottom) (a .w .top) (a .s .y1) (a .s .y2) (c .passage2 .result)
+way-y c = let p = c .before .before .before .before .before .before .before .before .before .before .pre in
+    way-plain (p .0 .bottom) (p .0 .top) (p .1 .0 .y1) (p .1 .0 .y2) (c .passage2 .ensures)
 
 apart-requires : tie.Need-apart-requires
-apart-requires c κs = (way-x c .way .short, way-y c .way .short)
+apart-requires c κs = (way-x c .way .proper, way-y c .way .proper)
 
 blank-requires : tie.Need-blank-requires
 blank-requires c κs = search needs
@@ -35,10 +40,12 @@ returns c =
     subst (Clipped (a .w) (a .s)) (sym (c .blank .ensures)) (nothing-kept (none-kept (way-x k) (way-y k) (c .before .before .apart .ensures .0 (c .before .if1 .taken))))
 
 start-requires : tie.Need-start-requires
-start-requires c κs = let k = c .before .before in (k .before .before .before .before .before .before .before .before .before .before .pre .1 .0, (way-x k .way, way-y k .way))
+start-requires c κs = let k = c .before .before in
+    (k .before .before .before .before .before .before .before .before .before .before .pre .1 .0, (way-x k .way, way-y k .way))
 
 finish-requires : tie.Need-finish-requires
-finish-requires c κs = let k = c .before .before .before in (k .before .before .before .before .before .before .before .before .before .before .pre .1 .0, (way-x k .way, way-y k .way))
+finish-requires c κs = let k = c .before .before .before in
+    (k .before .before .before .before .before .before .before .before .before .before .pre .1 .0, (way-x k .way, way-y k .way))
 
 kept-answer-requires : tie.Need-kept-answer-requires
 kept-answer-requires c κs = (c .before .start .ensures .way, c .finish .ensures .way)
@@ -54,7 +61,8 @@ returns-2 c =
     let f = way-x k in
     let g = way-y k in
     subst (Clipped w s) (sym (r .answer))
-    (span-kept (ends-span f g p q) (ends-meet f g p q (c .before .before .before .before .apart .ensures .1 (c .before .before .before .if1 .left))) (c .before .before .start .result) (c .before .finish .result) (p .point) (q .point) (r .first) (r .last))
+    (span-kept (ends-span f g p q) (ends-meet f g p q (c .before .before .before .before .apart .ensures .1 (c .before .before .before .if1 .left)))
+    (c .before .before .start .result) (c .before .finish .result) (p .point) (q .point) (r .first) (r .last))
 
 pub crossing-spec : {M : Type 1} → statement M
 crossing-spec =

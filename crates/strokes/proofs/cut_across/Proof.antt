@@ -16,17 +16,22 @@ passage-requires : tie.Need-passage-requires
 passage-requires c κs = let p = c .before .before .before .before .pre in passage-asks (p .0 .left) (p .0 .right) (p .1 .0 .x1) (p .1 .0 .x2) (p .0 .wide) (p .1 .1 .x)
 
 passage-requires-2 : tie.Need-passage-requires-2
-passage-requires-2 c κs = let p = c .before .before .before .before .before .before .before .before .before .pre in passage-asks (p .0 .bottom) (p .0 .top) (p .1 .0 .y1) (p .1 .0 .y2) (p .0 .tall) (p .1 .1 .y)
+passage-requires-2 c κs = let p = c .before .before .before .before .before .before .before .before .before .pre in
+    passage-asks (p .0 .bottom) (p .0 .top) (p .1 .0 .y1) (p .1 .0 .y2) (p .0 .tall) (p .1 .1 .y)
 
 -- the two ways
-way-x : (c : tie.After-passage2) → let a = c .before .before .before .before .before .before .before .before .before .before .args in WayOf (a .w .left) (a .w .right) (a .s .x1) (a .s .x2) (c .before .before .before .before .before .passage .result)
-way-x c = let p = c .before .before .before .before .before .before .before .before .before .before .pre in way-plain (p .0 .left) (p .0 .right) (p .1 .0 .x1) (p .1 .0 .x2) (c .before .before .before .before .before .passage .ensures)
+way-x : (c : tie.After-passage2) → let a = c .before .before .before .before .before .before .before .before .before .before .args in
+    WayOf (a .w .left) (a .w .right) (a .s .x1) (a .s .x2) (c .before .before .before .before .before .passage .result)
+way-x c = let p = c .before .before .before .before .before .before .before .before .before .before .pre in
+    way-plain (p .0 .left) (p .0 .right) (p .1 .0 .x1) (p .1 .0 .x2) (c .before .before .before .before .before .passage .ensures)
 
-way-y : (c : tie.After-passage2) → let a = c .before .before .before .before .before .before .before .before .before .before .args in WayOf (a .w .bottom) (a .w .top) (a .s .y1) (a .s .y2) (c .passage2 .result)
-way-y c = let p = c .before .before .before .before .before .before .before .before .before .before .pre in way-plain (p .0 .bottom) (p .0 .top) (p .1 .0 .y1) (p .1 .0 .y2) (c .passage2 .ensures)
+way-y : (c : tie.After-passage2) → let a = c .before .before .before .before .before .before .before .before .before .before .args in
+    WayOf (a .w .bottom) (a .w .top) (a .s .y1) (a .s .y2) (c .passage2 .result)
+way-y c = let p = c .before .before .before .before .before .before .before .before .before .before .pre in
+    way-plain (p .0 .bottom) (p .0 .top) (p .1 .0 .y1) (p .1 .0 .y2) (c .passage2 .ensures)
 
 apart-requires : tie.Need-apart-requires
-apart-requires c κs = (way-x c .way .short, way-y c .way .short)
+apart-requires c κs = (way-x c .way .proper, way-y c .way .proper)
 
 missed-requires : tie.Need-missed-requires
 missed-requires c κs = search needs
@@ -38,10 +43,12 @@ returns c =
     subst (CutIs (a .w) (a .s)) (sym (c .missed .ensures)) (cut-missed (none-kept (way-x k) (way-y k) (c .before .before .apart .ensures .0 (c .before .if1 .taken))))
 
 start-requires : tie.Need-start-requires
-start-requires c κs = let k = c .before .before in (k .before .before .before .before .before .before .before .before .before .before .pre .1 .0, (way-x k .way, way-y k .way))
+start-requires c κs = let k = c .before .before in
+    (k .before .before .before .before .before .before .before .before .before .before .pre .1 .0, (way-x k .way, way-y k .way))
 
 finish-requires : tie.Need-finish-requires
-finish-requires c κs = let k = c .before .before .before in (k .before .before .before .before .before .before .before .before .before .before .pre .1 .0, (way-x k .way, way-y k .way))
+finish-requires c κs = let k = c .before .before .before in
+    (k .before .before .before .before .before .before .before .before .before .before .pre .1 .0, (way-x k .way, way-y k .way))
 
 returns-2 : tie.Need-returns-2
 returns-2 c =
@@ -60,7 +67,9 @@ returns-2 c =
     let by = sym (back w32 (b .y) (c .struct-told10 .given .1 .1 .0 .1)) in
     transport (λ i. CutIs w s (record { kept = true; ax = ax i; ay = ay i; bx = bx i; by = by i }))
     (cut-kept refl
-    (span-kept (ends-span f g p q) (ends-meet f g p q (c .before .before .before .before .before .apart .ensures .1 (c .before .before .before .before .if1 .left))) a b (p .point) (q .point) (lowestOf-is _ (p .way .time .den)) (lowestOf-is _ (q .way .time .den))))
+    (span-kept (ends-span f g p q)
+    (ends-meet f g p q (c .before .before .before .before .before .apart .ensures .1 (c .before .before .before .before .if1 .left))) a b (p .point) (q .point)
+    (lowestOf-is _ (p .way .time .den)) (lowestOf-is _ (q .way .time .den))))
 
 pub cut-across-spec : {M : Type 1} → statement M
 cut-across-spec = tie.close (tie.spec passage-requires passage-requires-2 apart-requires missed-requires returns start-requires finish-requires returns-2)

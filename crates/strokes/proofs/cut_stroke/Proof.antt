@@ -15,7 +15,8 @@ whole-stroke-requires c κs = search needs
 returns : tie.Need-returns
 returns c =
     let a = c .before .before .before .args in
-    subst (CutIs (a .w) (a .s)) (sym (c .whole-stroke .ensures)) (cut-kept refl (whole-answer (inside-always (c .before .before .inside .ensures (c .before .if1 .taken)))))
+    subst (CutIs (a .w) (a .s)) (sym (c .whole-stroke .ensures))
+    (cut-kept refl (whole-answer (inside-always (c .before .before .inside .ensures (c .before .if1 .taken)))))
 
 outside-requires : tie.Need-outside-requires
 outside-requires c κs = search needs

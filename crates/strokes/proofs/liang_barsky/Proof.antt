@@ -70,7 +70,8 @@ returns-4 c =
     let k = c .before .before .before in
     let l = k .before .before .before .before .before in
     let a = l .before .before .before .args in
-    done-stroke (window-done l) (stroke-done k) (subst (Clipped (a .w) (a .s)) (sym (c .blank3 .ensures)) (nothing-kept (c .before .before .outside .ensures .0 (c .before .if4 .taken))))
+    done-stroke (window-done l) (stroke-done k)
+    (subst (Clipped (a .w) (a .s)) (sym (c .blank3 .ensures)) (nothing-kept (c .before .before .outside .ensures .0 (c .before .if4 .taken))))
 
 crossing-requires : tie.Need-crossing-requires
 crossing-requires c κs =

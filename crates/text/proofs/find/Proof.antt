@@ -24,7 +24,8 @@ shared-slice-read-if1 : tie.Need-shared-slice-read-if1 Inv-loop μ-loop
 shared-slice-read-if1 c = search needs
 
 returns : tie.Need-returns Inv-loop μ-loop
-returns c = let l = c .before .before .before in (run-here _ _ _ (l .loop .inv .1) (c .before .before .loop-test .taken) (ap not (eq-eqb _ _ (c .if1 .taken))), l .loop .inv .0)
+returns c = let l = c .before .before .before in
+    (run-here _ _ _ (l .loop .inv .1) (c .before .before .loop-test .taken) (ap not (eq-eqb _ _ (c .if1 .taken))), l .loop .inv .0)
 
 add-i : tie.Need-add-i Inv-loop μ-loop
 add-i c = omega arith
@@ -33,7 +34,8 @@ loop-less : tie.Need-loop-less Inv-loop μ-loop
 loop-less c = omega arith
 
 loop-again : tie.Need-loop-again Inv-loop μ-loop
-loop-again c = let l = c .before .before .before in (omega arith, run-more _ _ _ (l .loop .inv .1) (c .before .before .loop-test .taken) (ap not (ne-eqb _ _ (c .if1 .left))))
+loop-again c = let l = c .before .before .before in
+    (omega arith, run-more _ _ _ (l .loop .inv .1) (c .before .before .loop-test .taken) (ap not (ne-eqb _ _ (c .if1 .left))))
 
 returns-2 : tie.Need-returns-2 Inv-loop μ-loop
 returns-2 c = (run-end _ _ _ (c .before .loop .inv .1) (c .loop-test .left), c .before .loop .inv .0)

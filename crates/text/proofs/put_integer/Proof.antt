@@ -30,8 +30,11 @@ same-length c = c .before .before .put-natural .ensures .0 .same ∙ simp length
 returns : tie.Need-returns
 returns c =
     let s = c .before .before .before .before .before .before .before in
-    let p = c .before .before .put-natural .ensures in
-    (negative (s .args .z) (simp (toZ-ofZ (s .fits .z)) at (c .before .before .before .before .if1 .taken)) (size-is (c .before .before .before .before .before)) (omega arith) (p .0), omega (arith, p .1))
+    let p = c .before .before .put-natural .ensures in (
+      negative (s .args .z) (simp (toZ-ofZ (s .fits .z)) at (c .before .before .before .before .if1 .taken)) (size-is (c .before .before .before .before .before))
+          (omega arith) (p .0),
+      omega (arith, p .1),
+    )
 
 put-natural-requires-2 : tie.Need-put-natural-requires-2
 put-natural-requires-2 c κs = search needs
@@ -42,8 +45,11 @@ same-length-2 c = search needs
 returns-2 : tie.Need-returns-2
 returns-2 c =
     let s = c .before .before .before .before .before .before .before in
-    let p = c .before .before .put-natural2 .ensures in
-    (positive (s .args .z) (simp (toZ-ofZ (s .fits .z)) at (c .before .before .before .before .if1 .left)) (size-is (c .before .before .before .before .before)) (p .0), omega (arith, p .1))
+    let p = c .before .before .put-natural2 .ensures in (
+      positive (s .args .z) (simp (toZ-ofZ (s .fits .z)) at (c .before .before .before .before .if1 .left)) (size-is (c .before .before .before .before .before))
+          (p .0),
+      omega (arith, p .1),
+    )
 
 pub put-integer-spec : {M : Type 1} → statement M
 put-integer-spec =

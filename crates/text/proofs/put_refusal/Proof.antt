@@ -34,11 +34,15 @@ words : (n p : List ℕ) (b : ℕ) → ascii "refused " ++ ((n ++ 32 ∷ []) ++ 
 words n p b = simp append-assoc
 
 returns : tie.Need-returns
-returns c = let p = c .before .before .before .before .before .before .before .before .before .before .before .before .before .before .before .put .ensures in
-    let q = c .before .before .before .before .before .before .before .before .before .before .before .put-count .ensures in
-    let r = c .before .before .before .before .before .before .put2 .ensures in
-    let s = c .before .before .put-count2 .ensures in
-    let a = c .before .before .before .before .before .before .before .before .before .before .before .before .before .before .before .before .before .before .before .args in (
+returns c =
+    let third = c .before .before .before .before .before .before in
+    let second = third .before .before .before .before .before in
+    let first = second .before .before .before .before in
+    let a = first .before .before .before .before .args in
+    let p = first .put .ensures in
+    let q = second .put-count .ensures in
+    let r = third .put2 .ensures in
+    let s = c .before .before .put-count2 .ensures in (
       subst (Put _ _ _ _) (words (natural (a .number)) (natural (a .place)) (a .last)) (put-then p (put-then (q .0) (put-then r (s .0)))),
       omega (arith, p .ends, q .1, r .ends, s .1),
     )

@@ -22,7 +22,8 @@ returns-2 c = let b = c .before .before .before .before .args .b in simp (above 
 
 returns-3 : tie.Need-returns-3
 unfolding digitOf
-returns-3 c = let b = c .before .before .before .before .before .before .args .b in simp (above 48 57 b (omega arith) (omega arith), above 65 70 b (omega arith) (omega arith), inside 97 102 b (omega arith) (omega arith))
+returns-3 c = let b = c .before .before .before .before .before .before .args .b in
+    simp (above 48 57 b (omega arith) (omega arith), above 65 70 b (omega arith) (omega arith), inside 97 102 b (omega arith) (omega arith))
 
 returns-4 : tie.Need-returns-4
 unfolding digitOf
@@ -34,11 +35,13 @@ returns-5 c = let b = c .before .before .before .args .b in simp (above 48 57 b 
 
 returns-6 : tie.Need-returns-6
 unfolding digitOf
-returns-6 c = let b = c .before .before .before .before .before .args .b in simp (above 48 57 b (omega arith) (omega arith), above 65 70 b (omega arith) (omega arith), below 97 102 b (omega arith))
+returns-6 c = let b = c .before .before .before .before .before .args .b in
+    simp (above 48 57 b (omega arith) (omega arith), above 65 70 b (omega arith) (omega arith), below 97 102 b (omega arith))
 
 returns-7 : tie.Need-returns-7
 unfolding digitOf
-returns-7 c = let b = c .before .before .before .before .before .before .args .b in simp (above 48 57 b (omega arith) (omega arith), above 65 70 b (omega arith) (omega arith), above 97 102 b (omega arith) (omega arith))
+returns-7 c = let b = c .before .before .before .before .before .before .args .b in
+    simp (above 48 57 b (omega arith) (omega arith), above 65 70 b (omega arith) (omega arith), above 97 102 b (omega arith) (omega arith))
 
 pub digit-spec : {M : Type 1} → statement M
 digit-spec =

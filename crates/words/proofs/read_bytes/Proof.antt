@@ -23,11 +23,18 @@ unread-requires-2 c κs = search needs
 
 returns-2 : tie.Need-returns-2
 unfolding bytes
-returns-2 c = rw (c .unread2 .ensures) (no-list _ _ (simp (ne-eqb _ _ (c .before .before .before .before .if1 .left), sym (c .before .before .before .has-minus .ensures) ∙ c .before .before .if2 .taken, ne-eqb _ _ (c .before .if3 .taken))))
+returns-2 c = rw (c .unread2 .ensures)
+    (no-list _ _ (simp (
+      ne-eqb _ _ (c .before .before .before .before .if1 .left),
+      sym (c .before .before .before .has-minus .ensures)
+          ∙ c .before .before .if2 .taken,
+      ne-eqb _ _ (c .before .if3 .taken),
+    )))
 
 returns-3 : tie.Need-returns-3
 unfolding bytes
-returns-3 c = all-read _ _ 0 zero-le (simp (ne-eqb _ _ (c .before .before .before .if1 .left), sym (c .before .before .has-minus .ensures) ∙ c .before .if2 .taken, eq-eqb _ _ (c .if3 .left)))
+returns-3 c = all-read _ _ 0 zero-le
+    (simp (ne-eqb _ _ (c .before .before .before .if1 .left), sym (c .before .before .has-minus .ensures) ∙ c .before .if2 .taken, eq-eqb _ _ (c .if3 .left)))
 
 read-pairs-requires : tie.Need-read-pairs-requires
 read-pairs-requires c κs = search needs
@@ -37,7 +44,11 @@ same-length c = search needs
 
 returns-4 : tie.Need-returns-4
 unfolding bytes
-returns-4 c = simp (ne-eqb _ _ (c .before .before .before .before .before .before .if1 .left), sym (c .before .before .before .before .before .has-minus .ensures) ∙ c .before .before .before .before .if2 .left) (c .before .before .read-pairs .ensures)
+returns-4 c = simp (
+  ne-eqb _ _ (c .before .before .before .before .before .before .if1 .left),
+  sym (c .before .before .before .before .before .has-minus .ensures)
+      ∙ c .before .before .before .before .if2 .left,
+) (c .before .before .read-pairs .ensures)
 
 pub read-bytes-spec : {M : Type 1} → statement M
 read-bytes-spec =

@@ -8,8 +8,8 @@ use denote.Ref.{now}
 use borrow.Rule.Slice.PartAt.{part-to-end}
 use mir.Syntax.{w32}
 use mir.Facts.{toZ-ofZ, toZ-pos}
-use Rattle.words.specs.Digits.{value}
-use Rattle.words.specs.Words.{upTo, hasMinus, numeral, integer}
+use Rattle.words.specs.Digits.{wordValue}
+use Rattle.words.specs.Words.{upTo, hasMinus, numeral, asInteger}
 use Rattle.words.proofs.Numerals.{minus-long, up-to-is, minus, plus, integer-minus, integer-plus}
 use borrow.Author.Needs.{needs}
 use Rattle.words.proofs.read_integer.Statement.{statement}
@@ -21,13 +21,13 @@ has-minus-requires c κs = search needs
 found : (c : tie.Then1) → hasMinus (now (c .before .before .before .args .word)) ≡ true
 found c = sym (c .before .has-minus .ensures) ∙ c .if1 .taken
 
-below : (c : tie.After-read-natural) → integer (numeral (now (c .before .before .before .before .before .args .word))) ≡ minus (c .read-natural .result)
+below : (c : tie.After-read-natural) → asInteger (numeral (now (c .before .before .before .before .before .args .word))) ≡ minus (c .read-natural .result)
 below c =
     let w = now (c .before .before .before .before .before .args .word) in
     integer-minus w (found (c .before .before))
-    ∙ ap minus (sym (c .read-natural .ensures ∙ ap (λ v. upTo (2 ^ 31) (value 10 v)) (part-to-end w 1)))
+    ∙ ap minus (sym (c .read-natural .ensures ∙ ap (λ v. upTo (2 ^ 31) (wordValue 10 v)) (part-to-end w 1)))
 
-above : (c : tie.After-read-natural2) → integer (numeral (now (c .before .before .before .before .args .word))) ≡ plus (c .read-natural2 .result)
+above : (c : tie.After-read-natural2) → asInteger (numeral (now (c .before .before .before .before .args .word))) ≡ plus (c .read-natural2 .result)
 above c =
     integer-plus (now (c .before .before .before .before .args .word)) (sym (c .before .before .has-minus .ensures) ∙ c .before .if1 .left)
     ∙ ap plus (sym (c .read-natural2 .ensures))
@@ -57,7 +57,8 @@ enum-told : tie.Need-enum-told
 enum-told c = search needs
 
 returns : tie.Need-returns
-returns c = rw (toZ-ofZ {w = w32} (record { sfits = c .opposite .ok })) (ap Integer.Is (c .opposite .ensures) ∙ sym (below (c .before .before .before .before) ∙ ap minus (c .before .before .n .given .1)))
+returns c = rw (toZ-ofZ {w = w32} (record { sfits = c .opposite .ok }))
+    (ap Integer.Is (c .opposite .ensures) ∙ sym (below (c .before .before .before .before) ∙ ap minus (c .before .before .n .given .1)))
 
 returns-2 : tie.Need-returns-2
 returns-2 c = sym (below (c .before .before) ∙ ap minus (c .enum-told .given .1))

@@ -7,13 +7,13 @@ use mathlib.Core.Path.{_≡_, sym, subst, ap, _∙_}
 use Prim.Native.Nat.{ℕ, _+_, _*_, _-_, _≤_, _<_}
 use native.Mathlib.Omega.{arith}
 use lib.ListN.{length, drop, drop-of-length-le}
-use Rattle.words.specs.Digits.{value, valueFrom}
+use Rattle.words.specs.Digits.{wordValue, valueFrom}
 use Rattle.words.proofs.Values.{value-is, no-value, one-more, no-digit, too-large, product}
 use Rattle.words.proofs.read_natural.Statement.{statement}
 use Rattle.words.proofs.read_natural.Tie as tie
 
 abbrev Inv-loop : tie.InvT-loop
-Inv-loop word base most n₀ i₀ n i = (i ≤ length word) × (n ≤ most) × (value base word ≡ valueFrom base n (drop i word))
+Inv-loop word base most n₀ i₀ n i = (i ≤ length word) × (n ≤ most) × (wordValue base word ≡ valueFrom base n (drop i word))
 
 abbrev μ-loop : tie.MeasureT-loop
 μ-loop word base most n₀ i₀ n i = length word - i
@@ -23,9 +23,11 @@ unfolding upTo
 returns c = rw (no-value _ _ (c .if1 .taken))
 
 -- one digit more
-step : (c : tie.Else2 Inv-loop μ-loop) → let l = c .before .before .before .before .loop in let a = c .before .before .before .before .before .before .before .args in value (a .base) (now (a .word)) ≡ valueFrom (a .base) (l .n * a .base + c .before .digit .result) (drop (l .i + 1) (now (a .word)))
+step : (c : tie.Else2 Inv-loop μ-loop) → let l = c .before .before .before .before .loop in let a = c .before .before .before .before .before .before .before .args in
+    wordValue (a .base) (now (a .word)) ≡ valueFrom (a .base) (l .n * a .base + c .before .digit .result) (drop (l .i + 1) (now (a .word)))
 step c = let l = c .before .before .before .before .loop in let a = c .before .before .before .before .before .before .before .args in
-    rw (c .before .digit .ensures) (l .inv .2 ∙ one-more (a .base) (l .n) (l .i) (now (a .word)) (omega arith) (subst (λ (d : ℕ). d < a .base) (c .before .digit .ensures) (c .if2 .left)))
+    rw (c .before .digit .ensures)
+    (l .inv .2 ∙ one-more (a .base) (l .n) (l .i) (now (a .word)) (omega arith) (subst (λ (d : ℕ). d < a .base) (c .before .digit .ensures) (c .if2 .left)))
 
 loop-holds : tie.Need-loop-holds Inv-loop μ-loop
 loop-holds c = (search needs, search needs, value-is _ _ (omega arith))
@@ -38,16 +40,23 @@ digit-requires c κs = search needs
 
 returns-2 : tie.Need-returns-2 Inv-loop μ-loop
 unfolding upTo
-returns-2 c = let l = c .before .before .before .before .loop in let a = c .before .before .before .before .before .before .before .args in rw (l .inv .2, no-digit (a .base) (l .n) (l .i) (now (a .word)) (omega arith) (subst (λ (d : ℕ). a .base ≤ d) (c .before .digit .ensures) (c .if2 .taken)))
+returns-2 c = let l = c .before .before .before .before .loop in let a = c .before .before .before .before .before .before .before .args in
+    rw (l .inv .2, no-digit (a .base) (l .n) (l .i) (now (a .word)) (omega arith) (subst (λ (d : ℕ). a .base ≤ d) (c .before .digit .ensures) (c .if2 .taken)))
 
 mul-n : tie.Need-mul-n Inv-loop μ-loop
-mul-n c = record { fits = omega (arith, product (c .before .before .before .before .loop .n) (c .before .before .before .before .before .before .before .args .base) (omega arith) (omega arith)) }
+mul-n c = record {
+  fits = omega
+      (arith, product (c .before .before .before .before .loop .n) (c .before .before .before .before .before .before .before .args .base) (omega arith) (omega arith));
+}
 
 cast-n : tie.Need-cast-n Inv-loop μ-loop
 cast-n c = search needs
 
 add-n : tie.Need-add-n Inv-loop μ-loop
-add-n c = record { fits = omega (arith, product (c .before .before .before .before .loop .n) (c .before .before .before .before .before .before .before .args .base) (omega arith) (omega arith)) }
+add-n c = record {
+  fits = omega
+      (arith, product (c .before .before .before .before .loop .n) (c .before .before .before .before .before .before .before .args .base) (omega arith) (omega arith));
+}
 
 returns-3 : tie.Need-returns-3 Inv-loop μ-loop
 returns-3 c = sym (ap (upTo _) (step (c .before)) ∙ too-large _ _ _ _ (c .if3 .taken))
@@ -63,7 +72,8 @@ loop-again c = (omega arith, omega arith, step (c .before))
 
 returns-4 : tie.Need-returns-4 Inv-loop μ-loop
 unfolding upTo valueFrom
-returns-4 c = let l = c .before .loop in simp (l .inv .2, drop-of-length-le (now (c .before .before .before .before .args .word)) (c .loop-test .left), le-leb (l .n) _ (l .inv .1))
+returns-4 c = let l = c .before .loop in
+    simp (l .inv .2, drop-of-length-le (now (c .before .before .before .before .args .word)) (c .loop-test .left), le-leb (l .n) _ (l .inv .1))
 
 pub read-natural-spec : {M : Type 1} → statement M
 read-natural-spec =

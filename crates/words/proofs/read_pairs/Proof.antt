@@ -24,15 +24,19 @@ abbrev byte : tie.Else3 Inv-loop μ-loop → ℕ
 byte c = c .before .before .before .before .digit .result * 16 + c .before .digit2 .result
 
 abbrev left : tie.Else3 Inv-loop μ-loop → Option (List ℕ)
-left c = pairs (drop (c .before .before .before .before .before .before .before .before .loop .at + 2) (now (c .before .before .before .before .before .before .before .before .before .before .before .args .text)))
+left c = pairs (drop (c .before .before .before .before .before .before .before .before .loop .at + 2)
+    (now (c .before .before .before .before .before .before .before .before .before .before .before .args .text)))
 
 due : (c : tie.Else3 Inv-loop μ-loop) → let l = c .before .before .before .before .before .before .before .before .loop in
-    pairs (now (c .before .before .before .before .before .before .before .before .before .before .before .args .text)) ≡ after (take (l .n) (l .out)) (and (byte c) (left c))
+    pairs (now (c .before .before .before .before .before .before .before .before .before .before .before .args .text))
+    ≡ after (take (l .n) (l .out)) (and (byte c) (left c))
 due c =
     let l = c .before .before .before .before .before .before .before .before .loop in
     let first = c .before .before .before .before .digit .ensures in
     let second = c .before .digit2 .ensures in
-    l .inv .3 ∙ rw (first, second) (ap (after (take (l .n) (l .out))) (pair-more _ (l .at) (omega arith) (subst (λ (d : ℕ). d < 16) first (c .before .before .before .if2 .left)) (subst (λ (d : ℕ). d < 16) second (c .if3 .left))))
+    l .inv .3 ∙ rw (first, second)
+    (ap (after (take (l .n) (l .out)))
+    (pair-more _ (l .at) (omega arith) (subst (λ (d : ℕ). d < 16) first (c .before .before .before .if2 .left)) (subst (λ (d : ℕ). d < 16) second (c .if3 .left))))
 
 loop-holds : tie.Need-loop-holds Inv-loop μ-loop
 loop-holds c = (search needs, search needs, search needs, start (pairs _))
@@ -47,7 +51,8 @@ same-length : tie.Need-same-length Inv-loop μ-loop
 same-length c = search needs
 
 returns : tie.Need-returns Inv-loop μ-loop
-returns c = let l = c .before .before .before .loop in rw (c .unread .ensures) (no-list _ (l .out) (l .inv .3 ∙ ap (after (take (l .n) (l .out))) (half-pair _ (l .at) (omega arith))))
+returns c = let l = c .before .before .before .loop in
+    rw (c .unread .ensures) (no-list _ (l .out) (l .inv .3 ∙ ap (after (take (l .n) (l .out))) (half-pair _ (l .at) (omega arith))))
 
 shared-slice-read-digit : tie.Need-shared-slice-read-digit Inv-loop μ-loop
 shared-slice-read-digit c = search needs
@@ -62,7 +67,10 @@ same-length-2 : tie.Need-same-length-2 Inv-loop μ-loop
 same-length-2 c = search needs
 
 returns-2 : tie.Need-returns-2 Inv-loop μ-loop
-returns-2 c = let l = c .before .before .before .before .before .before .loop in rw (c .unread2 .ensures) (no-list _ (l .out) (l .inv .3 ∙ ap (after (take (l .n) (l .out))) (high-none _ (l .at) (omega arith) (subst (λ (d : ℕ). 16 ≤ d) (c .before .before .digit .ensures) (c .before .if2 .taken)))))
+returns-2 c = let l = c .before .before .before .before .before .before .loop in
+    rw (c .unread2 .ensures) (no-list _ (l .out)
+    (l .inv .3 ∙ ap (after (take (l .n) (l .out)))
+    (high-none _ (l .at) (omega arith) (subst (λ (d : ℕ). 16 ≤ d) (c .before .before .digit .ensures) (c .before .if2 .taken)))))
 
 add-digit : tie.Need-add-digit Inv-loop μ-loop
 add-digit c = search needs
@@ -80,7 +88,12 @@ same-length-3 : tie.Need-same-length-3 Inv-loop μ-loop
 same-length-3 c = search needs
 
 returns-3 : tie.Need-returns-3 Inv-loop μ-loop
-returns-3 c = let l = c .before .before .before .before .before .before .before .before .before .loop in rw (c .unread3 .ensures) (no-list _ (l .out) (l .inv .3 ∙ ap (after (take (l .n) (l .out))) (low-none _ (l .at) (omega arith) (subst (λ (d : ℕ). d < 16) (c .before .before .before .before .before .digit .ensures) (c .before .before .before .before .if2 .left)) (subst (λ (d : ℕ). 16 ≤ d) (c .before .before .digit2 .ensures) (c .before .if3 .taken)))))
+returns-3 c = let l = c .before .before .before .before .before .before .before .before .before .loop in
+    rw (c .unread3 .ensures) (no-list _ (l .out)
+    (l .inv .3 ∙ ap (after (take (l .n) (l .out)))
+    (low-none _ (l .at) (omega arith)
+    (subst (λ (d : ℕ). d < 16) (c .before .before .before .before .before .digit .ensures) (c .before .before .before .before .if2 .left))
+    (subst (λ (d : ℕ). 16 ≤ d) (c .before .before .digit2 .ensures) (c .before .if3 .taken)))))
 
 unread-requires-4 : tie.Need-unread-requires-4 Inv-loop μ-loop
 unread-requires-4 c κs = search needs
@@ -89,7 +102,8 @@ same-length-4 : tie.Need-same-length-4 Inv-loop μ-loop
 same-length-4 c = search needs
 
 returns-4 : tie.Need-returns-4 Inv-loop μ-loop
-returns-4 c = let l = c .before .before .before .before .before .before .before .before .before .before .loop in rw (c .unread4 .ensures) (no-room _ (l .out) (l .n) (byte (c .before .before)) (left (c .before .before)) (omega arith) (due (c .before .before)))
+returns-4 c = let l = c .before .before .before .before .before .before .before .before .before .before .loop in
+    rw (c .unread4 .ensures) (no-room _ (l .out) (l .n) (byte (c .before .before)) (left (c .before .before)) (omega arith) (due (c .before .before)))
 
 mul-out : tie.Need-mul-out Inv-loop μ-loop
 mul-out c = search needs
@@ -110,14 +124,16 @@ loop-less : tie.Need-loop-less Inv-loop μ-loop
 loop-less c = search needs
 
 loop-again : tie.Need-loop-again Inv-loop μ-loop
-loop-again c = let l = c .before .before .before .before .before .before .before .before .before .loop in let kept = length-set (l .out) (l .n) (byte (c .before)) in (omega arith, omega arith, omega arith, due (c .before) ∙ one-more (l .out) (l .n) (byte (c .before)) (left (c .before)) (omega arith))
+loop-again c = let l = c .before .before .before .before .before .before .before .before .before .loop in let kept = length-set (l .out) (l .n) (byte (c .before)) in
+    (omega arith, omega arith, omega arith, due (c .before) ∙ one-more (l .out) (l .n) (byte (c .before)) (left (c .before)) (omega arith))
 
 same-length-5 : tie.Need-same-length-5 Inv-loop μ-loop
 same-length-5 c = search needs
 
 returns-5 : tie.Need-returns-5 Inv-loop μ-loop
 unfolding pairs
-returns-5 c = let l = c .before .loop in all-read _ (l .out) (l .n) (l .inv .2) (l .inv .3 ∙ ap (λ r. after (take (l .n) (l .out)) (pairs r)) (drop-of-length-le _ (c .loop-test .left)))
+returns-5 c = let l = c .before .loop in
+    all-read _ (l .out) (l .n) (l .inv .2) (l .inv .3 ∙ ap (λ r. after (take (l .n) (l .out)) (pairs r)) (drop-of-length-le _ (c .loop-test .left)))
 
 pub read-pairs-spec : {M : Type 1} → statement M
 read-pairs-spec =

@@ -1,5 +1,5 @@
 -- `words::read_unsigned` meets its contract: below 0 only -0 is such a number. Assumes nothing.
-use Rattle.words.specs.Digits.{value}
+use Rattle.words.specs.Digits.{wordValue}
 use mathlib.Core.Path.{_≡_, sym, ap, _∙_}
 use mathlib.Core.Bool.{true}
 use denote.Ref.{now}
@@ -29,13 +29,15 @@ read-natural-requires : tie.Need-read-natural-requires
 read-natural-requires c κs = search needs
 
 returns : tie.Need-returns
-returns c = c .read-natural .ensures ∙ ap (λ w. upTo 0 (value 10 w)) (part-to-end (now (c .before .before .before .before .before .args .word)) 1) ∙ sym (unsigned-minus (now (c .before .before .before .before .before .args .word)) _ (found (c .before .before)))
+returns c = c .read-natural .ensures ∙ ap (λ w. upTo 0 (wordValue 10 w)) (part-to-end (now (c .before .before .before .before .before .args .word)) 1)
+    ∙ sym (unsigned-minus (now (c .before .before .before .before .before .args .word)) _ (found (c .before .before)))
 
 read-natural-requires-2 : tie.Need-read-natural-requires-2
 read-natural-requires-2 c κs = search needs
 
 returns-2 : tie.Need-returns-2
-returns-2 c = c .read-natural2 .ensures ∙ sym (unsigned-plus (now (c .before .before .before .before .args .word)) _ (sym (c .before .before .has-minus .ensures) ∙ c .before .if1 .left))
+returns-2 c = c .read-natural2 .ensures
+    ∙ sym (unsigned-plus (now (c .before .before .before .before .args .word)) _ (sym (c .before .before .has-minus .ensures) ∙ c .before .if1 .left))
 
 pub read-unsigned-spec : {M : Type 1} → statement M
 read-unsigned-spec =

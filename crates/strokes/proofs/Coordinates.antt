@@ -1,0 +1,94 @@
+-- The way of one coordinate from a to b: plainly beyond lo or hi, plainly between them, and cut by the two conditions of its axis.
+--   CutAcross lo hi a b s r   r is what of the span s is from lo to hi on the way from a to b
+use mathlib.Core.List.{[], _∷_}
+use Prim.Native.Nat.{_≤_}
+use lib.IntN.{ℤ, pos, _-ℤ_, _*ℤ_}
+use lib.Signed.{_≤ℤ_, _<ℤ_}
+use Rattle.whole.proofs.Certificates.{ge, clash, po, nn, le, _⊞_, _⊠_}
+use Rattle.whole.proofs.Expressions.{Expr, var, con, _⊕_, _⊖_, _⊗_}
+use Rattle.whole.proofs.Order.{next-≤}
+use Rattle.grid.specs.declared.Stroke.{Stroke}
+use Rattle.grid.specs.declared.Window.{Window}
+use Rattle.spans.specs.declared.Span.{Span}
+use Rattle.spans.specs.Parts.{Time}
+use Rattle.spans.specs.Spans.{InSpan, ProperSpan, Sized, SpanCut, SpanOf}
+use Rattle.spans.proofs.Cutting.{in-time}
+use Rattle.spans.proofs.Parts.{all, in-all}
+use Rattle.strokes.specs.Strokes.{KeepsCoordinate, Keeps}
+
+-- a bound, the way's two ends, and a fraction
+abbrev L : Expr
+L = var 0
+
+abbrev A : Expr
+A = var 1
+
+abbrev B : Expr
+B = var 2
+
+abbrev N : Expr
+N = var 3
+
+abbrev D : Expr
+D = var 4
+
+-- along a b n d
+abbrev X : Expr
+X = A ⊗ D ⊕ N ⊗ (B ⊖ A)
+
+abbrev one : Expr
+one = con (pos 1)
+
+module _ {lo hi a b n d : ℤ} where
+  pub not-below : a <ℤ lo → b <ℤ lo → Time n d → KeepsCoordinate lo hi a b n d → ⊥
+  not-below ha hb t k = clash (lo ∷ a ∷ b ∷ n ∷ d ∷ [])
+      (le N D (t .high) ⊠ le (A ⊕ one) L (next-≤ ha) ⊞ nn N (t .low) ⊠ le (B ⊕ one) L (next-≤ hb) ⊞ po D (t .den) ⊞ le (L ⊗ D) X (k .above)) tt
+
+  pub not-above : hi <ℤ a → hi <ℤ b → Time n d → KeepsCoordinate lo hi a b n d → ⊥
+  not-above ha hb t k = clash (hi ∷ a ∷ b ∷ n ∷ d ∷ [])
+      (le N D (t .high) ⊠ le (L ⊕ one) A (next-≤ ha) ⊞ nn N (t .low) ⊠ le (L ⊕ one) B (next-≤ hb) ⊞ po D (t .den) ⊞ le X (L ⊗ D) (k .below)) tt
+
+  pub all-between : lo ≤ℤ a → lo ≤ℤ b → a ≤ℤ hi → b ≤ℤ hi → Time n d → KeepsCoordinate lo hi a b n d
+  all-between la lb ha hb t = record {
+    above = ge (lo ∷ a ∷ b ∷ n ∷ d ∷ []) (L ⊗ D) X (le N D (t .high) ⊠ le L A la ⊞ nn N (t .low) ⊠ le L B lb) tt;
+    below = ge (hi ∷ a ∷ b ∷ n ∷ d ∷ []) X (L ⊗ D) (le N D (t .high) ⊠ le A L ha ⊞ nn N (t .low) ⊠ le B L hb) tt;
+  }
+
+  -- the condition of the lower side, −(b − a) t ≤ a − lo, and that of the upper, (b − a) t ≤ hi − a
+  above-low : KeepsCoordinate lo hi a b n d → ((pos 0 -ℤ (b -ℤ a)) *ℤ n) ≤ℤ ((a -ℤ lo) *ℤ d)
+  above-low k = ge (lo ∷ a ∷ b ∷ n ∷ d ∷ []) ((con (pos 0) ⊖ (B ⊖ A)) ⊗ N) ((A ⊖ L) ⊗ D) (le (L ⊗ D) X (k .above)) tt
+
+  below-high : KeepsCoordinate lo hi a b n d → ((b -ℤ a) *ℤ n) ≤ℤ ((hi -ℤ a) *ℤ d)
+  below-high k = ge (hi ∷ a ∷ b ∷ n ∷ d ∷ []) ((B ⊖ A) ⊗ N) ((L ⊖ A) ⊗ D) (le X (L ⊗ D) (k .below)) tt
+
+  both-sides : ((pos 0 -ℤ (b -ℤ a)) *ℤ n) ≤ℤ ((a -ℤ lo) *ℤ d) → ((b -ℤ a) *ℤ n) ≤ℤ ((hi -ℤ a) *ℤ d) → KeepsCoordinate lo hi a b n d
+  both-sides l h = record {
+    above = ge (lo ∷ a ∷ b ∷ n ∷ d ∷ []) (L ⊗ D) X (le ((con (pos 0) ⊖ (B ⊖ A)) ⊗ N) ((A ⊖ L) ⊗ D) l) tt;
+    below = ge (hi ∷ a ∷ b ∷ n ∷ d ∷ []) X (L ⊗ D) (le ((B ⊖ A) ⊗ N) ((L ⊖ A) ⊗ D) h) tt;
+  }
+
+pub record CutAcross (lo hi a b : ℤ) (s r : Span) : Type 0 where
+  pub proper : ProperSpan r
+  pub sized : Sized 32766 r
+  pub stays : (n d : ℤ) → pos 0 <ℤ d → InSpan s n d → KeepsCoordinate lo hi a b n d → InSpan r n d
+  pub part : (n d : ℤ) → pos 0 <ℤ d → InSpan r n d → InSpan s n d
+  pub between : (n d : ℤ) → pos 0 <ℤ d → InSpan r n d → KeepsCoordinate lo hi a b n d
+
+pub cut-across : {lo hi a b : ℤ} {s m r : Span} → SpanCut (pos 0 -ℤ (b -ℤ a)) (a -ℤ lo) s m → SpanCut (b -ℤ a) (hi -ℤ a) m r → Sized 32766 r → CutAcross lo hi a b s r
+cut-across f g z = record {
+  proper = g .proper;
+  sized = z;
+  stays = λ n d h i k. g .stays n d h (f .stays n d h i (above-low k)) (below-high k);
+  part = λ n d h i. f .part n d h (g .part n d h i);
+  between = λ n d h i. both-sides (f .side n d h (g .part n d h i)) (g .side n d h i);
+}
+
+-- both axes
+pub span-of : {w : Window} {s : Stroke} {m r : Span} → CutAcross (w .left) (w .right) (s .x1) (s .x2) all m → CutAcross (w .bottom) (w .top) (s .y1) (s .y2) m r
+    → SpanOf 32766 (Keeps w s) r
+span-of f g = record {
+  proper = g .proper;
+  sized = g .sized;
+  stays = λ n d k. g .stays n d (k .time .den) (f .stays n d (k .time .den) (in-all (k .time)) (k .x)) (k .y);
+  keeps = λ n d h i. record { time = in-time (g .proper) h i; x = f .between n d h (g .part n d h i); y = g .between n d h i };
+}

@@ -1,0 +1,88 @@
+-- `strokes::ends::finish` meets its contract: each case has its law in Meetings. Assumes nothing.
+use mathlib.Core.Path.{_≡_, sym, subst₂, transport}
+use Prim.Native.Nat.{ℕ, _*_, _≤_}
+use native.Mathlib.Omega.{arith}
+use lib.IntN.{ℤ, pos}
+use mir.Syntax.{w32, w64}
+use mir.Val.{toZ}
+use mir.Facts.{toZ-pos}
+use Rattle.whole.proofs.Comparisons.{back}
+use Rattle.spans.specs.Parts.{unit}
+use Rattle.strokes.specs.Workers.{FinishOf}
+use Rattle.strokes.proofs.Meetings.{product-fits, end-small, finish-none, finish-x, finish-y}
+use Rattle.strokes.proofs.Reading.{read-is, read-on-table, rounded-plain}
+use Rattle.strokes.proofs.ends.finish.Statement.{statement}
+use Rattle.strokes.proofs.ends.finish.Tie as tie
+
+-- a number of a short way, as it is cast
+wide : {k : ℕ} → k ≤ 32766 → toZ w64 k ≡ pos k
+wide {k} h = toZ-pos w64 (omega arith)
+
+-- ---- at the stroke's own end
+returns : tie.Need-returns
+returns c =
+    let a = c .before .before .before .before .before .args in
+    let p = c .before .before .before .before .before .pre in
+    subst₂ (λ (u v : ℤ). FinishOf (a .s) (a .x) (a .y) (record { t = unit; x = u; y = v })) (sym (read-is (p .0 .x2))) (sym (read-is (p .0 .y2)))
+    (finish-none (p .1 .0) (p .1 .1) (c .before .before .before .if1 .taken) (c .before .if2 .taken))
+
+mul-if3 : tie.Need-mul-if3
+mul-if3 c = let p = c .before .before .before .before .pre in product-fits (end-small (p .1 .0 .proper)) (p .1 .1 .proper .small)
+
+mul-if3-2 : tie.Need-mul-if3-2
+mul-if3-2 c = let p = c .before .before .before .before .before .before .pre in product-fits (end-small (p .1 .1 .proper)) (p .1 .0 .proper .small)
+
+-- ---- on a side of the x axis
+cast-t9 : tie.Need-cast-t9
+cast-t9 c = let p = c .before .before .before .before .before .before .before .before .pre in record { sfits = omega (arith, end-small (p .1 .0 .proper)) }
+
+cast-t10 : tie.Need-cast-t10
+cast-t10 c = let p = c .before .before .before .before .before .before .before .before .before .pre in record { sfits = omega (arith, p .1 .0 .proper .small) }
+
+rounded-requires : tie.Need-rounded-requires
+rounded-requires c κs =
+    let p = c .before .before .before .before .before .before .before .before .before .before .before .pre in
+    let k = p .1 .0 .proper in
+    (read-on-table (p .0 .y1), (read-on-table (p .0 .y2), ((k .long, k .small), omega (arith, k .order, k .high))))
+
+returns-2 : tie.Need-returns-2
+returns-2 c =
+    let a = c .before .before .before .before .before .before .before .before .before .before .before .before .before .args in
+    let p = c .before .before .before .before .before .before .before .before .before .before .before .before .before .pre in
+    let k = p .1 .0 .proper in
+    let n = sym (wide (end-small k)) in
+    let d = sym (wide (k .small)) in
+    let u = sym (back w32 (a .x .to) (c .struct-told4 .given .1 .1 .1 .1 .0 .1)) in
+    let v = sym (back w32 _ (c .before .rounded .ok)) in
+    transport (λ i. FinishOf (a .s) (a .x) (a .y) (record { t = record { num = n i; den = d i }; x = u i; y = v i }))
+    (finish-x (p .1 .0) (p .1 .1) (c .before .before .before .before .before .before .if3 .taken)
+    (rounded-plain (pos (a .x .end)) (p .0 .y1) (p .0 .y2) (c .before .rounded .ensures)))
+
+-- ---- on a side of the y axis
+cast-t13 : tie.Need-cast-t13
+cast-t13 c = let p = c .before .before .before .before .before .before .before .before .pre in record { sfits = omega (arith, end-small (p .1 .1 .proper)) }
+
+cast-t14 : tie.Need-cast-t14
+cast-t14 c = let p = c .before .before .before .before .before .before .before .before .before .pre in record { sfits = omega (arith, p .1 .1 .proper .small) }
+
+rounded-requires-2 : tie.Need-rounded-requires-2
+rounded-requires-2 c κs =
+    let p = c .before .before .before .before .before .before .before .before .before .before .before .pre in
+    let k = p .1 .1 .proper in
+    (read-on-table (p .0 .x1), (read-on-table (p .0 .x2), ((k .long, k .small), omega (arith, k .order, k .high))))
+
+returns-3 : tie.Need-returns-3
+returns-3 c =
+    let a = c .before .before .before .before .before .before .before .before .before .before .before .before .before .args in
+    let p = c .before .before .before .before .before .before .before .before .before .before .before .before .before .pre in
+    let k = p .1 .1 .proper in
+    let n = sym (wide (end-small k)) in
+    let d = sym (wide (k .small)) in
+    let u = sym (back w32 _ (c .before .rounded2 .ok)) in
+    let v = sym (back w32 (a .y .to) (c .struct-told7 .given .1 .1 .1 .1 .0 .1)) in
+    let later : a .y .end * a .x .long ≤ a .x .end * a .y .long = omega (arith, c .before .before .before .before .before .before .if3 .left) in
+    transport (λ i. FinishOf (a .s) (a .x) (a .y) (record { t = record { num = n i; den = d i }; x = u i; y = v i }))
+    (finish-y (p .1 .0) (p .1 .1) later (rounded-plain (pos (a .y .end)) (p .0 .x1) (p .0 .x2) (c .before .rounded2 .ensures)))
+
+pub finish-spec : {M : Type 1} → statement M
+finish-spec = tie.close (tie.spec returns mul-if3 mul-if3-2 cast-t9 cast-t10 rounded-requires returns-2 cast-t13 cast-t14 rounded-requires-2 returns-3)
