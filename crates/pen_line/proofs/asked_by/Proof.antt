@@ -1,10 +1,10 @@
--- `pen::asked_by` meets its contract: each comparison that succeeds shows the word. Assumes nothing.
-use Rattle.pen.specs.Lines.{strip, move, line, close}
-use Rattle.pen.specs.Workers.{unknown}
-use Rattle.pen.proofs.Words.{same, other, asks-none}
+-- `pen_line::asked_by` meets its contract: each comparison that succeeds shows the word. Assumes nothing.
+use Rattle.pen_line.specs.Lines.{strip, move, line, close}
+use Rattle.pen_line.specs.Workers.{unknown}
+use Rattle.pen_line.proofs.Words.{same, other, asks-none}
 use borrow.Author.Needs.{needs}
-use Rattle.pen.proofs.asked_by.Statement.{statement}
-use Rattle.pen.proofs.asked_by.Tie as tie
+use Rattle.pen_line.proofs.asked_by.Statement.{statement}
+use Rattle.pen_line.proofs.asked_by.Tie as tie
 
 slice-aggregate-same : tie.Need-slice-aggregate-same
 slice-aggregate-same c = search needs

@@ -1,10 +1,10 @@
--- `pen::put_record` meets its contract: there is no room for it, or its numbers follow its first byte. Assumes nothing.
+-- `pen_line::put_record` meets its contract: there is no room for it, or its numbers follow its first byte. Assumes nothing.
 use lib.ListN.{length-set}
-use Rattle.pen.specs.Workers.{long}
-use Rattle.pen.proofs.Records.{recorded, not-recorded}
+use Rattle.pen_line.specs.Workers.{long}
+use Rattle.pen_line.proofs.Records.{recorded, not-recorded}
 use borrow.Author.Needs.{needs}
-use Rattle.pen.proofs.put_record.Statement.{statement}
-use Rattle.pen.proofs.put_record.Tie as tie
+use Rattle.pen_line.proofs.put_record.Statement.{statement}
+use Rattle.pen_line.proofs.put_record.Tie as tie
 
 add-next : tie.Need-add-next
 add-next c = search needs

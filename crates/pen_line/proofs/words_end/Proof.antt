@@ -1,9 +1,9 @@
--- `pen::words_end` meets its contract: each way out is a case of the definition. Assumes nothing.
+-- `pen_line::words_end` meets its contract: each way out is a case of the definition. Assumes nothing.
 use native.Mathlib.Omega.{arith}
-use Rattle.pen.proofs.Words.{comment, nothing-there, return-before, no-return}
+use Rattle.pen_line.proofs.Words.{comment, nothing-there, return-before, no-return}
 use borrow.Author.Needs.{needs}
-use Rattle.pen.proofs.words_end.Statement.{statement}
-use Rattle.pen.proofs.words_end.Tie as tie
+use Rattle.pen_line.proofs.words_end.Statement.{statement}
+use Rattle.pen_line.proofs.words_end.Tie as tie
 
 find-requires : tie.Need-find-requires
 find-requires c κs = search needs

@@ -1,15 +1,15 @@
--- `pen::take_words` meets its contract: the first word says what is asked for, and the tests say whether it may follow. Assumes nothing.
+-- `pen_line::take_words` meets its contract: the first word says what is asked for, and the tests say whether it may follow. Assumes nothing.
 use mathlib.Core.Path.{refl, subst}
 use native.Mathlib.Omega.{arith}
 use denote.Ref.{now}
-use Rattle.pen.specs.Lines.{word}
-use Rattle.pen.specs.Texts.{unknown, second-strip, no-strip}
-use Rattle.pen.specs.Workers.{AskedBy, blank, refused}
-use Rattle.pen.proofs.Words.{end-is, word-is, no-word, some-word, the-strip, few-numbers, nothing-asked, is-asked}
-use Rattle.pen.proofs.Records.{taken-as}
+use Rattle.pen_line.specs.Lines.{word}
+use Rattle.pen_line.specs.Records.{unknown, second-strip, no-strip, blank, refused}
+use Rattle.pen_line.specs.Workers.{AskedBy}
+use Rattle.pen_line.proofs.Words.{end-is, word-is, no-word, some-word, the-strip, few-numbers, nothing-asked, is-asked}
+use Rattle.pen_line.proofs.Records.{taken-as}
 use borrow.Author.Needs.{needs}
-use Rattle.pen.proofs.take_words.Statement.{statement}
-use Rattle.pen.proofs.take_words.Tie as tie
+use Rattle.pen_line.proofs.take_words.Statement.{statement}
+use Rattle.pen_line.proofs.take_words.Tie as tie
 
 skip-requires : tie.Need-skip-requires
 skip-requires c κs = search needs

@@ -12,9 +12,9 @@ use Rattle.whole.specs.Choice.{if_then_else_}
 use Rattle.whole.proofs.Comparisons.{tt-ff}
 use Rattle.text.specs.Pages.{ascii}
 use Rattle.text.specs.Runs.{run, isNot}
-use Rattle.pen.specs.Lines.{startOf, endOf, word, Asks, strip, move, line, close, wordsEnd}
-use Rattle.pen.specs.Workers.{AskedBy, known, unknown}
-use Rattle.pen.specs.declared.Asked.{Asked}
+use Rattle.pen_line.specs.Lines.{startOf, endOf, word, Asks, strip, move, line, close, wordsEnd}
+use Rattle.pen_line.specs.Workers.{AskedBy, known, unknown}
+use Rattle.pen_line.specs.declared.Asked.{Asked}
 
 -- ---- what it asks for, by comparing
 

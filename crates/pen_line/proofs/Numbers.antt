@@ -12,9 +12,9 @@ use Rattle.decimal.specs.declared.Reading.the-variants.{Number, Nothing}
 use Rattle.text.specs.Pages.{Put, bigEndian}
 use Rattle.text.specs.Runs.{run, isNot}
 use Rattle.text.proofs.Puts.{put-nothing, put-to, put-then}
-use Rattle.pen.specs.Lines.{startOf, Numerals, none, one-more, NoNumerals, no-number, too-many}
-use Rattle.pen.specs.Workers.{NumbersPut, all, not-all}
-use Rattle.pen.proofs.Words.{end-is, word-is}
+use Rattle.pen_line.specs.Lines.{startOf, Numerals, none, one-more, NoNumerals, no-number, too-many}
+use Rattle.pen_line.specs.Workers.{NumbersPut, all, not-all}
+use Rattle.pen_line.proofs.Words.{end-is, word-is}
 
 pub record Begun (l : List ℕ) (i n k : ℕ) (before after : List ℕ) (at : ℕ) : Type 0 where
   pub bytes : List ℕ

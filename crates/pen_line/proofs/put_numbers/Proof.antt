@@ -1,14 +1,14 @@
--- `pen::put_numbers` meets its contract: i numbers stand in the page, and the last of them ends at the place `end`. Assumes nothing.
+-- `pen_line::put_numbers` meets its contract: i numbers stand in the page, and the last of them ends at the place `end`. Assumes nothing.
 use mathlib.Core.Path.{subst}
 use Prim.Native.Nat.{_-_, _≤_}
 use native.Mathlib.Omega.{arith}
 use borrow.Author.Needs.{needs}
 use lib.ListN.{length}
 use Rattle.decimal.specs.Decimals.{Reads}
-use Rattle.pen.specs.Workers.{not-all}
-use Rattle.pen.proofs.Numbers.{Begun, begun-start, begun-on, stops, over}
-use Rattle.pen.proofs.put_numbers.Statement.{statement}
-use Rattle.pen.proofs.put_numbers.Tie as tie
+use Rattle.pen_line.specs.Workers.{not-all}
+use Rattle.pen_line.proofs.Numbers.{Begun, begun-start, begun-on, stops, over}
+use Rattle.pen_line.proofs.put_numbers.Statement.{statement}
+use Rattle.pen_line.proofs.put_numbers.Tie as tie
 
 abbrev Inv-loop : tie.InvT-loop
 Inv-loop line from count page₀ at end₀ i₀ page end i = (i ≤ count) × (end ≤ length line) × Begun line from i end page₀ page at

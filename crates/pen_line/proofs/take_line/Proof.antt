@@ -1,10 +1,10 @@
--- `pen::take_line` meets its contract: the words are all before their end. Assumes nothing.
+-- `pen_line::take_line` meets its contract: the words are all before their end. Assumes nothing.
 use mathlib.Core.Path.{sym}
 use lib.Seq.{length-take-le}
-use Rattle.pen.proofs.Records.{spoken-to}
+use Rattle.pen_line.proofs.Records.{spoken-to}
 use borrow.Author.Needs.{needs}
-use Rattle.pen.proofs.take_line.Statement.{statement}
-use Rattle.pen.proofs.take_line.Tie as tie
+use Rattle.pen_line.proofs.take_line.Statement.{statement}
+use Rattle.pen_line.proofs.take_line.Tie as tie
 
 words-end-requires : tie.Need-words-end-requires
 words-end-requires c κs = search needs
