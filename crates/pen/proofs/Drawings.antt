@@ -45,7 +45,8 @@ module _ {t before page : List ℕ} {n i at : ℕ} (g : Going t before page n i 
     line-is : spoken (take (e - i) (drop i t)) ≡ lineAt t i
     line-is = ap (λ (x : ℕ). spoken (take (x - i) (drop i t))) q
 
-    pub going-on : {after : List ℕ} {to : ℕ} {s : Step} → s ≡ Done to → LineTaken (spoken (take (e - i) (drop i t))) page after at s → Going t before after (n + 1) (e + 1) to
+    pub going-on : {after : List ℕ} {to : ℕ} {s : Step} → s ≡ Done to → LineTaken (spoken (take (e - i) (drop i t))) page after at s
+        → Going t before after (n + 1) (e + 1) to
     going-on {after} {to} {s} d k = go d (subst (λ (l : List ℕ). LineTaken l page after at s) line-is k)
       where
         next : lineEnd t i + 1 ≡ e + 1
@@ -68,7 +69,8 @@ module _ {t before page : List ℕ} {n i at : ℕ} (g : Going t before page n i 
             }
         go d (Records.refused f) = absurd (let z : _≡_ {A = ℕ} 0 1 = cc in omega arith)
 
-    pub stopped : {after : List ℕ} {f : Fault} {s : Step} → s ≡ Wrong f → e ≤ 524288 → length after ≡ length page → LineTaken (spoken (take (e - i) (drop i t))) page after at s
+    pub stopped : {after : List ℕ} {f : Fault} {s : Step} → s ≡ Wrong f → e ≤ 524288 → length after ≡ length page
+        → LineTaken (spoken (take (e - i) (drop i t))) page after at s
         → Becomes t after (record { line = n; step = Wrong f })
     stopped {after} {f} {s} d m same k = go d (subst (λ (l : List ℕ). LineTaken l page after at s) line-is k)
       where
@@ -79,11 +81,13 @@ module _ {t before page : List ℕ} {n i at : ℕ} (g : Going t before page n i 
             let z : u ≡ f = cc in
             wrong-line (g .told) h (omega arith)
             (subst (LineRefused (lineAt t i) (length (g .bytes)) (length after - 4)) z
-            (subst (λ (x : ℕ). LineRefused (lineAt t i) (length (g .bytes)) (x - 4) u) (sym same) (subst (λ (x : ℕ). LineRefused (lineAt t i) x (length page - 4) u) long r)))
+            (subst (λ (x : ℕ). LineRefused (lineAt t i) (length (g .bytes)) (x - 4) u) (sym same)
+            (subst (λ (x : ℕ). LineRefused (lineAt t i) x (length page - 4) u) long r)))
 
   pub ended : {after : List ℕ} {s : Step} → length t ≤ i → Counted page after at s → Becomes t after (record { line = n; step = s })
   ended {after} h (counted z p) =
-      drawn {at = at} (g .told) h (λ e. z (omega (arith, long, behind))) (omega (arith, p .same, within)) (put-in-front (g .put) (subst (λ (x : ℕ). Put page after 0 4 (bigEndian x)) long p))
+      drawn {at = at} (g .told) h (λ e. z (omega (arith, long, behind))) (omega (arith, p .same, within))
+      (put-in-front (g .put) (subst (λ (x : ℕ). Put page after 0 4 (bigEndian x)) long p))
   ended h (none z) = no-line (subst (Told t n i) (nothing-yet (g .bytes) (omega (arith, long))) (g .told)) h
 
 pub drawn-within : {t page : List ℕ} {r : Outcome} {at : ℕ} → r .step ≡ Done at → Becomes t page r → at ≤ length page

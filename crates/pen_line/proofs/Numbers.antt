@@ -27,11 +27,13 @@ begun-start l page i at h =
 
 module _ {l : List ℕ} {i n k at : ℕ} {before after : List ℕ} (b : Begun l i n k before after at) {s : ℕ} (p : s ≡ startOf l k) where
   module _ {e : ℕ} (q : e ≡ s + run (isNot 32) (drop s l)) where
-    pub begun-on : {bits r : ℕ} {next : List ℕ} → Reads (take (e - s) (drop s l)) (Number bits) → Put after next (at + n * 4) r (bigEndian bits) → Begun l i (n + 1) e before next at
+    pub begun-on : {bits r : ℕ} {next : List ℕ} → Reads (take (e - s) (drop s l)) (Number bits) → Put after next (at + n * 4) r (bigEndian bits)
+        → Begun l i (n + 1) e before next at
     begun-on {bits} {r} {next} d w =
         record {
           bytes = b .bytes ++ bigEndian bits;
-          numerals = subst (λ (x : ℕ). Numerals l i (n + 1) x (b .bytes ++ bigEndian bits)) (sym (end-is l k p q)) (one-more (b .numerals) (subst (λ (w : List ℕ). Reads w (Number bits)) (word-is l k p q) d));
+          numerals = subst (λ (x : ℕ). Numerals l i (n + 1) x (b .bytes ++ bigEndian bits)) (sym (end-is l k p q))
+              (one-more (b .numerals) (subst (λ (w : List ℕ). Reads w (Number bits)) (word-is l k p q) d));
           put = put-to (at + (n + 1) * 4) (omega (arith, w .ends)) (put-then (b .put) w);
         }
 

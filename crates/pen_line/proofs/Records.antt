@@ -32,5 +32,6 @@ taken-as f g q a o (Workers.long h) = refused (long-drawing a o (omega arith))
 taken-as {l} {n = n} f g q a o (Workers.wrong h x) = refused (not-numbers a o (omega arith) (subst (λ (y : ℕ). NoNumerals l y n) q x))
 
 -- a line up to where its words end
-pub spoken-to : (l : List ℕ) {before after : List ℕ} {at e : ℕ} {r : Step} → e ≡ wordsEnd l → LineTaken (take e l) before after at r → LineTaken (spoken l) before after at r
+pub spoken-to : (l : List ℕ) {before after : List ℕ} {at e : ℕ} {r : Step} → e ≡ wordsEnd l → LineTaken (take e l) before after at r
+    → LineTaken (spoken l) before after at r
 spoken-to l {before} {after} {at} {e} {r} q k = subst (λ (x : ℕ). LineTaken (take x l) before after at r) q k

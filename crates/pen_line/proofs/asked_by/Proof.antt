@@ -43,7 +43,15 @@ returns-4 : tie.Need-returns-4
 returns-4 c = same (c .before .same4 .ensures) (c .if4 .taken) close
 
 returns-5 : tie.Need-returns-5
-returns-5 c = unknown (λ b n. asks-none (other (c .before .before .before .before .before .before .before .before .before .before .same .ensures) (c .before .before .before .before .before .before .before .before .before .if1 .left)) (other (c .before .before .before .before .before .before .before .same2 .ensures) (c .before .before .before .before .before .before .if2 .left)) (other (c .before .before .before .before .same3 .ensures) (c .before .before .before .if3 .left)) (other (c .before .same4 .ensures) (c .if4 .left)))
+returns-5 c =
+    let third = c .before .before .before in
+    let second = third .before .before .before in
+    let first = second .before .before .before in
+    unknown (λ b n. asks-none
+    (other (first .before .same .ensures) (first .if1 .left))
+    (other (second .before .same2 .ensures) (second .if2 .left))
+    (other (third .before .same3 .ensures) (third .if3 .left))
+    (other (c .before .same4 .ensures) (c .if4 .left)))
 
 pub asked-by-spec : {M : Type 1} → statement M
 asked-by-spec =

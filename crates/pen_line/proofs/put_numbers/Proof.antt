@@ -47,7 +47,11 @@ same-length : tie.Need-same-length Inv-loop μ-loop
 same-length c = c .before .before .before .before .before .before .before .loop .inv .2 .put .same
 
 returns : tie.Need-returns Inv-loop μ-loop
-returns c = not-all (stops (c .before .before .before .before .before .before .before .loop .inv .2) (c .before .before .before .before .before .skip .ensures .0) (c .before .before .before .before .find .ensures .0) (c .before .before .before .before .before .before .loop-test .taken) (subst (Reads _) (c .enum-told .given .1) (c .before .before .read .ensures)))
+returns c =
+    let f = c .before .before .before .before in
+    let l = f .before .before .before in
+    not-all (stops (l .loop .inv .2) (f .before .skip .ensures .0) (f .find .ensures .0) (f .before .before .loop-test .taken)
+    (subst (Reads _) (c .enum-told .given .1) (c .before .before .read .ensures)))
 
 mul-put-bytes : tie.Need-mul-put-bytes Inv-loop μ-loop
 mul-put-bytes c = omega arith
@@ -65,7 +69,15 @@ loop-less : tie.Need-loop-less Inv-loop μ-loop
 loop-less c = omega arith
 
 loop-again : tie.Need-loop-again Inv-loop μ-loop
-loop-again c = (omega arith, c .before .before .before .before .before .before .before .before .before .find .ensures .1, begun-on (c .before .before .before .before .before .before .before .before .before .before .before .before .loop .inv .2) (c .before .before .before .before .before .before .before .before .before .before .skip .ensures .0) (c .before .before .before .before .before .before .before .before .before .find .ensures .0) (subst (Reads _) (c .before .before .before .before .before .bits .given .1) (c .before .before .before .before .before .before .before .read .ensures)) (c .before .before .put-bytes .ensures))
+loop-again c =
+    let b = c .before .before .before .before .before in
+    let r = b .before .before in
+    let f = r .before .before in (
+      omega arith,
+      f .find .ensures .1,
+      begun-on (f .before .before .before .loop .inv .2) (f .before .skip .ensures .0) (f .find .ensures .0)
+          (subst (Reads _) (b .bits .given .1) (r .read .ensures)) (c .before .before .put-bytes .ensures),
+    )
 
 skip-requires-2 : tie.Need-skip-requires-2 Inv-loop μ-loop
 skip-requires-2 c κs = search needs

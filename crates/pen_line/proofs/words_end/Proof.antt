@@ -24,7 +24,8 @@ sub-result : tie.Need-sub-result
 sub-result c = search needs
 
 returns-3 : tie.Need-returns-3
-returns-3 c = let f = c .before .before .before .before .find .ensures in (return-before _ _ (f .0) (c .before .before .before .if1 .left) (f .1) (c .if3 .taken), omega (arith, f .1))
+returns-3 c = let f = c .before .before .before .before .find .ensures in
+    (return-before _ _ (f .0) (c .before .before .before .if1 .left) (f .1) (c .if3 .taken), omega (arith, f .1))
 
 returns-4 : tie.Need-returns-4
 returns-4 c = let f = c .before .before .before .before .find .ensures in (no-return _ _ (f .0) (c .before .before .before .if1 .left) (f .1) (c .if3 .left), f .1)
