@@ -1,4 +1,3 @@
-pub mod Halves
 pub mod Patterns
 pub mod Texts
 pub mod Shapes

@@ -3,7 +3,10 @@ use mathlib.Core.Path.{_≡_, refl, sym, ap, ap₂, _∙_, subst}
 use mathlib.Core.Logic.{inl, inr}
 use mathlib.Core.Bool.{Bool, cond}
 use Prim.Native.Nat.{ℕ, zero, suc, _+_, _-_, _*_, _/_, _^_, _≤_, _<_}
-use native.Mathlib.Nat.{le-refl, le-trans, le-of-eq, le-of-lt, le-antisymm, lt-of-lt-of-le, lt-of-le-of-lt, lt-of-not-le, not-le-of-lt, eq-or-lt-of-le, zero-lt-suc, zero-mul, mul-one, mul-assoc, mul-comm, mul-left-comm, mul-right-comm, mul-pos, mul-le-mul-left, mul-le-mul-right, mul-lt-mul-of-pos-right, le-of-mul-le-mul-right, lt-of-mul-lt-mul-right, pow-suc, mul-div-cancel, le-div-iff-mul-le, div-lt-iff-lt-mul}
+use native.Mathlib.Nat.{le-refl, le-trans, le-of-eq, le-of-lt, le-antisymm, lt-of-lt-of-le, lt-of-le-of-lt, lt-of-not-le, not-le-of-lt}
+use native.Mathlib.Nat.{eq-or-lt-of-le, zero-lt-suc, zero-mul, mul-one, mul-assoc, mul-comm, mul-left-comm, mul-right-comm, mul-pos}
+use native.Mathlib.Nat.{mul-le-mul-left, mul-le-mul-right, mul-lt-mul-of-pos-right, le-of-mul-le-mul-right, lt-of-mul-lt-mul-right, pow-suc}
+use native.Mathlib.Nat.{mul-div-cancel, le-div-iff-mul-le, div-lt-iff-lt-mul}
 use native.Mathlib.Omega.{arith}
 use lib.Dec.{lit<, lit≤}
 use lib.Pow.{pow-add, pow-pos, pow-mono, shl-lt, shl-shr}
@@ -33,7 +36,8 @@ whole-digits : (s : Bool) (q d : ℕ) → 8388608 ≤ q → q < 16777216 → pat
 unfolding pattern
 whole-digits s q d h l =
     let e : size (q * 2 ^ d) - 24 ≡ d =
-    ap (λ (x : ℕ). x - 24) (size-is (q * 2 ^ d) (23 + d) (le-trans (le-of-eq (pow-add 2 23 d)) (mul-le-mul-right (2 ^ d) h)) (subst (λ (x : ℕ). q * 2 ^ d < 2 ^ x) (omega arith) (shl-lt 24 d l)))
+    ap (λ (x : ℕ). x - 24) (size-is (q * 2 ^ d) (23 + d) (le-trans (le-of-eq (pow-add 2 23 d)) (mul-le-mul-right (2 ^ d) h))
+    (subst (λ (x : ℕ). q * 2 ^ d < 2 ^ x) (omega arith) (shl-lt 24 d l)))
     ∙ omega arith in
     ap (λ (x : ℕ). cond s 2147483648 0 + x * 8388608 + q * 2 ^ d / 2 ^ x) e ∙ ap (λ (x : ℕ). cond s 2147483648 0 + d * 8388608 + x) (shl-shr q d)
 
@@ -43,7 +47,8 @@ few-digits s q d h l =
     elim (eq-or-lt-of-le l) [
       | inl e ↦
           subst (λ (x : ℕ). pattern s (x * 2 ^ d) ≡ cond s 2147483648 0 + d * 8388608 + x) (sym e)
-          (ap (pattern s) (mul-assoc 8388608 2 (2 ^ d) ∙ ap (λ (x : ℕ). 8388608 * x) (sym (pow-add 2 1 d))) ∙ whole-digits s 8388608 (1 + d) (le-refl 8388608) (lit< tt) ∙ omega arith)
+          (ap (pattern s) (mul-assoc 8388608 2 (2 ^ d) ∙ ap (λ (x : ℕ). 8388608 * x) (sym (pow-add 2 1 d)))
+          ∙ whole-digits s 8388608 (1 + d) (le-refl 8388608) (lit< tt) ∙ omega arith)
       | inr m ↦ whole-digits s q d h m
     ]
 
@@ -62,7 +67,8 @@ scaled-left {n} {c} {scaled} {d} N C x h = go d (x .doubled)
   where
     go : (d : ℕ) → scaled ≡ n * 2 ^ (155 - d) → 0 < d
     go zero e =
-        absurd (not-le-of-lt (lt-of-lt-of-le h (le-trans (mul-le-mul-right 8388608 (mul-le-mul-right 64 C)) (lit≤ tt))) (le-trans (mul-le-mul-right (2 ^ 155) N) (le-of-eq (sym e))))
+        absurd (not-le-of-lt (lt-of-lt-of-le h (le-trans (mul-le-mul-right 8388608 (mul-le-mul-right 64 C)) (lit≤ tt)))
+        (le-trans (mul-le-mul-right (2 ^ 155) N) (le-of-eq (sym e))))
     go (suc d) e = zero-lt-suc d
 
 pub scaled-on : {n c scaled d : ℕ} → 0 < d → scaled < c * 64 * 8388608 → Scaled n c scaled d → Scaled n c (scaled * 2) (d - 1)
@@ -82,7 +88,8 @@ module _ (s : Bool) {n c d scaled : ℕ} (C : 0 < c) (x : Scaled n c scaled d) (
   same : n * 2 ^ 149 * unit ≡ scaled * (c * 2 ^ d)
   same =
       mul-assoc n (2 ^ 149) (c * 64)
-      ∙ ap (λ (x : ℕ). n * x) (ap (λ (x : ℕ). 2 ^ 149 * x) (mul-comm c 64) ∙ sym (mul-assoc (2 ^ 149) 64 c) ∙ mul-comm (2 ^ 155) c ∙ ap (λ (x : ℕ). c * x) split ∙ regroup)
+      ∙ ap (λ (x : ℕ). n * x) (ap (λ (x : ℕ). 2 ^ 149 * x) (mul-comm c 64) ∙ sym (mul-assoc (2 ^ 149) 64 c) ∙ mul-comm (2 ^ 155) c ∙ ap (λ (x : ℕ). c * x) split
+      ∙ regroup)
       ∙ sym (mul-assoc n (2 ^ (155 - d)) (c * 2 ^ d))
       ∙ ap (λ (x : ℕ). x * (c * 2 ^ d)) (sym (x .doubled))
     where

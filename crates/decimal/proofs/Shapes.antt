@@ -10,12 +10,12 @@ use lib.Dec.{lit<}
 use lib.ListN.{length, getD, take, drop, length-append}
 use lib.Seq.{split-at, length-take-le, take-length, getD-append-seam, drop-append-add}
 use Rattle.whole.specs.Choice.{if_then_else_}
-use Rattle.decimal.specs.Decimals.{isDigit, AllDigits, none, _and_, value, pointed, Plain, bitsOf}
+use Rattle.decimal.specs.Decimals.{isDigit, AllDigits, none, _and_, withDigits, pointed, Plain, bitsOf}
 use Rattle.text.specs.Runs.{run}
 use Rattle.text.proofs.Runs.{run-passed}
 use Rattle.decimal.specs.Workers.{ReadsPlain, number}
 use Rattle.decimal.specs.declared.Reading.the-variants.{Number}
-use Rattle.decimal.proofs.Texts.{value-append, value-below}
+use Rattle.decimal.proofs.Texts.{withDigits-append, withDigits-below}
 
 -- ---- lists of digits
 
@@ -59,8 +59,8 @@ pub digits-of-all : (bs : List ℕ) → run isDigit bs ≡ length bs → AllDigi
 digits-of-all bs e = subst AllDigits (ap (λ (k : ℕ). take k bs) e ∙ take-length bs) (digits-front bs)
 
 -- at most 9 digits are a number below 10 ^ 9
-pub small : {ds : List ℕ} → AllDigits ds → length ds ≤ 9 → value 0 ds < 10 ^ 9
-small {ds} a h = lt-of-lt-of-le (value-below 0 ds a) (le-trans (le-of-eq (one-mul (10 ^ length ds))) (pow-le-pow-right (lit< tt) h))
+pub small : {ds : List ℕ} → AllDigits ds → length ds ≤ 9 → withDigits 0 ds < 10 ^ 9
+small {ds} a h = lt-of-lt-of-le (withDigits-below 0 ds a) (le-trans (le-of-eq (one-mul (10 ^ length ds))) (pow-le-pow-right (lit< tt) h))
 
 -- ---- what a number's text shows
 
@@ -101,7 +101,7 @@ module _ {t : List ℕ} {n k f : ℕ} (p : Plain t n k) (e : f ≡ run isDigit t
 
 -- ---- and texts that are numbers: digits alone
 
-pub whole-number : (t : List ℕ) → 0 < length t → length t ≤ 9 → AllDigits t → Plain t (value 0 t) 0
+pub whole-number : (t : List ℕ) → 0 < length t → length t ≤ 9 → AllDigits t → Plain t (withDigits 0 t) 0
 whole-number t s h a =
     record {
       front = t;
@@ -134,26 +134,27 @@ module _ {t : List ℕ} {f : ℕ} (p : Pointed t f) where
   both : length (take f t ++ drop (f + 1) t) ≤ 9
   both = omega (arith, length-append (take f t) (drop (f + 1) t), front-length, p .few)
 
-  pub front-small : value 0 (take f t) < 10 ^ 9
+  pub front-small : withDigits 0 (take f t) < 10 ^ 9
   front-small = small front (omega (arith, front-length, p .few))
 
-  pub number-small : value (value 0 (take f t)) (drop (f + 1) t) < 10 ^ 9
-  number-small = subst (λ (z : ℕ). z < 10 ^ 9) (value-append 0 (take f t) (drop (f + 1) t)) (small (digits-join front (p .behind)) both)
+  pub number-small : withDigits (withDigits 0 (take f t)) (drop (f + 1) t) < 10 ^ 9
+  number-small = subst (λ (z : ℕ). z < 10 ^ 9) (withDigits-append 0 (take f t) (drop (f + 1) t)) (small (digits-join front (p .behind)) both)
 
   after-point : (ds : List ℕ) → 0 < length ds → getD t f 0 ∷ ds ≡ pointed ds
   after-point [] h = absurd (omega arith)
   after-point (d ∷ ds) h = ap (λ (x : ℕ). x ∷ d ∷ ds) (p .point)
 
-  pub with-point : Plain t (value (value 0 (take f t)) (drop (f + 1) t)) (length (drop (f + 1) t))
+  pub with-point : Plain t (withDigits (withDigits 0 (take f t)) (drop (f + 1) t)) (length (drop (f + 1) t))
   with-point =
       record {
         front = take f t;
         behind = drop (f + 1) t;
-        spelled = split-at t f 0 (p .inside) ∙ ap (λ (z : List ℕ). take f t ++ z) (ap (λ (z : ℕ). getD t f 0 ∷ drop z t) (sym (add-one f)) ∙ after-point (drop (f + 1) t) (p .more));
+        spelled = split-at t f 0 (p .inside)
+            ∙ ap (λ (z : List ℕ). take f t ++ z) (ap (λ (z : ℕ). getD t f 0 ∷ drop z t) (sym (add-one f)) ∙ after-point (drop (f + 1) t) (p .more));
         digits = digits-join front (p .behind);
         some = omega (arith, front-length, p .some);
         few = both;
-        number = sym (value-append 0 (take f t) (drop (f + 1) t));
+        number = sym (withDigits-append 0 (take f t) (drop (f + 1) t));
         places = refl;
       }
 

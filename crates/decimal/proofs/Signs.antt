@@ -28,7 +28,8 @@ sign-bit q k = go (ltb (q * 2 ^ k) (2 ^ 277)) q
 
 pub negative-bits : (n k : ℕ) → bitsOf true n k ≡ bitsOf false n k + 2147483648
 unfolding bitsOf
-negative-bits n k = ap (toBits binary32) (round-is binary32 true n (10 ^ k)) ∙ sign-bit _ _ ∙ ap (λ x. toBits binary32 x + 2147483648) (sym (round-is binary32 false n (10 ^ k)))
+negative-bits n k = ap (toBits binary32) (round-is binary32 true n (10 ^ k)) ∙ sign-bit _ _
+    ∙ ap (λ x. toBits binary32 x + 2147483648) (sym (round-is binary32 false n (10 ^ k)))
 
 -- ---- its text
 
@@ -72,7 +73,8 @@ module _ (t : List ℕ) (l : 0 < length t) (h : getD t 0 0 ≡ 45) where
       go e (Workers.number {n = n} {k = k} p s) =
           let z : bitsOf false n k ≡ b = cc in (
             subst (λ (x : ℕ). x < 2 ^ 31) z s,
-            subst (λ (x : ℕ). Reads t (Number x)) (negative-bits n k ∙ ap (λ (x : ℕ). x + 2147483648) z) (number (record { rest = drop 1 t; spelled = minus-first; plain = p })),
+            subst (λ (x : ℕ). Reads t (Number x)) (negative-bits n k ∙ ap (λ (x : ℕ). x + 2147483648) z)
+                (number (record { rest = drop 1 t; spelled = minus-first; plain = p })),
           )
       go e (Workers.nothing f) = absurd (let z : _≡_ {A = ℕ} 0 1 = cc in omega arith)
 

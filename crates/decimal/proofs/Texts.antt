@@ -11,7 +11,7 @@ use lib.Dec.{leb}
 use lib.ListN.{length, getD, drop}
 use lib.Seq.{drop-cons}
 use Rattle.whole.proofs.Comparisons.{ff-tt}
-use Rattle.decimal.specs.Decimals.{isDigit, AllDigits, _and_, value}
+use Rattle.decimal.specs.Decimals.{isDigit, AllDigits, _and_, withDigits}
 
 -- ---- a digit's range
 
@@ -32,34 +32,35 @@ digit-tail (d and ds) = ds
 
 -- ---- the number that digits spell
 
-pub value-nil : (n : ℕ) → value n [] ≡ n
-unfolding value
-value-nil n = refl
+pub withDigits-nil : (n : ℕ) → withDigits n [] ≡ n
+unfolding withDigits
+withDigits-nil n = refl
 
-pub value-cons : (n d : ℕ) (ds : List ℕ) → value n (d ∷ ds) ≡ value (n * 10 + (d - 48)) ds
-unfolding value
-value-cons n d ds = refl
+pub withDigits-cons : (n d : ℕ) (ds : List ℕ) → withDigits n (d ∷ ds) ≡ withDigits (n * 10 + (d - 48)) ds
+unfolding withDigits
+withDigits-cons n d ds = refl
 
 -- it grows with each digit
-pub value-from : (n : ℕ) (ds : List ℕ) → n ≤ value n ds
-unfolding value
-value-from n [] = le-refl n
-value-from n (d ∷ ds) = let h = value-from (n * 10 + (d - 48)) ds in omega arith
+pub withDigits-from : (n : ℕ) (ds : List ℕ) → n ≤ withDigits n ds
+unfolding withDigits
+withDigits-from n [] = le-refl n
+withDigits-from n (d ∷ ds) = let h = withDigits-from (n * 10 + (d - 48)) ds in omega arith
 
 -- and stays below the next power of ten
-pub value-below : (n : ℕ) (ds : List ℕ) → AllDigits ds → value n ds < (n + 1) * 10 ^ length ds
-unfolding value
-value-below n [] a = omega arith
-value-below n (d ∷ ds) (e and a) =
+pub withDigits-below : (n : ℕ) (ds : List ℕ) → AllDigits ds → withDigits n ds < (n + 1) * 10 ^ length ds
+unfolding withDigits
+withDigits-below n [] a = omega arith
+withDigits-below n (d ∷ ds) (e and a) =
     let m = n * 10 + (d - 48) in
-    let h : value m ds < (m + 1) * 10 ^ length ds = value-below m ds a in
+    let h : withDigits m ds < (m + 1) * 10 ^ length ds = withDigits-below m ds a in
     let r : m + 1 ≤ (n + 1) * 10 = omega (arith, digit-range d e .1) in
-    le-trans h (le-trans (mul-le-mul-right (10 ^ length ds) r) (le-of-eq (mul-assoc (n + 1) 10 (10 ^ length ds) ∙ ap (λ (z : ℕ). (n + 1) * z) (mul-comm 10 (10 ^ length ds) ∙ sym (pow-suc 10 (length ds))))))
+    le-trans h (le-trans (mul-le-mul-right (10 ^ length ds) r)
+    (le-of-eq (mul-assoc (n + 1) 10 (10 ^ length ds) ∙ ap (λ (z : ℕ). (n + 1) * z) (mul-comm 10 (10 ^ length ds) ∙ sym (pow-suc 10 (length ds))))))
 
-pub value-append : (n : ℕ) (ds es : List ℕ) → value n (ds ++ es) ≡ value (value n ds) es
-unfolding value
-value-append n [] es = refl
-value-append n (d ∷ ds) es = value-append (n * 10 + (d - 48)) ds es
+pub withDigits-append : (n : ℕ) (ds es : List ℕ) → withDigits n (ds ++ es) ≡ withDigits (withDigits n ds) es
+unfolding withDigits
+withDigits-append n [] es = refl
+withDigits-append n (d ∷ ds) es = withDigits-append (n * 10 + (d - 48)) ds es
 
 -- ---- of a loop that has read i of the digits: the next one, and what is left
 module _ (ds : List ℕ) (i : ℕ) (h : i < length ds) (a : AllDigits (drop i ds)) where
@@ -69,5 +70,5 @@ module _ (ds : List ℕ) (i : ℕ) (h : i < length ds) (a : AllDigits (drop i ds
   pub next-rest : AllDigits (drop (i + 1) ds)
   next-rest = rw add-one (digit-tail (subst AllDigits (drop-cons ds i 0 h) a))
 
-  pub next-value : (n : ℕ) → value n (drop i ds) ≡ value (n * 10 + (getD ds i 0 - 48)) (drop (i + 1) ds)
-  next-value n = rw (add-one, drop-cons ds i 0 h) (value-cons n (getD ds i 0) (drop (suc i) ds))
+  pub next-number : (n : ℕ) → withDigits n (drop i ds) ≡ withDigits (n * 10 + (getD ds i 0 - 48)) (drop (i + 1) ds)
+  next-number n = rw (add-one, drop-cons ds i 0 h) (withDigits-cons n (getD ds i 0) (drop (suc i) ds))

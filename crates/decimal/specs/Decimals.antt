@@ -2,10 +2,10 @@
 --   minus, point         the codes of - and .
 --   isDigit b            b is the code of a digit
 --   AllDigits ds         every byte of ds is one
---   value n ds           the number whose digits are those of n and then ds
+--   withDigits n ds      the number whose digits are those of n and then ds
 --   pointed ds           ds after a point; nothing, where there are none
 --   Plain text n k       text is digits, and optionally a point and digits, 9 digits in all at most: n / 10^k
---   signed s text        text after a minus where s is true
+--   withMinus s text     text after a minus where s is true
 --   Decimal text s n k   text is such a number with its sign, negative where s is true
 --   bitsOf s n k         the bits of the f32 nearest to n / 10^k with that sign, halves to the even one (`lib.Ieee.round`)
 --   Reads text r         r is what text is read as: a number's bits, or nothing where it is no number
@@ -34,9 +34,9 @@ pub data AllDigits : List ℕ → Type 0 where
   none : AllDigits []
   _and_ : {d : ℕ} {ds : List ℕ} → isDigit d ≡ true → AllDigits ds → AllDigits (d ∷ ds)
 
-unfoldable pub value : ℕ → List ℕ → ℕ
-value n [] = n
-value n (d ∷ ds) = value (n * 10 + (d - 48)) ds
+unfoldable pub withDigits : ℕ → List ℕ → ℕ
+withDigits n [] = n
+withDigits n (d ∷ ds) = withDigits (n * 10 + (d - 48)) ds
 
 abbrev pub pointed : List ℕ → List ℕ
 pointed [] = []
@@ -49,15 +49,15 @@ pub record Plain (text : List ℕ) (n k : ℕ) : Type 0 where
   pub digits : AllDigits (front ++ behind)
   pub some : 0 < length front
   pub few : length (front ++ behind) ≤ 9
-  pub number : n ≡ value 0 (front ++ behind)
+  pub number : n ≡ withDigits 0 (front ++ behind)
   pub places : k ≡ length behind
 
-abbrev pub signed : Bool → List ℕ → List ℕ
-signed s text = if s then minus ∷ text else text
+abbrev pub withMinus : Bool → List ℕ → List ℕ
+withMinus s text = if s then minus ∷ text else text
 
 pub record Decimal (text : List ℕ) (s : Bool) (n k : ℕ) : Type 0 where
   pub rest : List ℕ
-  pub spelled : text ≡ signed s rest
+  pub spelled : text ≡ withMinus s rest
   pub plain : Plain rest n k
 
 unfoldable pub bitsOf : Bool → ℕ → ℕ → ℕ

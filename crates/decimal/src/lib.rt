@@ -4,9 +4,10 @@ ghost use mathlib.Core.Bool.{false};
 ghost use Prim.Native.Nat.{_≤_, _<_, _^_};
 ghost use lib.ListN.{length};
 ghost use lib.Ieee.{binary32, round, toBits};
-ghost use lib.Ieee.Nearest.{closest as Nearest·closest};
+ghost use lib.IntN.{pos};
+ghost use Rattle.whole.specs.Rounding.{Rounds, toEven};
 ghost use Rattle.text.specs.Runs.{run};
-ghost use Rattle.decimal.specs.Decimals.{isDigit, AllDigits, value, bitsOf, Reads};
+ghost use Rattle.decimal.specs.Decimals.{isDigit, AllDigits, withDigits, bitsOf, Reads};
 ghost use Rattle.decimal.specs.Workers.{ReadsPlain};
 
 // What a word is read as: the bits of an f32, or nothing.
@@ -19,7 +20,7 @@ pub enum Reading {
 fn closest(a: u64, b: u64) -> u64
     requires { ⌜ (0 < b) × (b < 2 ^ 62) ⌝ }
     requires { ⌜ a < 2 ^ 62 ⌝ }
-    ensures { λ r. ⌜ r ≡ Nearest·closest a b ⌝ }
+    ensures { λ r. ⌜ Rounds toEven (pos a) (pos b) (pos r) ⌝ }
 {
     let whole = a / b;
     let twice = a % b * 2;
@@ -100,8 +101,8 @@ fn digits_in(text: &[u8]) -> usize
 // The number whose digits are those of n and then these.
 fn appended(n: u32, digits: &[u8]) -> u32
     requires { ⌜ AllDigits (now digits) ⌝ }
-    requires { ⌜ value n (now digits) < 2 ^ 32 ⌝ }
-    ensures { λ r. ⌜ r ≡ value n (now (digits .entry)) ⌝ }
+    requires { ⌜ withDigits n (now digits) < 2 ^ 32 ⌝ }
+    ensures { λ r. ⌜ r ≡ withDigits n (now (digits .entry)) ⌝ }
 {
     let mut number = n;
     let mut i = 0;

@@ -1,17 +1,18 @@
 -- Lowest terms and rounding as functions, so that examples compute.
 use mathlib.Core.Path.{_≡_, subst}
-use Prim.Native.Nat.{ℕ, zero, suc, _%_, _≤_, _<_}
+use Prim.Native.Nat.{ℕ, zero, suc, _%_, _≤_}
 use native.Mathlib.Nat.{mod-lt}
 use native.Mathlib.Omega.{arith}
-use lib.IntN.{ℤ, pos, negsuc, negℤ, natAbs, _+ℤ_, _-ℤ_, _*ℤ_}
+use lib.IntN.{ℤ, pos, negsuc, natAbs}
 use lib.Signed.{_<ℤ_, quotZ}
+use Rattle.whole.specs.Rounding.{towards}
 use Rattle.whole.proofs.Order.{zarith}
+use Rattle.whole.proofs.Rounding.{rounding, rounding-is}
 use Rattle.fraction.specs.Fraction.{GreatestCommon, LowestOf}
 use Rattle.fraction.specs.Rounding.{along, Rounded}
 use Rattle.fraction.specs.declared.Fraction.{Fraction}
 use Rattle.fraction.proofs.Divisors.{SameDivisors, same-start, same-step, same-end}
 use Rattle.fraction.proofs.LowestTerms.{reduction}
-use Rattle.fraction.proofs.Rounding.{halfDown, half-down, rounded-from, rounded-mirror}
 
 -- ---- Euclid's rule, at most k steps of it
 unfoldable pub euclid : ℕ → ℕ → ℕ → ℕ
@@ -37,20 +38,11 @@ unfolding lowestOf
 lowestOf-is n {d} h =
     reduction n d h (euclid-is (natAbs d) (natAbs n) (natAbs d) (natAbs n) (natAbs d) (omega arith) (same-start (natAbs n) (natAbs d))) .answer
 
--- ---- x/d to the nearest whole number, a half falling to 0
-unfoldable pub nearestToZero : ℤ → ℕ → ℤ
-nearestToZero (pos x) d = pos (halfDown x d)
-nearestToZero (negsuc x) d = negℤ (pos (halfDown (suc x) d))
-
-nearestToZero-is : (x : ℤ) {d : ℕ} → 0 < d → Rounded (pos 0) x (pos d) (nearestToZero x d)
-unfolding nearestToZero
-nearestToZero-is (pos x) h = half-down x h
-nearestToZero-is (negsuc x) h = rounded-mirror (half-down (suc x) h)
-
+-- ---- the coordinate at n/d of the way from a to b, rounded
 unfoldable pub roundedAt : ℤ → ℤ → ℤ → ℤ → ℤ
-roundedAt a b n d = a +ℤ nearestToZero (n *ℤ (b -ℤ a)) (natAbs d)
+roundedAt a b n d = rounding (towards a) (along a b n d) (natAbs d)
 
 pub roundedAt-is : (a b n : ℤ) {d : ℤ} → pos 0 <ℤ d → Rounded a (along a b n d) d (roundedAt a b n d)
 unfolding roundedAt
-roundedAt-is a b n {d = pos d} h = rounded-from a (nearestToZero-is (n *ℤ (b -ℤ a)) (omega zarith))
+roundedAt-is a b n {d = pos d} h = rounding-is (towards a) (along a b n (pos d)) (omega zarith)
 roundedAt-is a b n {d = negsuc d} h = absurd (h .lt)

@@ -75,7 +75,8 @@ exact {a} {g} k h e = e ∙ ap (λ (n : ℕ). g * n) (sym (ap (λ (n : ℕ). n /
 
 pub quot-exact : (x : ℤ) {g : ℕ} → 0 < g → Divides g x → x ≡ pos g *ℤ quotZ x (pos g)
 quot-exact (pos a) h p = ap pos (exact (natAbs (p .times)) h (abs-multiple p))
-quot-exact (negsuc a) {g} h p = ap (λ (n : ℕ). negℤ (pos n)) (exact (natAbs (p .times)) h (abs-multiple p)) ∙ ring ((pos g) ∷ (pos (suc a / g)) ∷ []) (neg (x0 ⊗ x1)) (x0 ⊗ neg x1) tt
+quot-exact (negsuc a) {g} h p = ap (λ (n : ℕ). negℤ (pos n)) (exact (natAbs (p .times)) h (abs-multiple p))
+    ∙ ring ((pos g) ∷ (pos (suc a / g)) ∷ []) (neg (x0 ⊗ x1)) (x0 ⊗ neg x1) tt
 
 -- ---- one step of Euclid's rule, both ways
 euclid-down : {g a b : ℕ} → Divides g (pos a) → Divides g (pos b) → Divides g (pos (a % b))

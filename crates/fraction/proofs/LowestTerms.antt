@@ -1,4 +1,5 @@
--- Lowest terms: both numbers divided by their greatest common divisor. By Bézout a denominator in lowest terms divides every denominator of an equal fraction, so equal fractions in lowest terms are the same two numbers.
+-- Lowest terms: both numbers divided by their greatest common divisor. By Bézout a denominator in lowest terms divides every denominator of an equal fraction,
+-- so equal fractions in lowest terms are the same two numbers.
 use mathlib.Core.Path.{_≡_, sym, ap, _∙_, subst}
 use mathlib.Core.List.{[], _∷_}
 use Prim.Native.Nat.{ℕ, suc, _*_, _<_}

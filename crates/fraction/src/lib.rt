@@ -29,40 +29,6 @@ fn common(a: u32, b: u32) -> u32
     m
 }
 
-// Euclid's rule, by divisions of 64 bits only as long as a number needs them.
-fn common_wide(a: u64, b: u64) -> u64
-    ensures { λ r. ⌜ GreatestCommon a b r ⌝ }
-{
-    let mut m = a;
-    let mut n = b;
-    while 0xffff_ffff < m || 0xffff_ffff < n {
-        if n == 0 {
-            return m;
-        }
-        let rest = m % n;
-        m = n;
-        n = rest;
-    }
-    common(m as u32, n as u32) as u64
-}
-
-// num/den in lowest terms.
-pub fn lowest(num: i64, den: i64) -> Fraction
-    requires { ⌜ Within 4611686018427387904 num ⌝ }
-    requires { ⌜ Within 4611686018427387904 den ⌝ }
-    requires { ⌜ pos 0 <ℤ den ⌝ }
-    ensures { λ r. ⌜ LowestOf num den r ⌝ }
-{
-    let g = common_wide(whole::size(num), whole::size(den)) as i64;
-    if g == 1 {
-        return Fraction { num, den };
-    }
-    Fraction {
-        num: num / g,
-        den: den / g,
-    }
-}
-
 // n/d in lowest terms, for numbers of 32 bits. The denominator comes first, as the larger one saves a division.
 pub fn lowest_small(n: u32, d: u32) -> Fraction
     requires { ⌜ 0 < d ⌝ }

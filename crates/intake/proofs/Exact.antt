@@ -2,7 +2,9 @@
 use mathlib.Core.Path.{_≡_, refl, sym, ap, ap₂, _∙_, subst, subst⁻¹}
 use mathlib.Core.Bool.{Bool, true, false, not, cond, _&&_}
 use Prim.Native.Nat.{ℕ, zero, suc, _+_, _-_, _*_, _/_, _%_, _^_, _≤_, _<_, compare}
-use native.Mathlib.Nat.{le-trans, le-of-eq, lt-of-lt-of-le, lt-of-le-of-lt, lt-of-not-le, not-le-of-lt, le-of-suc-le-suc, mul-one, one-mul, mul-assoc, mul-comm, mul-right-comm, mul-pos, mul-le-mul-right, mul-lt-mul-of-pos-right, lt-of-mul-lt-mul-right, eq-of-mul-eq-mul-right, zero-lt-suc, le-div-iff-mul-le}
+use native.Mathlib.Nat.{le-trans, le-of-eq, lt-of-lt-of-le, lt-of-le-of-lt, lt-of-not-le, not-le-of-lt, le-of-suc-le-suc, mul-one, one-mul}
+use native.Mathlib.Nat.{mul-assoc, mul-comm, mul-right-comm, mul-pos, mul-le-mul-right, mul-lt-mul-of-pos-right, lt-of-mul-lt-mul-right}
+use native.Mathlib.Nat.{eq-of-mul-eq-mul-right, zero-lt-suc, le-div-iff-mul-le}
 use native.Mathlib.Omega.{arith}
 use borrow.Author.Tests.{le-ltb}
 use lib.IntN.{ℤ, pos, negsuc, natAbs}
@@ -66,7 +68,8 @@ product-exact s m e t h =
     let j = scaled m e (f .1) .0 in
     let v : m * up e * 32 * 2 ^ 149 ≡ m * 2 ^ j * down e = scaled m e (f .1) .1 in
     let u : m * 2 ^ j * down e < 2 ^ 277 * down e =
-    lt-of-lt-of-le (subst (λ (x : ℕ). x < 2 ^ 128 * down e * 2 ^ 149) v (mul-lt-mul-of-pos-right h (pow-pos 149))) (le-of-eq (mul-right-comm (2 ^ 128) (down e) (2 ^ 149))) in
+    lt-of-lt-of-le (subst (λ (x : ℕ). x < 2 ^ 128 * down e * 2 ^ 149) v (mul-lt-mul-of-pos-right h (pow-pos 149)))
+    (le-of-eq (mul-right-comm (2 ^ 128) (down e) (2 ^ 149))) in
     subst⁻¹ (λ (x : Float). HasValue x s (m * up e * 32) (down e)) (product-is s m e)
     (round-exact binary32 s (m * up e * 32) (down e) m j (down-pos e) (f .0) (lt-of-mul-lt-mul-right (down e) u) v)
 

@@ -3,7 +3,8 @@
 use mathlib.Core.Path.{_≡_, sym, ap, ap₂, _∙_, subst}
 use mathlib.Core.Bool.{Bool, true, false, not, cond, true≢false}
 use Prim.Native.Nat.{ℕ, suc, _+_, _-_, _*_, _/_, _^_, _≤_, _<_}
-use native.Mathlib.Nat.{le-trans, le-of-eq, le-antisymm, lt-of-lt-of-le, mul-one, mul-comm, mul-assoc, mul-right-comm, mul-le-mul-right, mul-lt-mul-of-pos-right, mul-div-cancel, le-div-iff-mul-le, div-lt-iff-lt-mul, mul-pos}
+use native.Mathlib.Nat.{le-trans, le-of-eq, le-antisymm, lt-of-lt-of-le, mul-one, mul-comm, mul-assoc, mul-right-comm, mul-le-mul-right}
+use native.Mathlib.Nat.{mul-lt-mul-of-pos-right, mul-div-cancel, le-div-iff-mul-le, div-lt-iff-lt-mul, mul-pos}
 use native.Mathlib.Omega.{arith}
 use borrow.Author.Tests.{ltb-true, lt-ltb}
 use lib.Dec.{T, lit≤}
@@ -58,7 +59,8 @@ pub record Lands (x : Float) (k : ℕ) : Type 0 where
 
 lands : (n c k : ℕ) → 0 < c → 8388608 * c ≤ n → n < 16777216 * c → closest n c ≡ k → 8388608 ≤ k → k < 16777216 → Lands (round binary32 false n c) k
 lands n c k C lo hi e p q =
-    let v : HasValue (units binary32 false k 149) false (k * 2 ^ 149) (2 ^ 149) = units-val binary32 false k 149 (lt-of-lt-of-le (mul-lt-mul-of-pos-right q (pow-pos 149)) (lit≤ tt)) in
+    let v : HasValue (units binary32 false k 149) false (k * 2 ^ 149) (2 ^ 149) =
+    units-val binary32 false k 149 (lt-of-lt-of-le (mul-lt-mul-of-pos-right q (pow-pos 149)) (lit≤ tt)) in
     subst (λ (x : Float). Lands x k) (sym (round-here n c C lo hi ∙ ap (λ (x : ℕ). units binary32 false x 149) e))
     (record { no-nan = valued (units binary32 false k 149) false (k * 2 ^ 149) (2 ^ 149) v; bits = bits-here (units binary32 false k 149) k p q v })
 

@@ -6,18 +6,19 @@
 --   examples                 worked examples, each float by its bits
 use mathlib.Core.Path.{_≡_, refl, sym, ap, _∙_, subst}
 use mathlib.Core.Bool.{Bool, true, false, not}
-use Prim.Native.Nat.{ℕ, _+_, _*_, _^_, _≤_, _<_}
+use Prim.Native.Nat.{ℕ, _*_, _^_, _≤_, _<_}
 use native.Mathlib.Nat.{zero-lt-suc}
-use native.Mathlib.Omega.{arith}
 use lib.Dec.{T, eqb}
-use lib.IntN.{ℤ, pos, negsuc, natAbs}
+use lib.IntN.{ℤ, pos, negsuc, natAbs, _*ℤ_}
 use lib.Signed.{nonNeg}
 use lib.Ieee.{Float, nan, inf, fin, binary32, up, down, mul, div, ofInt, fits, ofBits}
 use lib.Ieee.Fits.{down-pos}
 use lib.Ieee.Exact.{HasValue}
 use Rattle.whole.specs.Choice.{if_then_else_}
 use Rattle.whole.proofs.Comparisons.{tt-ff}
+use Rattle.whole.proofs.Order.{zarith}
 use Rattle.whole.proofs.Ranges.{within-abs}
+use Rattle.whole.proofs.Rounding.{rounded-exact}
 use Rattle.grid.specs.Table.{onTable}
 use Rattle.grid.specs.Refusals.{first, notANumber, tooFar}
 use Rattle.grid.specs.declared.Refusal.{Refusal}
@@ -28,7 +29,9 @@ use Rattle.intake.specs.declared.WindowMm.{WindowMm}
 use Rattle.intake.specs.declared.PointAnswer.{PointAnswer}
 use Rattle.intake.specs.declared.WindowAnswer.{WindowAnswer}
 use Rattle.intake.specs.declared.BackAnswer.{BackAnswer}
-use Rattle.intake.specs.Millimetres.{NearestEven, signed, GridNumber, nearest, faulty, at, Taken, on-range, pointFault, refusedPoint, pointAnswer, PointToGrid, windowFault, refusedWindow, windowAnswer, WindowToGrid, InMillimetres, ToMillimetres, done, refused}
+use Rattle.intake.specs.Millimetres.{signed, nearest, faulty, accepted, Taken, on-range, pointFault, refusedPoint, pointAnswer}
+use Rattle.intake.specs.Millimetres.{PointToGrid, windowFault, refusedWindow, windowAnswer, WindowToGrid, InMillimetres}
+use Rattle.intake.specs.Millimetres.{ToMillimetres, done, refused}
 use Rattle.intake.proofs.Exact.{thirty-two, product-exact, product-over, quotient-exact, value-unique}
 use Rattle.intake.proofs.Outcome.{outcome, taken, taken-is, taken-on}
 use Rattle.intake.proofs.Ways.{overflows}
@@ -50,7 +53,8 @@ back-unique (refused off) (refused _) = refl
 back-unique (refused off) (done on v) = absurd (tt-ff (sym on ∙ off))
 back-unique (done on v) (refused off) = absurd (tt-ff (sym on ∙ off))
 back-unique (done {g} {x} on v) (done {x = y} _ w) =
-    ap (λ (z : Float). record { number = 0; place = 0; mm = z }) (value-unique x y (not (nonNeg g)) (natAbs g) 32 (zero-lt-suc 31) (v .single) (w .single) (v .exact) (w .exact))
+    ap (λ (z : Float). record { number = 0; place = 0; mm = z })
+    (value-unique x y (not (nonNeg g)) (natAbs g) 32 (zero-lt-suc 31) (v .single) (w .single) (v .exact) (w .exact))
 
 -- ---- exactness
 
@@ -64,30 +68,25 @@ over-32 g on = quotient-exact g (within-abs (on-within g on))
 
 -- ---- there and back
 
-itself : (n d : ℕ) → 0 < d → NearestEven (n * d) d n
-itself n d D =
-    let p : 2 * (n * d) ≡ 2 * (n * d) + d → ⊥ = λ z. omega arith in
-    record { not-low = omega arith; not-high = omega arith; half-low = λ z. absurd (p z); half-high = λ z. absurd (p z) }
+signed-times : (g : ℤ) (d : ℕ) → signed (not (nonNeg g)) (natAbs g * d) ≡ g *ℤ pos d
+signed-times (pos n) d = refl
+signed-times (negsuc n) d = refl
 
-signed-size : (g : ℤ) → signed (not (nonNeg g)) (natAbs g) ≡ g
-signed-size (pos n) = refl
-signed-size (negsuc n) = refl
-
-comes-back : (g : ℤ) (x : Float) → onTable g ≡ true → InMillimetres g x → Taken x (at g)
+comes-back : (g : ℤ) (x : Float) → onTable g ≡ true → InMillimetres g x → Taken x (accepted g)
 comes-back g nan on v = absurd (v .exact)
 comes-back g (inf s) on v = absurd (v .exact)
 comes-back g (fin s m e) on v =
-    let n = nearest s m e (natAbs g) (subst (λ (k : ℕ). NearestEven k (down e) (natAbs g)) (sym (v .exact .1)) (itself (natAbs g) (down e) (down-pos e))) in
-    on-range (subst (GridNumber (fin s m e)) (subst (λ (b : Bool). signed b (natAbs g) ≡ g) (sym (v .exact .0)) (signed-size g)) n) on
+    let h = down-pos e in
+    on-range (nearest s m e (rounded-exact ((λ i. signed (v .exact .0 i) (v .exact .1 i)) ∙ signed-times g (down e)) (omega zarith))) on
 
-pub round-trip : {g : ℤ} {a : BackAnswer} → onTable g ≡ true → ToMillimetres g a → Taken (a .mm) (at g)
+pub round-trip : {g : ℤ} {a : BackAnswer} → onTable g ≡ true → ToMillimetres g a → Taken (a .mm) (accepted g)
 round-trip on (done {g} {x} _ v) = comes-back g x on v
 round-trip on (refused off) = absurd (tt-ff (sym on ∙ off))
 
 pub point-round-trip : {g h : ℤ} {a b : BackAnswer} → onTable g ≡ true → onTable h ≡ true → ToMillimetres g a → ToMillimetres h b
     → PointToGrid (record { x = a .mm; y = b .mm }) (record { number = 0; place = 0; x = g; y = h })
 unfolding first pointFault pointAnswer
-point-round-trip {g} {h} p q r s = record { x = at g; y = at h; x-taken = round-trip p r; y-taken = round-trip q s; answer = refl }
+point-round-trip {g} {h} p q r s = record { x = accepted g; y = accepted h; x-taken = round-trip p r; y-taken = round-trip q s; answer = refl }
 
 -- ---- on the table
 
@@ -113,8 +112,10 @@ pub window-on-table : {w : WindowMm} {a : WindowAnswer} → WindowToGrid w a →
 unfolding windowAnswer onTable
 window-on-table r = let f = windowFault (r .left) (r .bottom) (r .right) (r .top) in subst WindowOn (sym (r .answer)) (go f (eqb (f .number) 0))
   where
-    go : (f : Refusal) (b : Bool)
-        → WindowOn (if b then record { number = 0; place = 0; window = record { left = r .left .grid; bottom = r .bottom .grid; right = r .right .grid; top = r .top .grid } } else refusedWindow f)
+    go : (f : Refusal) (b : Bool) → WindowOn (
+        if b
+        then record { number = 0; place = 0; window = record { left = r .left .grid; bottom = r .bottom .grid; right = r .right .grid; top = r .top .grid } }
+        else refusedWindow f)
     go f true = record { left = taken-on (r .left-taken); bottom = taken-on (r .bottom-taken); right = taken-on (r .right-taken); top = taken-on (r .top-taken) }
     go f false = record { left = refl; bottom = refl; right = refl; top = refl }
 
@@ -122,14 +123,15 @@ window-on-table r = let f = windowFault (r .left) (r .bottom) (r .right) (r .top
 
 pub examples :
     -- 511.96875
-    Taken (ofBits binary32 0x43ff_fc00) (at (pos 16383))
+    Taken (ofBits binary32 0x43ff_fc00) (accepted (pos 16383))
     -- 511.984375, which is 16383.5 on the grid; the f32 below it; and both with the other sign
-    × Taken (ofBits binary32 0x43ff_fe00) (faulty tooFar) × Taken (ofBits binary32 0x43ff_fdff) (at (pos 16383))
-    × Taken (ofBits binary32 0xc3ff_fe00) (faulty tooFar) × Taken (ofBits binary32 0xc3ff_fdff) (at (negsuc 16382))
+    × Taken (ofBits binary32 0x43ff_fe00) (faulty tooFar) × Taken (ofBits binary32 0x43ff_fdff) (accepted (pos 16383))
+    × Taken (ofBits binary32 0xc3ff_fe00) (faulty tooFar) × Taken (ofBits binary32 0xc3ff_fdff) (accepted (negsuc 16382))
     -- -0.0, and the smallest f32 above 0
-    × Taken (ofBits binary32 0x8000_0000) (at (pos 0)) × Taken (ofBits binary32 1) (at (pos 0))
+    × Taken (ofBits binary32 0x8000_0000) (accepted (pos 0)) × Taken (ofBits binary32 1) (accepted (pos 0))
     -- 0.015625 and 0.046875, a half and one and a half on the grid; -0.046875
-    × Taken (ofBits binary32 0x3c80_0000) (at (pos 0)) × Taken (ofBits binary32 0x3d40_0000) (at (pos 2)) × Taken (ofBits binary32 0xbd40_0000) (at (negsuc 1))
+    × Taken (ofBits binary32 0x3c80_0000) (accepted (pos 0)) × Taken (ofBits binary32 0x3d40_0000) (accepted (pos 2))
+    × Taken (ofBits binary32 0xbd40_0000) (accepted (negsuc 1))
     -- a NaN, an infinity, and the greatest f32, of which 32 times overflows
     × Taken (ofBits binary32 0x7fc0_0000) (faulty notANumber) × Taken (ofBits binary32 0xff80_0000) (faulty tooFar) × Taken (ofBits binary32 0x7f7f_ffff) (faulty tooFar)
 unfolding outcome ofBits

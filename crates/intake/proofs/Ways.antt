@@ -18,7 +18,7 @@ use Rattle.whole.proofs.Order.{zarith, sub-is}
 use Rattle.whole.proofs.Comparisons.{true-T, ff-tt, tt-ff}
 use Rattle.grid.specs.Table.{farthest}
 use Rattle.grid.specs.Refusals.{notANumber, tooFar}
-use Rattle.intake.specs.Millimetres.{signed, faulty, at}
+use Rattle.intake.specs.Millimetres.{signed, faulty, accepted}
 use Rattle.intake.proofs.Nearest.{over}
 use Rattle.intake.proofs.Exact.{thirty-two, product-exact, product-over}
 use Rattle.intake.proofs.Sum.{Lands, middle, high, low, off, summed}
@@ -63,7 +63,7 @@ pub record Rounded (x : Float) : Type 0 where
   pub no-nan : T (not (isNan (add binary32 (product x) middle)))
   pub bits-fit : bits x < 2 ^ 31
   pub number-fits : mag (pos (bits x) -ℤ pos 1262485504) < 2 ^ 31
-  pub number : at (pos (bits x) -ℤ pos 1262485504) ≡ outcome x
+  pub number : accepted (pos (bits x) -ℤ pos 1262485504) ≡ outcome x
 
 -- of a y that is n / d
 landed : (y : Float) (s : Bool) (n d : ℕ) → 0 < d → HasValue y s n d → lt y high ≡ true → lt low y ≡ true
@@ -72,7 +72,8 @@ landed nan s n d D v p q = absurd v
 landed (inf t) s n d D v p q = absurd v
 landed (fin t m e) s n d D v p q =
     subst (λ (k : ℕ). (k ≤ 16383) × Lands (add binary32 (fin t m e) middle) (off s k)) (closest-same (m * up e) (down e) n d (down-pos e) D (v .1))
-    (subst (λ (b : Bool). (closest (m * up e) (down e) ≤ 16383) × Lands (add binary32 (fin t m e) middle) (off b (closest (m * up e) (down e)))) (v .0) (summed t m e p q))
+    (subst (λ (b : Bool). (closest (m * up e) (down e) ≤ 16383) × Lands (add binary32 (fin t m e) middle) (off b (closest (m * up e) (down e)))) (v .0)
+    (summed t m e p q))
 
 -- an infinity is not between them
 beyond : (s : Bool) → lt (inf s) high ≡ true → lt low (inf s) ≡ true → ⊥
@@ -97,7 +98,7 @@ between (fin s m e) t p q = go (product-known s m e t)
           no-nan = l .1 .no-nan;
           bits-fit = small n s (steps m e) (l .0) (l .1 .bits);
           number-fits = subst (λ (z : ℤ). mag z < 2 ^ 31) (sym d) (signed-small s (steps m e) (l .0));
-          number = ap at d ∙ sym (decided s m e (le-leb (steps m e) farthest (l .0)));
+          number = ap accepted d ∙ sym (decided s m e (le-leb (steps m e) farthest (l .0)));
         }
 
 -- ---- at an end or past it
@@ -111,7 +112,8 @@ none-below a d D p = let h : a + 32767 * d ≤ 0 = ltb-false 0 (a + 32767 * d) p
 
 far-value : (m : ℕ) (e : ℤ) (n d : ℕ) → 0 < d → m * up e * d ≡ n * down e → ltb (m * up e * 2) (32767 * down e) ≡ false → 16384 ≤ closest n d
 far-value m e n d D v p =
-    subst (λ (k : ℕ). 16384 ≤ k) (closest-same (m * up e) (down e) n d (down-pos e) D v) (over (m * up e) (down e) (down-pos e) (ltb-false (m * up e * 2) (32767 * down e) p))
+    subst (λ (k : ℕ). 16384 ≤ k) (closest-same (m * up e) (down e) n d (down-pos e) D v)
+    (over (m * up e) (down e) (down-pos e) (ltb-false (m * up e * 2) (32767 * down e) p))
 
 above : (y : Float) (s : Bool) (n d : ℕ) → 0 < d → HasValue y s n d → lt y high ≡ false → 16384 ≤ closest n d
 unfolding lt

@@ -1,10 +1,10 @@
 -- Millimetres to the grid of 1/32 mm and back.
 -- A float is `nan`, `inf s` or `fin s m e`, which is m * 2 ^ e, negative where s is true; 2 ^ e is the fraction up e / down e (`lib.Ieee`).
 -- `HasValue x s n d` says that x is finite, has the sign s and is n / d in size; `fits binary32 x` that x is an f32.
---   NearestEven n d q   q is the whole number nearest to n / d: within a half of it, and even where it is a half off
---   signed s q          q with a sign: negative where s is true
---   GridNumber x g      x is finite, and g the whole number nearest to 32 x, halves to the even one
---   faulty n, at g      what becomes of a number that is refused with n; of one that has the grid number g
+--   signed s n          n with a sign: negative where s is true
+--   GridNumber x g      x is finite, and g is 32 x rounded to the nearest whole number, halves to the even one
+--   faulty n            what becomes of a number that is refused with n
+--   accepted g          what becomes of a number that has the grid number g
 --   Taken x o           o is what becomes of the millimetre number x
 --   pointFault x y      what is refused in a point whose numbers became x and y: the first faulty one decides, with its index as the place
 --   refusedPoint r      the answer that refuses by r: every other field is 0
@@ -16,13 +16,14 @@
 use mathlib.Core.Path.{_≡_}
 use mathlib.Core.Bool.{Bool, true, false, not}
 use mathlib.Core.List.{[], _∷_}
-use Prim.Native.Nat.{ℕ, _+_, _*_, _%_, _≤_}
+use Prim.Native.Nat.{ℕ, _*_}
 use lib.Dec.{T, eqb}
 use lib.IntN.{ℤ, pos, negℤ, natAbs}
 use lib.Signed.{nonNeg}
 use lib.Ieee.{Float, nan, inf, fin, binary32, fits, up, down}
 use lib.Ieee.Exact.{HasValue}
 use Rattle.whole.specs.Choice.{if_then_else_}
+use Rattle.whole.specs.Rounding.{Rounds, toEven}
 use Rattle.grid.specs.Table.{onTable}
 use Rattle.grid.specs.Refusals.{refuse, first, numberOff, notANumber, tooFar}
 use Rattle.grid.specs.declared.Refusal.{Refusal}
@@ -35,29 +36,23 @@ use Rattle.intake.specs.declared.BackAnswer.{BackAnswer}
 
 -- ---- one number
 
-pub record NearestEven (n d q : ℕ) : Type 0 where
-  pub not-low : 2 * n ≤ 2 * (q * d) + d
-  pub not-high : 2 * (q * d) ≤ 2 * n + d
-  pub half-low : 2 * n ≡ 2 * (q * d) + d → q % 2 ≡ 0
-  pub half-high : 2 * (q * d) ≡ 2 * n + d → q % 2 ≡ 0
-
 abbrev pub signed : Bool → ℕ → ℤ
-signed s q = if s then negℤ (pos q) else pos q
+signed s n = if s then negℤ (pos n) else pos n
 
 pub data GridNumber : Float → ℤ → Type 0 where
-  nearest : (s : Bool) (m : ℕ) (e : ℤ) (q : ℕ) → NearestEven (m * up e * 32) (down e) q → GridNumber (fin s m e) (signed s q)
+  nearest : {g : ℤ} (s : Bool) (m : ℕ) (e : ℤ) → Rounds toEven (signed s (m * up e * 32)) (pos (down e)) g → GridNumber (fin s m e) g
 
 abbrev pub faulty : ℕ → Coordinate
 faulty n = record { number = n; grid = pos 0 }
 
-abbrev pub at : ℤ → Coordinate
-at g = record { number = 0; grid = g }
+abbrev pub accepted : ℤ → Coordinate
+accepted g = record { number = 0; grid = g }
 
 pub data Taken : Float → Coordinate → Type 0 where
   not-a-number : Taken nan (faulty notANumber)
   infinite : (s : Bool) → Taken (inf s) (faulty tooFar)
   off-range : {x : Float} {g : ℤ} → GridNumber x g → onTable g ≡ false → Taken x (faulty tooFar)
-  on-range : {x : Float} {g : ℤ} → GridNumber x g → onTable g ≡ true → Taken x (at g)
+  on-range : {x : Float} {g : ℤ} → GridNumber x g → onTable g ≡ true → Taken x (accepted g)
 
 -- ---- points and windows
 

@@ -1,4 +1,1 @@
-pub mod Words
-pub mod Numbers
-pub mod Records
-pub mod Drawings
+mod Drawings

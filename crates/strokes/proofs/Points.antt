@@ -37,4 +37,4 @@ module _ {s : Stroke} {f : Fraction} (h : pos 0 <ℤ f .den) where
 
 -- the point at an unreduced fraction is that at the fraction in lowest terms
 pub point-lowest : {s : Stroke} {f g : Fraction} {x y : ℤ} → pos 0 <ℤ f .den → LowestOf (f .num) (f .den) g → PointAt s f x y → PointAt s g x y
-point-lowest {s} h l p = record { across = rounded-same (s .x2) h l (p .across); up = rounded-same (s .y2) h l (p .up) }
+point-lowest {s} h l p = record { across = rounded-same (s .x1) (s .x2) h l (p .across); up = rounded-same (s .y1) (s .y2) h l (p .up) }

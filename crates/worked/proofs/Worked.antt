@@ -12,7 +12,8 @@ use Rattle.codes.proofs.Computed.{meetingOf, stepOf, countOf, countedOf, counte
 use Rattle.codes.proofs.Runs.{same-two}
 use Rattle.convex.specs.Corners.{cornersOf, every, next, joins, isLeft, strictlyConvex}
 use Rattle.fraction.specs.Fraction.{lessThan}
-use Rattle.fraction.proofs.Computed.{euclid, lowestOf, nearestToZero, roundedAt}
+use Rattle.fraction.proofs.Computed.{euclid, lowestOf, roundedAt}
+use Rattle.whole.specs.Rounding.{towards}
 use Rattle.grid.specs.declared.Answer.{Answer}
 use Rattle.grid.specs.declared.Stroke.{Stroke}
 use Rattle.grid.specs.Calls.{answered, written}
@@ -47,7 +48,7 @@ outline-holds {zs} p q = record { in-order = λ o l a after h. let k = any-order
 
 pub worked : All Holds table
 unfolding table countedOf countOf stepOf meetingOf code decision trailingZeros
-    strokeCallRefusal strokeRefusal strokeAnswerOf clippedOf spanOf acrossOf cutBy lessThan roundedAt nearestToZero euclid lowestOf
+    strokeCallRefusal strokeRefusal strokeAnswerOf clippedOf spanOf acrossOf cutBy lessThan roundedAt towards euclid lowestOf
     answerOf outputOf answered written outlineOf ringOf cutsOf cutOf passOf keptOf addedOf meet isBefore leastOf startOf numbersOf
     outlineRefusal first windowRefusal noArea badOrder badOutline rightCount offTable firstOff onTable
     unlessConvex strictlyConvex every next joins isLeft cornersOf value through sidesIn linesIn left-side right-side bottom-side top-side

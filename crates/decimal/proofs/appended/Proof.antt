@@ -9,13 +9,13 @@ use Prim.Native.Nat.{_-_, _≤_}
 use native.Mathlib.Omega.{arith}
 use borrow.Author.Needs.{needs}
 use lib.ListN.{length, drop}
-use Rattle.decimal.specs.Decimals.{AllDigits, value}
-use Rattle.decimal.proofs.Texts.{digit-range, next-digit, next-rest, next-value, value-from, value-nil}
+use Rattle.decimal.specs.Decimals.{AllDigits, withDigits}
+use Rattle.decimal.proofs.Texts.{digit-range, next-digit, next-rest, next-number, withDigits-from, withDigits-nil}
 use Rattle.decimal.proofs.appended.Statement.{statement}
 use Rattle.decimal.proofs.appended.Tie as tie
 
 abbrev Inv-loop : tie.InvT-loop
-Inv-loop n digits number₀ i₀ number i = (i ≤ length digits) × (value number (drop i digits) ≡ value n digits) × AllDigits (drop i digits)
+Inv-loop n digits number₀ i₀ number i = (i ≤ length digits) × (withDigits number (drop i digits) ≡ withDigits n digits) × AllDigits (drop i digits)
 
 abbrev μ-loop : tie.MeasureT-loop
 μ-loop n digits number₀ i₀ number i = length digits - i
@@ -24,13 +24,16 @@ loop-holds : tie.Need-loop-holds Inv-loop μ-loop
 loop-holds c = (omega arith, refl, c .pre .0)
 
 -- the next digit, and the sum with it, which is no more than the whole number
-digit : (c : tie.After-shared-slice-known Inv-loop μ-loop) → (48 ≤ getD (now (c .before .before .before .args .digits)) (c .before .before .loop .i) 0) × (getD (now (c .before .before .before .args .digits)) (c .before .before .loop .i) 0 ≤ 57)
+digit : (c : tie.After-shared-slice-known Inv-loop μ-loop)
+    → (48 ≤ getD (now (c .before .before .before .args .digits)) (c .before .before .loop .i) 0) ×
+    (getD (now (c .before .before .before .args .digits)) (c .before .before .loop .i) 0 ≤ 57)
 digit c = digit-range _ (next-digit _ _ (c .before .loop-test .taken) (c .before .before .loop .inv .2))
 
 sum : (c : tie.In-loop Inv-loop μ-loop) → c .before .loop .number * 10 + (getD (now (c .before .before .args .digits)) (c .before .loop .i) 0 - 48) < 2 ^ 32
 sum c =
     lt-of-le-of-lt
-    (le-trans (value-from _ _) (le-of-eq (sym (next-value _ _ (c .loop-test .taken) (c .before .loop .inv .2) (c .before .loop .number)) ∙ c .before .loop .inv .1)))
+    (le-trans (withDigits-from _ _)
+    (le-of-eq (sym (next-number _ _ (c .loop-test .taken) (c .before .loop .inv .2) (c .before .loop .number)) ∙ c .before .loop .inv .1)))
     (c .before .before .pre .1)
 
 mul-number : tie.Need-mul-number Inv-loop μ-loop
@@ -55,10 +58,15 @@ loop-less : tie.Need-loop-less Inv-loop μ-loop
 loop-less c = omega arith
 
 loop-again : tie.Need-loop-again Inv-loop μ-loop
-loop-again c = let a = c .before .before in (omega arith, sym (next-value _ _ (c .before .loop-test .taken) (a .loop .inv .2) _) ∙ a .loop .inv .1, next-rest _ _ (c .before .loop-test .taken) (a .loop .inv .2))
+loop-again c = let a = c .before .before in (
+  omega arith,
+  sym (next-number _ _ (c .before .loop-test .taken) (a .loop .inv .2) _)
+      ∙ a .loop .inv .1,
+  next-rest _ _ (c .before .loop-test .taken) (a .loop .inv .2),
+)
 
 returns : tie.Need-returns Inv-loop μ-loop
-returns c = sym (sym (c .before .loop .inv .1) ∙ rw (drop-of-length-le _ (c .loop-test .left)) (value-nil _))
+returns c = sym (sym (c .before .loop .inv .1) ∙ rw (drop-of-length-le _ (c .loop-test .left)) (withDigits-nil _))
 
 pub appended-spec : {M : Type 1} → statement M
 appended-spec =

@@ -27,7 +27,8 @@ is-digit-requires : tie.Need-is-digit-requires Inv-loop μ-loop
 is-digit-requires c κs = search needs
 
 returns : tie.Need-returns Inv-loop μ-loop
-returns c = let a = c .before .before .before in run-here isDigit _ _ (a .before .loop .inv .1) (a .loop-test .taken) (sym (c .before .is-digit .ensures) ∙ not-true _ (c .if1 .taken))
+returns c = let a = c .before .before .before in
+    run-here isDigit _ _ (a .before .loop .inv .1) (a .loop-test .taken) (sym (c .before .is-digit .ensures) ∙ not-true _ (c .if1 .taken))
 
 add-i : tie.Need-add-i Inv-loop μ-loop
 add-i c = omega arith
@@ -36,7 +37,8 @@ loop-less : tie.Need-loop-less Inv-loop μ-loop
 loop-less c = omega arith
 
 loop-again : tie.Need-loop-again Inv-loop μ-loop
-loop-again c = let a = c .before .before .before in (omega arith, run-more isDigit _ _ (a .before .loop .inv .1) (a .loop-test .taken) (sym (c .before .is-digit .ensures) ∙ not-false _ (c .if1 .left)))
+loop-again c = let a = c .before .before .before in
+    (omega arith, run-more isDigit _ _ (a .before .loop .inv .1) (a .loop-test .taken) (sym (c .before .is-digit .ensures) ∙ not-false _ (c .if1 .left)))
 
 returns-2 : tie.Need-returns-2 Inv-loop μ-loop
 returns-2 c = run-end isDigit _ _ (c .before .loop .inv .1) (c .loop-test .left)

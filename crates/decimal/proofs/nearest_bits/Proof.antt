@@ -4,6 +4,8 @@ use mathlib.Core.Bool.{false}
 use Prim.Native.Nat.{_+_, _*_, _≤_, _<_}
 use native.Mathlib.Nat.{le-trans, le-of-eq}
 use lib.Ieee.{binary32, round, toBits}
+use lib.Ieee.Nearest.{closest}
+use Rattle.whole.proofs.Rounding.{closest-only}
 use native.Mathlib.Omega.{arith}
 use Rattle.decimal.proofs.Patterns.{Scaled, scaled-start, scaled-left, scaled-on, no-more, nearest-bits}
 use Rattle.decimal.proofs.nearest_bits.Statement.{statement}
@@ -45,15 +47,19 @@ mul-result c = omega arith
 closest-requires : tie.Need-closest-requires Inv-loop μ-loop
 closest-requires c κs = omega arith
 
+is-closest : (c : tie.After-closest Inv-loop μ-loop) → c .closest .result ≡ closest (c .before .before .loop .scaled) (c .before .before .before .args .d * 64)
+is-closest c = closest-only (omega arith) (c .closest .ensures)
+
 -- at most 24 digits and one more stay
 kept : (c : tie.After-closest Inv-loop μ-loop) → c .closest .result ≤ 16777216
-kept c = le-trans (le-of-eq (c .closest .ensures)) (no-more false (c .before .before .before .pre .1 .0) (c .before .before .loop .inv) (omega arith))
+kept c = le-trans (le-of-eq (is-closest c)) (no-more false (c .before .before .before .pre .1 .0) (c .before .before .loop .inv) (omega arith))
 
 bits : (c : tie.After-closest Inv-loop μ-loop)
-    → toBits binary32 (round binary32 false (c .before .before .before .args .n) (c .before .before .before .args .d)) ≡ c .before .before .loop .dropped * 8388608 + c .closest .result
+    → toBits binary32 (round binary32 false (c .before .before .before .args .n) (c .before .before .before .args .d)) ≡ c .before .before .loop .dropped *
+    8388608 + c .closest .result
 bits c =
     nearest-bits false (c .before .before .before .pre .1 .0) (c .before .before .loop .inv) (omega arith)
-    ∙ omega (arith, c .closest .ensures)
+    ∙ omega (arith, is-closest c)
 
 add-result : tie.Need-add-result Inv-loop μ-loop
 add-result c = omega (arith, kept c)

@@ -19,14 +19,19 @@ ten-to-requires : tie.Need-ten-to-requires
 ten-to-requires c κs = search needs
 
 nearest-bits-requires : tie.Need-nearest-bits-requires
-nearest-bits-requires c κs = let k = c .before .before .args .places in omega (arith, one-le-pow k 10 (lit< tt), pow-le-pow-right {n = 10} (lit< tt) {i = k} {j = 9} (c .before .before .pre .1))
+nearest-bits-requires c κs = let k = c .before .before .args .places in
+    omega (arith, one-le-pow k 10 (lit< tt), pow-le-pow-right {n = 10} (lit< tt) {i = k} {j = 9} (c .before .before .pre .1))
 
 cast-result : tie.Need-cast-result
 cast-result c = search needs
 
 returns-2 : tie.Need-returns-2
 unfolding bitsOf
-returns-2 c = (c .nearest-bits .ensures .0 ∙ ap (λ d. toBits binary32 (round binary32 false (c .before .before .before .args .n) d)) (c .before .ten-to .ensures), c .nearest-bits .ensures .1)
+returns-2 c = (
+  c .nearest-bits .ensures .0
+      ∙ ap (λ d. toBits binary32 (round binary32 false (c .before .before .before .args .n) d)) (c .before .ten-to .ensures),
+  c .nearest-bits .ensures .1,
+)
 
 pub plain-bits-spec : {M : Type 1} → statement M
 plain-bits-spec =

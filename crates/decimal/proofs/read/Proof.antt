@@ -46,7 +46,9 @@ enum-known-bits c = search needs
 rest : (a : tie.Start) {r : Reading} → ReadsPlain (take (length (now (a .args .text)) - 1) (drop 1 (now (a .args .text)))) r → ReadsPlain (drop 1 (now (a .args .text))) r
 rest a {r} = subst (λ t. ReadsPlain t r) (take-all _ _ (le-of-eq (length-drop 1 (now (a .args .text)))))
 
-read : (c : tie.After-known-told) → (c .before .bits .given .0 .0 < 2 ^ 31) × Reads (now (c .before .before .before .before .before .before .before .before .before .args .text)) (Number (c .before .bits .given .0 .0 + 2147483648))
+read : (c : tie.After-known-told)
+    → (c .before .bits .given .0 .0 < 2 ^ 31) × Reads (now (c .before .before .before .before .before .before .before .before .before .args .text))
+    (Number (c .before .bits .given .0 .0 + 2147483648))
 read c =
     let b = c .before .before .before in
     reads-negative _ (omega arith) (b .before .before .if2 .left) _
@@ -62,7 +64,9 @@ returns-3 : tie.Need-returns-3
 returns-3 c = read c .1
 
 returns-4 : tie.Need-returns-4
-returns-4 c = let b = c .before .before .before .before in reads-no-negative _ (omega arith) (b .if2 .left) (rest (c .before .before .before .before .before .before .before .before) (subst (ReadsPlain _) (c .enum-told .given .1) (c .before .before .read-plain2 .ensures)))
+returns-4 c = let b = c .before .before .before .before in
+    reads-no-negative _ (omega arith) (b .if2 .left)
+    (rest (c .before .before .before .before .before .before .before .before) (subst (ReadsPlain _) (c .enum-told .given .1) (c .before .before .read-plain2 .ensures)))
 
 pub read-spec : {M : Type 1} → statement M
 read-spec =

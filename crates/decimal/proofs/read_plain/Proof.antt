@@ -1,6 +1,6 @@
 -- `decimal::read_plain` meets its contract: the first digits end the text, or a point must follow them. Assumes nothing.
 use Prim.Native.Nat.{_<_, _≤_, _^_}
-use Rattle.decimal.specs.Decimals.{value}
+use Rattle.decimal.specs.Decimals.{withDigits}
 use Rattle.decimal.proofs.Shapes.{reads as reads-number}
 use mathlib.Core.Path.{refl}
 use native.Mathlib.Nat.{le-antisymm}
@@ -42,7 +42,7 @@ some c = let t = now (c .before .before .before .before .before .args .text) in 
 few : (c : tie.Else3) → length (now (c .before .before .before .before .before .args .text)) ≤ 9
 few c = omega arith
 
-below : (c : tie.Else3) → value 0 (now (c .before .before .before .before .before .args .text)) < 10 ^ 9
+below : (c : tie.Else3) → withDigits 0 (now (c .before .before .before .before .before .args .text)) < 10 ^ 9
 below c = small (digits c) (few c)
 
 appended-requires : tie.Need-appended-requires

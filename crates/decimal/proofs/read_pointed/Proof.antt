@@ -20,7 +20,8 @@ long : (a : tie.Start) → length (drop (a .args .front + 1) (now (a .args .text
 long a = length-drop (a .args .front + 1) (now (a .args .text))
 
 -- the part that is lent is all that follows
-rest : (a : tie.Start) → take (length (now (a .args .text)) - (a .args .front + 1)) (drop (a .args .front + 1) (now (a .args .text))) ≡ drop (a .args .front + 1) (now (a .args .text))
+rest : (a : tie.Start) → take (length (now (a .args .text)) - (a .args .front + 1)) (drop (a .args .front + 1) (now (a .args .text))) ≡ drop
+    (a .args .front + 1) (now (a .args .text))
 rest a = take-all _ _ (le-of-eq (long a))
 
 shared-slice-read-if1 : tie.Need-shared-slice-read-if1
@@ -42,21 +43,25 @@ part-behind-end : tie.Need-part-behind-end
 part-behind-end c = search needs
 
 returns-2 : tie.Need-returns-2
-returns-2 c = let a = c .before .before .before .before .before in nothing (λ n k p. let f = follows p (a .pre .0) (a .pre .1 .1) in omega (arith, f .some, ap length (f .rest), long a))
+returns-2 c = let a = c .before .before .before .before .before in
+    nothing (λ n k p. let f = follows p (a .pre .0) (a .pre .1 .1) in omega (arith, f .some, ap length (f .rest), long a))
 
 digits-in-requires : tie.Need-digits-in-requires
 digits-in-requires c κs = search needs
 
 returns-3 : tie.Need-returns-3
-returns-3 c = let a = c .before .before .before .before .before .before .before in nothing (λ n k p. let f = follows p (a .pre .0) (a .pre .1 .1) in omega (arith, f .digits, c .before .digits-in .ensures ∙ ap (run isDigit) (rest a), long a))
+returns-3 c = let a = c .before .before .before .before .before .before .before in
+    nothing (λ n k p. let f = follows p (a .pre .0) (a .pre .1 .1) in omega (arith, f .digits, c .before .digits-in .ensures ∙ ap (run isDigit) (rest a), long a))
 
 add-if4 : tie.Need-add-if4
 add-if4 c = search needs
 
 returns-4 : tie.Need-returns-4
-returns-4 c = let a = c .before .before .before .before .before .before .before .before in nothing (λ n k p. let f = follows p (a .pre .0) (a .pre .1 .1) in omega (arith, ap length (f .rest), few-digits p (a .pre .0), long a))
+returns-4 c = let a = c .before .before .before .before .before .before .before .before in
+    nothing (λ n k p. let f = follows p (a .pre .0) (a .pre .1 .1) in omega (arith, ap length (f .rest), few-digits p (a .pre .0), long a))
 
-shape : (c : tie.Else4) → Pointed (now (c .before .before .before .before .before .before .before .before .args .text)) (c .before .before .before .before .before .before .before .before .args .front)
+shape : (c : tie.Else4) → Pointed (now (c .before .before .before .before .before .before .before .before .args .text))
+    (c .before .before .before .before .before .before .before .before .args .front)
 shape c =
     let a = c .before .before .before .before .before .before .before .before in
     let e = c .before .before .digits-in .ensures ∙ ap (run isDigit) (rest a) in
@@ -78,13 +83,22 @@ appended-requires : tie.Need-appended-requires
 appended-requires c κs = (front (shape (c .before)), omega (arith, front-small (shape (c .before))))
 
 appended-requires-2 : tie.Need-appended-requires-2
-appended-requires-2 c κs = let p = shape (c .before .before) in rw (rest (c .before .before .before .before .before .before .before .before .before .before), c .appended .ensures) (p .behind, omega (arith, number-small p))
+appended-requires-2 c κs = let p = shape (c .before .before) in
+    rw (rest (c .before .before .before .before .before .before .before .before .before .before), c .appended .ensures) (p .behind, omega (arith, number-small p))
 
 plain-bits-requires : tie.Need-plain-bits-requires
-plain-bits-requires c κs = let p = shape (c .before .before .before) in (rw (c .appended2 .ensures, c .before .appended .ensures, rest (c .before .before .before .before .before .before .before .before .before .before .before)) (number-small p), omega (arith, p .few, long (c .before .before .before .before .before .before .before .before .before .before .before)))
+plain-bits-requires c κs = let p = shape (c .before .before .before) in (
+  rw (c .appended2 .ensures, c .before .appended .ensures, rest (c .before .before .before .before .before .before .before .before .before .before .before))
+      (number-small p),
+  omega (arith, p .few, long (c .before .before .before .before .before .before .before .before .before .before .before)),
+)
 
 returns-5 : tie.Need-returns-5
-returns-5 c = let p = shape (c .before .before .before .before) in reads-number (with-point p) (c .before .appended2 .ensures ∙ rw (rest (c .before .before .before .before .before .before .before .before .before .before .before .before), c .before .before .appended .ensures) refl) (ap length (rest (c .before .before .before .before .before .before .before .before .before .before .before .before))) (c .plain-bits .ensures)
+returns-5 c = let p = shape (c .before .before .before .before) in
+    reads-number (with-point p)
+    (c .before .appended2 .ensures
+    ∙ rw (rest (c .before .before .before .before .before .before .before .before .before .before .before .before), c .before .before .appended .ensures) refl)
+    (ap length (rest (c .before .before .before .before .before .before .before .before .before .before .before .before))) (c .plain-bits .ensures)
 
 pub read-pointed-spec : {M : Type 1} → statement M
 read-pointed-spec =

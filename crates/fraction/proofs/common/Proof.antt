@@ -26,7 +26,8 @@ rem-n : tie.Need-rem-n Inv-loop μ-loop
 rem-n c = omega arith
 
 loop-less : tie.Need-loop-less Inv-loop μ-loop
-loop-less c = let m = c .before .before .loop .m in let n = c .before .before .loop .n in omega (arith, mod-lt m {m = n} (omega arith), mod-lt n {m = m % n} (omega arith))
+loop-less c = let m = c .before .before .loop .m in let n = c .before .before .loop .n in
+    omega (arith, mod-lt m {m = n} (omega arith), mod-lt n {m = m % n} (omega arith))
 
 loop-again : tie.Need-loop-again Inv-loop μ-loop
 loop-again c = same-step (same-step (c .before .before .loop .inv))

@@ -22,12 +22,14 @@ product x y p q h = reads (λ i. toZ-ofZ p i *ℤ toZ-ofZ q i) (fits-abs (omega 
 one : (c : tie.After-struct-told2) → let s = c .before .before .before .before in Product (s .args .f .num) (s .args .g .den)
 one c =
     let s = c .before .before .before .before in
-    product (s .args .f .num) (s .args .g .den) (record { sfits = c .before .before .struct-told .given .0 .1 }) (record { sfits = c .struct-told2 .given .1 .0 .1 }) (s .pre .one)
+    product (s .args .f .num) (s .args .g .den) (record { sfits = c .before .before .struct-told .given .0 .1 })
+    (record { sfits = c .struct-told2 .given .1 .0 .1 }) (s .pre .one)
 
 other : (c : tie.After-struct-told4) → let s = c .before .before .before .before .before .before .before .before in Product (s .args .g .num) (s .args .f .den)
 other c =
     let s = c .before .before .before .before .before .before .before .before in
-    product (s .args .g .num) (s .args .f .den) (record { sfits = c .before .before .struct-told3 .given .0 .1 }) (record { sfits = c .struct-told4 .given .1 .0 .1 }) (s .pre .other)
+    product (s .args .g .num) (s .args .f .den) (record { sfits = c .before .before .struct-told3 .given .0 .1 })
+    (record { sfits = c .struct-told4 .given .1 .0 .1 }) (s .pre .other)
 
 mul-result : tie.Need-mul-result
 mul-result c = one c .fits

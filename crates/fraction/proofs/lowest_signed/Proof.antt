@@ -92,7 +92,8 @@ cast-t7 c = wide-quotient (c .before) .fits
 returns : tie.Need-returns
 returns c =
     let s = c .before in
-    subst (λ (z : ℤ). LowestOf (n s) (d s) (record { num = z; den = pos 1 })) (sym (wide-quotient s .is)) (whole-number s (sym (rest s .is) ∙ ap (toZ w32) (c .if1 .taken)))
+    subst (λ (z : ℤ). LowestOf (n s) (d s) (record { num = z; den = pos 1 })) (sym (wide-quotient s .is))
+    (whole-number s (sym (rest s .is) ∙ ap (toZ w32) (c .if1 .taken)))
 
 cast-common : tie.Need-cast-common
 cast-common c = let s = c .before in cast-unsigned w32 (s .fits .d) (<→≤ (s .pre)) w32 (abs-small (d s) (s .fits .d))

@@ -67,7 +67,8 @@ returns : tie.Need-returns
 returns c =
     let a = c .before .before .before .args in
     subst (Rounded _ _ _) (sym (value β (back-env c) (back-bounds c) less tt))
-    (rounded-back (a .a) (a .b) (pos (a .n)) (subst (λ (z : ℤ). Rounded (pos 0) (z *ℤ pos (a .n)) (pos (a .d)) (pos (c .part-of .result))) (back-far (c .before)) (c .part-of .ensures)))
+    (rounded-back (a .a) (a .b) (pos (a .n))
+    (subst (λ (z : ℤ). Rounded (pos 0) (z *ℤ pos (a .n)) (pos (a .d)) (pos (c .part-of .result))) (back-far (c .before)) (c .part-of .ensures)))
 
 -- ---- forward from the start
 gap-requires-2 : tie.Need-gap-requires-2
@@ -100,7 +101,8 @@ returns-2 : tie.Need-returns-2
 returns-2 c =
     let a = c .before .before .before .args in
     subst (Rounded _ _ _) (sym (value β (on-env c) (on-bounds c) more tt))
-    (rounded-on (a .a) (a .b) (pos (a .n)) (subst (λ (z : ℤ). Rounded (pos 0) (z *ℤ pos (a .n)) (pos (a .d)) (pos (c .part-of2 .result))) (on-far (c .before)) (c .part-of2 .ensures)))
+    (rounded-on (a .a) (a .b) (pos (a .n))
+    (subst (λ (z : ℤ). Rounded (pos 0) (z *ℤ pos (a .n)) (pos (a .d)) (pos (c .part-of2 .result))) (on-far (c .before)) (c .part-of2 .ensures)))
 
 pub rounded-spec : {M : Type 1} → statement M
 rounded-spec =

@@ -46,7 +46,15 @@ returns-3 c =
     let y = c .before .before .before .before in
     let x = y .before .before .before in
     to-point (x .before .args .p)
-    (simp (at-x x, at-y y, eq-eqb _ _ (y .before .if1 .left), eq-eqb _ _ (c .before .before .if2 .left), read-back (x .to-grid .ensures), read-back (y .to-grid2 .ensures)))
+    (simp (
+      at-x x,
+      at-y y,
+      eq-eqb _ _ (y .before .if1 .left),
+      eq-eqb _ _ (c .before .before .if2 .left),
+      read-back (x .to-grid .ensures),
+      read-back
+          (y .to-grid2 .ensures),
+    ))
 
 pub point-to-grid-spec : {M : Type 1} → statement M
 point-to-grid-spec =

@@ -7,7 +7,7 @@ use mir.Syntax.{w32}
 use mir.Val.{SFits, toZ}
 use mir.Facts.{toZ-ofZ, toZ-pos}
 use Rattle.whole.proofs.Comparisons.{true-T}
-use Rattle.intake.specs.Millimetres.{Taken, at}
+use Rattle.intake.specs.Millimetres.{Taken, accepted}
 use Rattle.intake.specs.declared.Coordinate.{Coordinate}
 use Rattle.intake.proofs.Outcome.{outcome, taken}
 use Rattle.intake.proofs.Ways.{bits, Rounded, between, is-nan, too-high, too-low}
@@ -49,7 +49,7 @@ sub-t9 c = fits-signed c
 
 returns-2 : tie.Need-returns-2
 unfolding ofBits
-returns-2 c = given (ap at (toZ-ofZ (fits-signed c) ∙ ap (λ (z : ℤ). z -ℤ pos 1262485504) (as-signed c)) ∙ rounded c .number)
+returns-2 c = given (ap accepted (toZ-ofZ (fits-signed c) ∙ ap (λ (z : ℤ). z -ℤ pos 1262485504) (as-signed c)) ∙ rounded c .number)
 
 returns-3 : tie.Need-returns-3
 unfolding ofBits neg

@@ -77,7 +77,17 @@ returns-4 c =
     let l = b .before .before .before in
     to-window (l .before .args .w)
     (c .refused-window4 .ensures
-    ∙ simp (left l, bottom b, right r, top t, eq-eqb _ _ (b .before .if1 .left), eq-eqb _ _ (r .before .if2 .left), eq-eqb _ _ (t .before .if3 .left), ne-eqb _ _ (c .before .if4 .taken)))
+    ∙ simp (
+      left l,
+      bottom b,
+      right r,
+      top t,
+      eq-eqb _ _ (b .before .if1 .left),
+      eq-eqb _ _ (r .before .if2 .left),
+      eq-eqb _ _
+          (t .before .if3 .left),
+      ne-eqb _ _ (c .before .if4 .taken),
+    ))
 
 returns-5 : tie.Need-returns-5
 unfolding first windowFault windowAnswer

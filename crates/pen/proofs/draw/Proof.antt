@@ -25,7 +25,8 @@ same-length : tie.Need-same-length Inv-loop μ-loop
 same-length c = as-long (c .before .before .before .loop .inv .2)
 
 returns : tie.Need-returns Inv-loop μ-loop
-returns c = long-text (c .before .before .before .loop .inv .2 .told) (c .before .before .loop-test .taken) (subst (λ e. 524288 < e) (c .before .find .ensures .0) (c .if1 .taken))
+returns c = long-text (c .before .before .before .loop .inv .2 .told) (c .before .before .loop-test .taken)
+    (subst (λ e. 524288 < e) (c .before .find .ensures .0) (c .if1 .taken))
 
 sub-take-line : tie.Need-sub-take-line Inv-loop μ-loop
 sub-take-line c = search needs
@@ -46,10 +47,16 @@ enum-known-fault : tie.Need-enum-known-fault Inv-loop μ-loop
 enum-known-fault c = search needs
 
 same-length-2 : tie.Need-same-length-2 Inv-loop μ-loop
-same-length-2 c = c .before .before .before .before .page .given ∙ as-long (c .before .before .before .before .before .before .before .before .before .before .before .loop .inv .2)
+same-length-2 c =
+    let p = c .before .before .before .before in
+    p .page .given ∙ as-long (p .before .before .before .before .before .before .before .loop .inv .2)
 
 returns-2 : tie.Need-returns-2 Inv-loop μ-loop
-returns-2 c = stopped (c .before .before .before .before .before .before .before .before .before .before .before .loop .inv .2) (c .before .before .before .before .before .before .before .before .before .before .loop-test .taken) (c .before .before .before .before .before .before .before .before .before .find .ensures .0) (c .before .fault .given .1) (c .before .before .before .before .before .before .before .before .if1 .left) (c .before .before .before .before .page .given) (c .before .before .before .before .before .take-line .ensures)
+returns-2 c =
+    let t = c .before .before .before .before .before in
+    let f = t .before .before .before .before in
+    stopped (f .before .before .loop .inv .2) (f .before .loop-test .taken) (f .find .ensures .0) (c .before .fault .given .1)
+    (t .before .before .before .if1 .left) (c .before .before .before .before .page .given) (t .take-line .ensures)
 
 add-from : tie.Need-add-from Inv-loop μ-loop
 add-from c = search needs
@@ -61,7 +68,14 @@ loop-less : tie.Need-loop-less Inv-loop μ-loop
 loop-less c = search needs
 
 loop-again : tie.Need-loop-again Inv-loop μ-loop
-loop-again c = (omega arith, omega arith, going-on (c .before .before .before .before .before .before .before .before .before .before .before .loop .inv .2) (c .before .before .before .before .before .before .before .before .before .before .loop-test .taken) (c .before .before .before .before .before .before .before .before .before .find .ensures .0) (c .before .next .given .1) (c .before .before .before .before .before .take-line .ensures))
+loop-again c =
+    let t = c .before .before .before .before .before in
+    let f = t .before .before .before .before in (
+      omega arith,
+      omega arith,
+      going-on (f .before .before .loop .inv .2) (f .before .loop-test .taken) (f .find .ensures .0) (c .before .next .given .1)
+          (t .take-line .ensures),
+    )
 
 put-length-requires : tie.Need-put-length-requires Inv-loop μ-loop
 put-length-requires c κs = let g = c .before .before .loop .inv .2 in (behind g, within g, omega (arith, as-long g))
@@ -70,7 +84,8 @@ same-length-3 : tie.Need-same-length-3 Inv-loop μ-loop
 same-length-3 c = c .before .page2 .given ∙ as-long (c .before .before .before .before .before .loop .inv .2)
 
 returns-3 : tie.Need-returns-3 Inv-loop μ-loop
-returns-3 c = ended (c .before .before .before .before .before .loop .inv .2) (c .before .before .before .before .loop-test .left) (c .before .before .put-length .ensures)
+returns-3 c = ended (c .before .before .before .before .before .loop .inv .2) (c .before .before .before .before .loop-test .left)
+    (c .before .before .put-length .ensures)
 
 pub draw-spec : {M : Type 1} → statement M
 draw-spec =

@@ -1,0 +1,3 @@
+mod Words
+mod Numbers
+mod Records

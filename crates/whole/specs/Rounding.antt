@@ -1,0 +1,31 @@
+-- A fraction x/d, d positive, to the nearest whole number, with a rule for halves.
+--   Nearest x d r     r is a whole number nearest to x/d
+--   Rule              says of n whether n and a half goes up, to n + 1, or else down, to n
+--   Rounds up x d r   r is x/d rounded to the nearest whole number, halves by the rule `up`
+--   towards a         the rule by which a half falls towards a
+--   toEven            the rule by which a half goes to the even one of the two whole numbers
+use mathlib.Core.Path.{_≡_}
+use mathlib.Core.Bool.{Bool, true, false}
+use Prim.Native.Nat.{_%_}
+use lib.Dec.{eqb}
+use lib.IntN.{ℤ, pos, natAbs, _+ℤ_, _-ℤ_, _*ℤ_}
+use lib.Signed.{_≤ℤ_, ltZ}
+
+pub record Nearest (x d r : ℤ) : Type 0 where
+  pub low : (pos 2 *ℤ (r *ℤ d)) ≤ℤ (pos 2 *ℤ x +ℤ d)
+  pub high : (pos 2 *ℤ x) ≤ℤ (pos 2 *ℤ (r *ℤ d) +ℤ d)
+
+abbrev pub Rule : Type 0
+Rule = ℤ → Bool
+
+-- r lies a half above x/d only where that half goes up, and a half below only where it goes down
+pub record Rounds (up : Rule) (x d r : ℤ) : Type 0 where
+  pub nearest : Nearest x d r
+  pub above : pos 2 *ℤ (r *ℤ d) ≡ pos 2 *ℤ x +ℤ d → up (r -ℤ pos 1) ≡ true
+  pub below : pos 2 *ℤ x ≡ pos 2 *ℤ (r *ℤ d) +ℤ d → up r ≡ false
+
+unfoldable pub towards : ℤ → Rule
+towards a n = ltZ n a
+
+unfoldable pub toEven : Rule
+toEven n = eqb (natAbs n % 2) 1
