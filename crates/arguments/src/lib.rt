@@ -1,0 +1,72 @@
+// The arguments of a line: its text after the command's word, each argument with a space before it.
+ghost use Prim.Native.Nat.{_≤_};
+ghost use lib.ListN.{length};
+use grid::Stroke;
+use grid::Window;
+
+// The number of a command's word: its bytes as the digits of a number to the base 256, after a 1, so that no two words have the same.
+// A word of more than seven bytes is no command's, and has 0.
+pub fn word_number(word: &[u8]) -> u64 {
+    let mut n: u64 = 1;
+    let mut i = 0;
+    while i < word.len() {
+        if 0x100_0000_0000_0000 <= n {
+            return 0;
+        }
+        n = n * 256 + (word[i] as u64);
+        i += 1;
+    }
+    n
+}
+
+// Where the first argument ends; 0 where there is none.
+pub fn first_end(rest: &[u8]) -> usize
+    ensures { λ r. ⌜ r ≤ length (now (rest .entry)) ⌝ }
+{
+    if rest.len() == 0 {
+        return 0;
+    }
+    text::find(rest, 1, b' ')
+}
+
+// Puts the numbers of a text at the front of numbers, and says how many there are; 0 where the text is something else.
+pub fn read_numbers(rest: &[u8], numbers: &mut [i32]) -> usize
+    ensures { λ r. ⌜ r ≤ length (now (numbers .entry)) ⌝ }
+{
+    let read = words::read_integers(rest, numbers);
+    if !read.whole {
+        return 0;
+    }
+    read.count
+}
+
+// The window of the first four numbers.
+pub fn first_window(numbers: &[i32]) -> Window
+    requires { ⌜ 4 ≤ length (now numbers) ⌝ }
+{
+    Window {
+        left: numbers[0],
+        bottom: numbers[1],
+        right: numbers[2],
+        top: numbers[3],
+    }
+}
+
+// A window and a stroke, where the text is l b r t x1 y1 x2 y2.
+pub struct Pair {
+    pub whole: bool,
+    pub window: Window,
+    pub stroke: Stroke,
+}
+
+pub fn read_pair(rest: &[u8]) -> Pair {
+    let mut numbers = [0i32; 8];
+    let whole = read_numbers(rest, &mut numbers) == 8;
+    let window = first_window(&numbers);
+    let stroke = grid::stroke_at(&numbers, 4);
+    Pair {
+        whole,
+        window,
+        stroke,
+    }
+}

@@ -1,0 +1,25 @@
+-- `millimetre_commands::millimetres` meets its contract: what comes back is no NaN. Assumes nothing.
+use Rattle.millimetre_commands.proofs.Finite.{a-number}
+use borrow.Author.Needs.{needs}
+use Rattle.millimetre_commands.proofs.millimetres.Statement.{statement}
+use Rattle.millimetre_commands.proofs.millimetres.Tie as tie
+
+to-millimetres-requires : tie.Need-to-millimetres-requires
+to-millimetres-requires c κs = search needs
+
+begin-requires : tie.Need-begin-requires
+begin-requires c κs = search needs
+
+float-to-bits-bits : tie.Need-float-to-bits-bits
+float-to-bits-bits c = a-number (c .before .before .to-millimetres .ensures)
+
+bits-requires : tie.Need-bits-requires
+bits-requires c κs = search needs
+
+returns : tie.Need-returns
+returns c = search needs
+
+pub millimetres-spec : {M : Type 1} → statement M
+millimetres-spec =
+    tie.close
+    (tie.spec to-millimetres-requires begin-requires float-to-bits-bits bits-requires returns)

@@ -1,0 +1,52 @@
+// The commands of an outline: outline.
+ghost use Prim.Native.Nat.{_≤_};
+ghost use lib.ListN.{length};
+use grid::Window;
+use replies::Reply;
+use words::Natural;
+
+// The side order that an argument is.
+enum Order {
+    Bad,
+    Is(u32),
+}
+
+fn read_order(argument: &[u8]) -> Order {
+    if argument.len() == 0 {
+        return Order::Bad;
+    }
+    match words::read_unsigned(&argument[1..], 0xffff_ffff) {
+        Natural::Is(n) => Order::Is(n as u32),
+        Natural::Bad => Order::Bad,
+    }
+}
+
+// N P W of an outline, clipped into a lent output
+fn clip(w: Window, order: u32, outline: &[i32], lent: &mut [i32]) -> Reply
+    requires { ⌜ length (now lent) ≤ 40960 ⌝ }
+    ensures { λ r. ⌜ r .count ≤ 16 ⌝ }
+{
+    lending::prepare(lent);
+    let a = outlines::clip_outline(w, order, outline, lent);
+    replies::begin(a.number, a.place).natural(a.count as u64)
+}
+
+// outline ORDER ROOM l b r t M c1 .. cM: N P W o1 .. oROOM, M at most 256
+pub fn outline(rest: &[u8], lent: &mut [i32]) -> Reply
+    requires { ⌜ 40960 ≤ length (now lent) ⌝ }
+    ensures { λ r. ⌜ r .count ≤ 16 ⌝ }
+{
+    let first = arguments::first_end(rest);
+    let Order::Is(order) = read_order(&rest[0..first]) else {
+        return replies::unknown();
+    };
+    let mut numbers = [0i32; 261];
+    let list = lending::read_list(&rest[first..], &mut numbers);
+    let room = list.room;
+    let end = list.end;
+    if end < 5 {
+        return replies::unknown();
+    }
+    let w = arguments::first_window(&numbers);
+    clip(w, order, &numbers[5..end], &mut lent[0..room]).lent(room)
+}

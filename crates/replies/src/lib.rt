@@ -1,0 +1,105 @@
+// A reply: what the desk says to one line, as a value. A command makes it; how it is put on a line stands in `output`.
+ghost use mathlib.Core.Path.{_≡_};
+ghost use Prim.Native.Nat.{_+_, _≤_, _<_};
+use grid::Window;
+
+// The most fields of a reply.
+pub const MOST_FIELDS: usize = 16;
+
+// How a field is written: a number, a number with a minus, or the eight hexadecimal digits of an f32's bits.
+pub const PLAIN: u8 = 0;
+
+pub const MINUS: u8 = 1;
+
+pub const BITS: u8 = 2;
+
+// Its first `count` fields, each a form and a size; behind them come the first `room` numbers of the output that was lent.
+// A reply of no fields is the answer to a line that is no call.
+pub struct Reply {
+    pub count: usize,
+    pub forms: [u8; 16],
+    pub sizes: [u64; 16],
+    pub room: usize,
+}
+
+// The reply to a line that is no call.
+pub fn unknown() -> Reply
+    ensures { λ r. ⌜ r .count ≡ 0 ⌝ }
+{
+    Reply {
+        count: 0,
+        forms: [0; 16],
+        sizes: [0; 16],
+        room: 0,
+    }
+}
+
+// How every answer begins: with the refusal's number and place.
+pub fn begin(number: u8, place: usize) -> Reply
+    ensures { λ r. ⌜ r .count ≡ 2 ⌝ }
+{
+    unknown().natural(number as u64).natural(place as u64)
+}
+
+impl Reply {
+    fn field(mut self, form: u8, size: u64) -> Self
+        requires { ⌜ self .count < 16 ⌝ }
+        ensures { λ r. ⌜ r .count ≡ self .count + 1 ⌝ }
+    {
+        let n = self.count;
+        self.forms[n] = form;
+        self.sizes[n] = size;
+        self.count = n + 1;
+        self
+    }
+
+    pub fn natural(self, n: u64) -> Self
+        requires { ⌜ self .count < 16 ⌝ }
+        ensures { λ r. ⌜ r .count ≡ self .count + 1 ⌝ }
+    {
+        self.field(PLAIN, n)
+    }
+
+    pub fn wide(self, z: i64) -> Self
+        requires { ⌜ self .count < 16 ⌝ }
+        ensures { λ r. ⌜ r .count ≡ self .count + 1 ⌝ }
+    {
+        let size = whole::size(z);
+        if z < 0 {
+            return self.field(MINUS, size);
+        }
+        self.field(PLAIN, size)
+    }
+
+    pub fn integer(self, z: i32) -> Self
+        requires { ⌜ self .count < 16 ⌝ }
+        ensures { λ r. ⌜ r .count ≡ self .count + 1 ⌝ }
+    {
+        self.wide(z as i64)
+    }
+
+    pub fn bits(self, bits: u32) -> Self
+        requires { ⌜ self .count < 16 ⌝ }
+        ensures { λ r. ⌜ r .count ≡ self .count + 1 ⌝ }
+    {
+        self.field(BITS, bits as u64)
+    }
+
+    pub fn window(self, w: Window) -> Self
+        requires { ⌜ self .count + 4 ≤ 16 ⌝ }
+        ensures { λ r. ⌜ r .count ≡ self .count + 4 ⌝ }
+    {
+        self.integer(w.left)
+            .integer(w.bottom)
+            .integer(w.right)
+            .integer(w.top)
+    }
+
+    // The answer ends with the first `room` numbers of the output that was lent.
+    pub fn lent(mut self, room: usize) -> Self
+        ensures { λ r. ⌜ r .count ≡ self .count ⌝ }
+    {
+        self.room = room;
+        self
+    }
+}

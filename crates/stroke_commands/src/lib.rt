@@ -1,0 +1,74 @@
+// The commands of one stroke: lb, cs and cb.
+ghost use mathlib.Core.Path.{_≡_};
+ghost use Prim.Native.Nat.{_+_, _≤_};
+use fraction::Fraction;
+use replies::Reply;
+use strokes::StrokeAnswer;
+
+// K n0 d0 n1 d1: whether a stroke is kept, and its two fractions.
+fn part(reply: Reply, kept: bool, t0: Fraction, t1: Fraction) -> Reply
+    requires { ⌜ reply .count + 5 ≤ 16 ⌝ }
+    ensures { λ r. ⌜ r .count ≡ reply .count + 5 ⌝ }
+{
+    reply
+        .natural(kept as u64)
+        .wide(t0.num)
+        .wide(t0.den)
+        .wide(t1.num)
+        .wide(t1.den)
+}
+
+// N P K n0 d0 n1 d1 ax ay bx by
+fn answered(a: StrokeAnswer) -> Reply
+    ensures { λ r. ⌜ r .count ≡ 11 ⌝ }
+{
+    let t0 = a.t0;
+    let t1 = a.t1;
+    part(replies::begin(a.number, a.place), a.kept, t0, t1).integer(a.ax)
+        .integer(a.ay)
+        .integer(a.bx)
+        .integer(a.by)
+}
+
+// lb l b r t x1 y1 x2 y2: N P K n0 d0 n1 d1 ax ay bx by
+pub fn lb(rest: &[u8]) -> Reply
+    ensures { λ r. ⌜ r .count ≤ 16 ⌝ }
+{
+    let pair = arguments::read_pair(rest);
+    if !pair.whole {
+        return replies::unknown();
+    }
+    answered(strokes::liang_barsky(pair.window, pair.stroke))
+}
+
+// cs l b r t x1 y1 x2 y2: N P K n0 d0 n1 d1 ax ay bx by S
+pub fn cs(rest: &[u8]) -> Reply
+    ensures { λ r. ⌜ r .count ≤ 16 ⌝ }
+{
+    let pair = arguments::read_pair(rest);
+    if !pair.whole {
+        return replies::unknown();
+    }
+    let a = codes::cohen_sutherland(pair.window, pair.stroke);
+    answered(a.answer).natural(a.shortenings as u64)
+}
+
+// cb M c1 .. cM x1 y1 x2 y2: N P K n0 d0 n1 d1, M at most 64
+pub fn cb(rest: &[u8]) -> Reply
+    ensures { λ r. ⌜ r .count ≤ 16 ⌝ }
+{
+    let mut numbers = [0i32; 69];
+    let n = arguments::read_numbers(rest, &mut numbers);
+    if n < 5 {
+        return replies::unknown();
+    }
+    let end = n - 4;
+    if numbers[0] != (end - 1) as i32 {
+        return replies::unknown();
+    }
+    let stroke = grid::stroke_at(&numbers, end);
+    let a = corners::cyrus_beck(&numbers[1..end], stroke);
+    let t0 = a.t0;
+    let t1 = a.t1;
+    part(replies::begin(a.number, a.place), a.kept, t0, t1)
+}
