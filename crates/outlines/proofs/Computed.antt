@@ -29,12 +29,12 @@ use Rattle.rings.proofs.Start.{turned-ring}
 use Rattle.rings.proofs.Theorems.{starts-at}
 use Rattle.corners.specs.Corners.{cornersOf}
 use Rattle.passes.specs.Orders.{linesIn}
-use Rattle.outlines.specs.Outlines.{outlineRefusal, Clipped, Outline}
-use Rattle.outlines.proofs.Lowest.{by-width}
+use Rattle.outlines.specs.Outlines.{outlineRefusal, OutlineClipped, Outline}
+use Rattle.lowest.proofs.Lowest.{by-width}
 use Rattle.outlines.proofs.Passes.{cuts-ring, ring-passed, none-passed}
 use Rattle.outlines.proofs.Refusals.{nothing-refused}
 use Rattle.outlines.proofs.Unique.{outline-unique}
-use Rattle.outlines.proofs.Numbers.{numbersOf, numbers-of}
+use Rattle.writing.proofs.Numbers.{numbersOf, numbers-of}
 
 -- ---- one pass
 unfoldable pub keptOf : Line → Point → List Point
@@ -186,11 +186,11 @@ ringOf (some t) = numbersOf (startOf t)
 unfoldable pub outlineOf : Window → ℕ → List ℤ → List ℤ
 outlineOf w o zs = ringOf (cutsOf (linesIn o w) (cornersOf zs))
 
-outline-of : (w : Window) (o : ℕ) (zs : List ℤ) → o ≤ 23 → Ring (cornersOf zs) → Clipped w o zs (outlineOf w o zs)
+outline-of : (w : Window) (o : ℕ) (zs : List ℤ) → o ≤ 23 → Ring (cornersOf zs) → OutlineClipped w o zs (outlineOf w o zs)
 unfolding outlineOf ringOf
 outline-of w o zs h g = go (cutsOf (linesIn o w) (cornersOf zs)) (cuts-of (linesIn o w) (cornersOf zs))
   where
-    go : (k : Option (List Point)) → Cuts (linesIn o w) (cornersOf zs) k → Clipped w o zs (ringOf k)
+    go : (k : Option (List Point)) → Cuts (linesIn o w) (cornersOf zs) k → OutlineClipped w o zs (ringOf k)
     go none c = none-passed w h zs g c
     go (some t) c =
         let k = cuts-ring w h zs g c in

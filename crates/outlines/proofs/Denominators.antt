@@ -32,8 +32,10 @@ use Rattle.rings.proofs.Theorems.{convex-ccw, some-result}
 use Rattle.corners.specs.Corners.{gridPoint, cornersOf}
 use Rattle.passes.specs.Orders.{linesIn}
 use Rattle.passes.proofs.Orders.{lines-arranged}
-use Rattle.outlines.specs.Outlines.{RingNumbers, no-corner, corner, outlineRefusal, SmallDenominators, no-fraction, fraction, OutlineGives}
-use Rattle.outlines.proofs.Numbers.{lowest-same, numbers-of}
+use Rattle.writing.specs.Numbers.{RingNumbers, no-corner, corner}
+use Rattle.outlines.specs.Outlines.{outlineRefusal, OutlineGives}
+use Rattle.outlines.specs.Denominators.{SmallDenominators, no-fraction, fraction}
+use Rattle.writing.proofs.Numbers.{lowest-same, numbers-of}
 use Rattle.outlines.proofs.Unique.{gives-unique}
 use Rattle.outlines.proofs.Passes.{lines-real, ring-passed, none-passed}
 use Rattle.outlines.proofs.Refusals.{nothing-refused}

@@ -15,7 +15,7 @@ use Rattle.rings.proofs.Fan.{corners-in}
 use Rattle.rings.proofs.OneCut.{few-on}
 use Rattle.rings.proofs.Theorems.{convex-ccw, same-points-alike}
 use Rattle.outlines.specs.Outlines.{badOrder, outlineRefusal, OutlineRing, OutlineNoArea, OutlineGives, area, no-area, Outline}
-use Rattle.outlines.proofs.Numbers.{numbers-unique}
+use Rattle.writing.proofs.Numbers.{numbers-unique}
 
 -- a ring's corners are points in common, and they lie on no common line
 not-both : {w : Window} {zs xs ys : List ℤ} → OutlineRing w zs xs → OutlineNoArea w zs ys → ⊥

@@ -3,17 +3,14 @@
 --   badOrder o             4 where the side order is above 23
 --   rightCount n           so many numbers are 3 to 64 corners
 --   badOutline zs          5 where an outline is of odd length or wrong count
---   unlessConvex zs           7 where its corners are not strictly convex counterclockwise
+--   unlessConvex zs        7 where its corners are not strictly convex counterclockwise
 --   outlineRefusal w o zs  what the call refuses: 2, 3, 4, 5, 6, then 7
---   CornerNumbers p a b c d  a/b and c/d are x and y of the corner p, as fractions in lowest terms
---   RingNumbers r xs       xs are the numbers of the corners r one after the other, four a corner
---   SmallDenominators xs   no denominator in xs passes 32,766
 --   Common w zs p          p lies in the outline zs and in the closed window w
 --   OutlineRing w zs xs    xs are the numbers of the ring of exactly the points in common, counterclockwise, started at the lowest corner, of those the leftmost
 --   OutlineNoArea w zs xs  there are no numbers, and the points in common all lie on one line
 --   OutlineGives w zs xs   the one or the other
 --   ByPasses w o zs xs     xs are the numbers of what one pass a side leaves, in the order o
---   Clipped w o zs xs      xs is right for a window, an order and an outline in which nothing is refused
+--   OutlineClipped w o zs xs   xs is right for a window, an order and an outline in which nothing is refused
 --   Outline w o zs a before after   the answer a is right, and so is the output before and after the call, refusals included
 use mathlib.Core.Path.{_≡_}
 use mathlib.Core.Bool.{Bool, _&&_}
@@ -22,11 +19,9 @@ use mathlib.Core.Logic.{_↔_}
 use mathlib.Core.Option.{none, some}
 use Prim.Native.Nat.{ℕ, _+_, _*_, _%_, _≤_}
 use lib.Dec.{eqb, leb}
-use lib.IntN.{ℤ, pos}
+use lib.IntN.{ℤ}
 use lib.ListN.{length}
-use lib.Signed.{_≤ℤ_}
 use Rattle.whole.specs.Choice.{if_then_else_}
-use Rattle.fraction.specs.Fraction.{LowestOf}
 use Rattle.grid.specs.Calls.{Call}
 use Rattle.grid.specs.Refusals.{noOrder, wrongLength, numberOff, notConvex, refuse, first, offTable, windowRefusal}
 use Rattle.grid.specs.Refusals as grid
@@ -39,6 +34,7 @@ use Rattle.rings.specs.Cuts.{Result}
 use Rattle.rings.specs.Windows.{InWindow}
 use Rattle.corners.specs.Corners.{cornersOf, strictlyConvex, fewest}
 use Rattle.passes.specs.Orders.{linesIn}
+use Rattle.writing.specs.Numbers.{RingNumbers}
 
 -- ---- refusals
 abbrev pub lastOrder : ℕ
@@ -61,20 +57,6 @@ unlessConvex zs = if strictlyConvex (cornersOf zs) then grid.none else refuse no
 
 unfoldable pub outlineRefusal : Window → ℕ → List ℤ → Refusal
 outlineRefusal w o zs = first (windowRefusal w ∷ badOrder o ∷ badOutline zs ∷ offTable numberOff zs ∷ unlessConvex zs ∷ [])
-
--- ---- the numbers of a ring
-pub record CornerNumbers (p : Point) (a b c d : ℤ) : Type 0 where
-  pub x : LowestOf (p .X) (p .W) (record { num = a; den = b })
-  pub y : LowestOf (p .Y) (p .W) (record { num = c; den = d })
-
-pub data RingNumbers : List Point → List ℤ → Type 0 where
-  no-corner : RingNumbers [] []
-  corner : {p : Point} {r : List Point} {a b c d : ℤ} {xs : List ℤ} → CornerNumbers p a b c d → RingNumbers r xs → RingNumbers (p ∷ r) (a ∷ b ∷ c ∷ d ∷ xs)
-
--- fractions, two numbers each
-pub data SmallDenominators : List ℤ → Type 0 where
-  no-fraction : SmallDenominators []
-  fraction : {n d : ℤ} {xs : List ℤ} → d ≤ℤ pos 32766 → SmallDenominators xs → SmallDenominators (n ∷ d ∷ xs)
 
 -- ---- the points in common
 pub record Common (w : Window) (zs : List ℤ) (p : Point) : Type 0 where
@@ -105,9 +87,9 @@ pub data ByPasses (w : Window) (o : ℕ) (zs : List ℤ) : List ℤ → Type 0 w
   none-left : Result (linesIn o w) (cornersOf zs) none → ByPasses w o zs []
 
 -- ---- the call
-pub record Clipped (w : Window) (o : ℕ) (zs xs : List ℤ) : Type 0 where
+pub record OutlineClipped (w : Window) (o : ℕ) (zs xs : List ℤ) : Type 0 where
   pub gives : OutlineGives w zs xs
   pub passes : ByPasses w o zs xs
 
 abbrev pub Outline : Window → ℕ → List ℤ → Answer → List ℤ → List ℤ → Type 0
-Outline w o zs = Call (outlineRefusal w o zs) (Clipped w o zs)
+Outline w o zs = Call (outlineRefusal w o zs) (OutlineClipped w o zs)

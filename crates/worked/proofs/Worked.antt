@@ -22,7 +22,7 @@ use Rattle.grid.specs.Table.{onTable, firstOff}
 use Rattle.outlines.specs.Outlines.{badOrder, rightCount, badOutline, unlessConvex, outlineRefusal, Outline}
 use Rattle.outlines.proofs.Computed.{keptOf, addedOf, passOf, cutOf, cutsOf, isBefore, leastOf, startOf, ringOf, outlineOf, answerOf, outputOf}
 use Rattle.outlines.proofs.Computed as outlines
-use Rattle.outlines.proofs.Numbers.{numbersOf}
+use Rattle.writing.proofs.Numbers.{numbersOf}
 use Rattle.outlines.proofs.Unique.{any-order}
 use Rattle.passes.specs.Orders.{sidesIn, linesIn}
 use Rattle.rings.specs.Lists.{All, ∅, _◂_}

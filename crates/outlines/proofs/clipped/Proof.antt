@@ -6,11 +6,12 @@ use Rattle.grid.specs.Table.{WindowOnTable}
 use Rattle.grid.specs.declared.Window.{Window}
 use Rattle.passes.specs.Outlines.{Cutting}
 use Rattle.passes.proofs.Outlines.{outline-ring}
-use Rattle.outlines.specs.Outlines.{Clipped}
-use Rattle.outlines.specs.Workers.{GaveNumbers}
+use Rattle.outlines.specs.Outlines.{OutlineClipped}
+use Rattle.writing.specs.Writing.{GaveNumbers}
 use Rattle.outlines.proofs.Clear.{cutting, cutting-is}
 use Rattle.outlines.proofs.Giving.{answer-given, give-ring, give-nothing}
-use Rattle.outlines.proofs.Reaching.{reading, is-reading, whole-left, nothing-left}
+use Rattle.outlines.proofs.PlainCases.{whole-left, nothing-left}
+use Rattle.reach.proofs.Reaching.{reading, is-reading}
 use Rattle.outlines.proofs.clipped.Statement.{statement}
 use Rattle.outlines.proofs.clipped.Tie as tie
 
@@ -91,7 +92,7 @@ returns-3 c =
     let a = c .before .before .before in
     let s = start a in
     answer-given (c .given3 .ensures)
-    (subst (λ (w : Window). GaveNumbers (Clipped w (s .args .order) (now (s .args .outline))) (done .result) (now (s .args .out)) (done .last .1 .1 .1 .1 .0)) (sym (is-w a)) (done .ensures))
+    (subst (λ (w : Window). GaveNumbers (OutlineClipped w (s .args .order) (now (s .args .outline))) (done .result) (now (s .args .out)) (done .last .1 .1 .1 .1 .0)) (sym (is-w a)) (done .ensures))
 
 pub clipped-spec : {M : Type 1} → statement M
 clipped-spec =

@@ -11,9 +11,9 @@ use Rattle.rings.specs.Points.{Point}
 use Rattle.rings.specs.Rings.{Ring}
 use Rattle.passes.specs.Orders.{windowOf}
 use Rattle.passes.specs.declared.Places.{Places}
-use Rattle.outlines.specs.Workers.{GaveRing}
+use Rattle.writing.specs.Writing.{GaveRing}
 use Rattle.outlines.proofs.Giving.{LeftRing, in-order, left-ring, give-ring, give-nothing, none-cuts}
-use Rattle.outlines.proofs.Memory.{ring-part}
+use Rattle.lowest.proofs.Memory.{ring-part}
 use Rattle.outlines.proofs.cut_in.Statement.{statement}
 use Rattle.outlines.proofs.cut_in.Tie as tie
 

@@ -11,7 +11,7 @@ use Rattle.grid.specs.declared.Refusal.{Refusal}
 use Rattle.grid.proofs.Refusals.{all-done}
 use Rattle.corners.proofs.Convexity.{ring-same}
 use Rattle.outlines.specs.Outlines.{outlineRefusal}
-use Rattle.outlines.proofs.Reaching.{numbers-on}
+use Rattle.reach.proofs.Reaching.{numbers-on}
 use Rattle.outlines.proofs.Refusals.{right-even, first-on, few-corners, nothing-refused, convex-taken}
 use Rattle.outlines.proofs.takes.Statement.{statement}
 use Rattle.outlines.proofs.takes.Tie as tie
