@@ -1,4 +1,5 @@
--- Down from the first corner of a ring: what comes before the corner reached comes before the first, so neither walk comes round to the first again; and where it ends neither neighbour comes before, so no corner does.
+-- Down from the first corner of a ring: what comes before the corner reached comes before the first, so neither walk comes round to the first again.
+-- Where it ends neither neighbour comes before, so no corner does.
 use mathlib.Core.Path.{_≡_, refl, sym, subst, transport}
 use mathlib.Core.Bool.{Bool}
 use mathlib.Core.List.{List}

@@ -24,7 +24,11 @@ module _ (m : List ℤ) where
 
   -- ---- the memory from the corner at place i on
   point-from : (i k : ℕ) → pointIn (drop (4 * i) m) k ≡ pointIn m (i + k)
-  point-from i k = λ j. record { X = at (4 * k) (4 * (i + k)) (omega arith) j; Y = at (4 * k + 1) (4 * (i + k) + 1) (omega arith) j; W = at (4 * k + 2) (4 * (i + k) + 2) (omega arith) j }
+  point-from i k = λ j. record {
+    X = at (4 * k) (4 * (i + k)) (omega arith) j;
+    Y = at (4 * k + 1) (4 * (i + k) + 1) (omega arith) j;
+    W = at (4 * k + 2) (4 * (i + k) + 2) (omega arith) j;
+  }
     where
       at : (a b : ℕ) → 4 * i + a ≡ b → getD (drop (4 * i) m) a (pos 0) ≡ getD m b (pos 0)
       at a b e = getD-drop (4 * i) m a (pos 0) ∙ ap (λ (k : ℕ). getD m k (pos 0)) e

@@ -221,5 +221,6 @@ answer-is w o zs before = go (eqb (outlineRefusal w o zs .number) 0) refl
         }
     go false e = call-refused refl (eqb-false (r .number) 0 e)
 
-pub computed : {w : Window} {o : ℕ} {zs : List ℤ} {a : Answer} {before after : List ℤ} → Outline w o zs a before after → (a ≡ answerOf w o zs (length before)) × (after ≡ outputOf w o zs before)
+pub computed : {w : Window} {o : ℕ} {zs : List ℤ} {a : Answer} {before after : List ℤ} → Outline w o zs a before after
+    → (a ≡ answerOf w o zs (length before)) × (after ≡ outputOf w o zs before)
 computed {w} {o} {zs} {before = before} h = outline-unique h (answer-is w o zs before)

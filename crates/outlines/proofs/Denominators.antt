@@ -1,4 +1,5 @@
--- Denominators never pass 32,766: every edge of what is left lies on the line of an outline's edge or of a side, so every corner is an outline's corner or lies where such a line meets a side.
+-- Denominators never pass 32,766: every edge of what is left lies on the line of an outline's edge or of a side.
+-- So every corner is an outline's corner or lies where such a line meets a side.
 use mathlib.Core.Path.{_≡_, subst}
 use mathlib.Core.List.{List, [], _∷_}
 use mathlib.Core.Option.{Option, none, some}
@@ -131,7 +132,8 @@ both-ends {P} (_◂_ {x = o} p a) = closed (walk p a)
 
 outline-along : (zs : List ℤ) → NumbersOnTable zs → Ring (cornersOf zs) → Edges Along (cornersOf zs)
 outline-along zs on g =
-    edges-zip (λ a b real k. grid-edge real (k .0) (k .1)) (real-edges (cornersOf zs) (g .three) (convex-ccw (cornersOf zs) .0 (g .convex))) (both-ends (corners-on-grid zs on))
+    edges-zip (λ a b real k. grid-edge real (k .0) (k .1))
+    (real-edges (cornersOf zs) (g .three) (convex-ccw (cornersOf zs) .0 (g .convex))) (both-ends (corners-on-grid zs on))
 
 -- ---- the numbers of such corners
 all-fine : {r : List Point} → Edges Along r → All Fine r

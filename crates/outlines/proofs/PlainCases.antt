@@ -39,7 +39,8 @@ cuts-nothing n ∅ = no-more
 cuts-nothing n (i ◂ a) = cut (cut-nothing i) n (cuts-nothing n a)
 
 -- ---- one side leaves only what is on its line: a ring would have three corners there
-module _ {hs : List Line} {r : List Point} (reals : All Real hs) (g : Ring r) (h : Line) (real : Real h) (among : (p : Point) → Inside hs p → In h p) (under : All (Under h) r) where
+module _ {hs : List Line} {r : List Point} (reals : All Real hs) (g : Ring r) (h : Line) (real : Real h)
+    (among : (p : Point) → Inside hs p → In h p) (under : All (Under h) r) where
   -- the same line, its inside outside
   abbrev turned : Line
   turned = record { A = negℤ (h .A); B = negℤ (h .B); C = negℤ (h .C) }

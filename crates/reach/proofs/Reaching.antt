@@ -28,7 +28,12 @@ abbrev pub reading : Window → Window
 reading b = held (ofZ w32 (b .left)) (ofZ w32 (b .bottom)) (ofZ w32 (b .right)) (ofZ w32 (b .top))
 
 pub is-reading : (b : Window) → mag (b .left) < 2 ^ 31 → mag (b .bottom) < 2 ^ 31 → mag (b .right) < 2 ^ 31 → mag (b .top) < 2 ^ 31 → b ≡ reading b
-is-reading b l o r t = λ i. record { left = sym (back w32 (b .left) l) i; bottom = sym (back w32 (b .bottom) o) i; right = sym (back w32 (b .right) r) i; top = sym (back w32 (b .top) t) i }
+is-reading b l o r t = λ i. record {
+  left = sym (back w32 (b .left) l) i;
+  bottom = sym (back w32 (b .bottom) o) i;
+  right = sym (back w32 (b .right) r) i;
+  top = sym (back w32 (b .top) t) i;
+}
 
 pub all-clear : {w b : Window} → w .left ≤ℤ b .left → b .right ≤ℤ w .right → w .bottom ≤ℤ b .bottom → b .top ≤ℤ w .top → (k : Side) → Clear w b k
 all-clear l r o t left = l
@@ -57,7 +62,9 @@ only x y = record { left = x; bottom = y; right = x; top = y }
 
 module _ (zs : List ℤ) (x y : ℤ) (e : x ≡ getD zs 0 (pos 0)) (f : y ≡ getD zs 1 (pos 0)) where
   pub round-first : Round zs 1 (only x y)
-  round-first = round-more {n = 0} {b = only x y} round-none (omega zarith, omega zarith) (omega zarith, omega zarith) (omega zarith, omega zarith) (omega zarith, omega zarith)
+  round-first =
+      round-more {n = 0} {b = only x y} round-none
+      (omega zarith, omega zarith) (omega zarith, omega zarith) (omega zarith, omega zarith) (omega zarith, omega zarith)
 
   pub first-on-table : 2 ≤ length zs → NumbersOnTable zs → ReachOnTable (only x y)
   first-on-table h on =
@@ -66,7 +73,12 @@ module _ (zs : List ℤ) (x y : ℤ) (e : x ≡ getD zs 0 (pos 0)) (f : y ≡ ge
       record { left = omega (zarith, u .low); right = omega (zarith, u .high); bottom = omega (zarith, v .low); top = omega (zarith, v .high) }
 
 pub round-all : {zs : List ℤ} {n : ℕ} {b : Window} → length zs / 2 ≤ n → Round zs n b → Reaches zs b
-round-all h r = record { left = λ k l. r .left k (omega arith); right = λ k l. r .right k (omega arith); bottom = λ k l. r .bottom k (omega arith); top = λ k l. r .top k (omega arith) }
+round-all h r = record {
+  left = λ k l. r .left k (omega arith);
+  right = λ k l. r .right k (omega arith);
+  bottom = λ k l. r .bottom k (omega arith);
+  top = λ k l. r .top k (omega arith);
+}
 
 -- ---- an outline is on the table where what it reaches is
 pub numbers-on : {zs : List ℤ} {b : Window} → length zs % 2 ≡ 0 → Reaches zs b → ReachOnTable b → NumbersOnTable zs

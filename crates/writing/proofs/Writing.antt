@@ -33,7 +33,8 @@ pub read-fraction : {k : ℕ} {before after : List ℤ} (n d : ℤ) → mag n < 
 read-fraction {k} {before} {after} n d hn hd = subst₂ (λ (n d : ℤ). WroteFraction n d k before after) (back w32 n hn) (back w32 d hd)
 
 -- ---- one corner: its two fractions are written, and those of the corners r are still to come
-module _ {p : Point} {k : ℕ} {out out₁ out₂ : List ℤ} (h : Proper p) (x : WroteFraction (p .X) (p .W) k out out₁) (y : WroteFraction (p .Y) (p .W) (k + 2) out₁ out₂) where
+module _ {p : Point} {k : ℕ} {out out₁ out₂ : List ℤ} (h : Proper p)
+    (x : WroteFraction (p .X) (p .W) k out out₁) (y : WroteFraction (p .Y) (p .W) (k + 2) out₁ out₂) where
   due : (r : List Point) → numbersOf (p ∷ r) ≡ (x .fraction .num ∷ x .fraction .den ∷ []) ++ ((y .fraction .num ∷ y .fraction .den ∷ []) ++ numbersOf r)
   unfolding numbersOf
   due r =
@@ -72,7 +73,8 @@ module _ (m : List ℤ) (n : ℕ) (h : All Proper (ringIn m n)) where
   part-proper l r = subst (λ (j : ℕ). Proper (cornerFrom m j)) (sym (r .four)) (at-place m h (omega (arith, r .four)))
 
   pub part-goes-on : {out₀ out out₁ out₂ : List ℤ} {k : ℕ} → 4 * n ≤ length out₀ → k < 4 * n → PartWritten m n out₀ out k
-      → WroteFraction (cornerFrom m k .X) (cornerFrom m k .W) k out out₁ → WroteFraction (cornerFrom m k .Y) (cornerFrom m k .W) (k + 2) out₁ out₂ → PartWritten m n out₀ out₂ (k + 4)
+      → WroteFraction (cornerFrom m k .X) (cornerFrom m k .W) k out out₁ → WroteFraction (cornerFrom m k .Y) (cornerFrom m k .W) (k + 2) out₁ out₂
+      → PartWritten m n out₀ out₂ (k + 4)
   unfolding ringFrom
   part-goes-on {out₀} {out} {out₁} {out₂} {k} room l r x y = go (r .left) (r .all) (r .filled)
     where
@@ -90,7 +92,11 @@ module _ (m : List ℤ) (n : ℕ) (h : All Proper (ringIn m n)) where
 
   pub part-ends : {out₀ out : List ℤ} {k : ℕ} → 4 * n ≤ k → PartWritten m n out₀ out k → Wrote (ringIn m n) out₀ out
   unfolding ringFrom numbersOf
-  part-ends {out₀} {out} {k} l r = record { numbers = numbersOf (ringIn m n); are = numbers-of h; output = filled-end (go (r .left) (omega (arith, r .four, r .all)) (r .filled)) }
+  part-ends {out₀} {out} {k} l r = record {
+    numbers = numbersOf (ringIn m n);
+    are = numbers-of h;
+    output = filled-end (go (r .left) (omega (arith, r .four, r .all)) (r .filled));
+  }
     where
       go : (c : ℕ) → c ≡ 0 → Filled (numbersOf (ringIn m n)) (numbersOf (ringFrom m (r .place) c)) out out₀ k → Filled (numbersOf (ringIn m n)) [] out out₀ k
       go c e d = rw e at d
@@ -140,4 +146,9 @@ module _ {r : List Point} {n : ℕ} (four : 4 * length r ≡ n) where
       record { numbers = numbersOf (s .0); gives = record { corners = s .0; turned = s .1; starts = s .2; are = p }; count = e; output = simp (sym e, lt-leb _ _ h) }
 
   pub gave-wrote : {s : List Point} {before after : List ℤ} → Turned r s → Starts s → Wrote s before after → GaveRing r n before after
-  gave-wrote {s} t b w = record { numbers = w .numbers; gives = record { corners = s; turned = t; starts = b; are = w .are }; count = four-a-corner t (w .are); output = w .output }
+  gave-wrote {s} t b w = record {
+    numbers = w .numbers;
+    gives = record { corners = s; turned = t; starts = b; are = w .are };
+    count = four-a-corner t (w .are);
+    output = w .output;
+  }

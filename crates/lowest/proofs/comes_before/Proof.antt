@@ -118,7 +118,9 @@ cast-result-2 : tie.Need-cast-result-2
 cast-result-2 c = wide-fits (other (start (c .before .before .before)) .X) (c .result2 .given)
 
 mul-result-4 : tie.Need-mul-result-4
-mul-result-4 c = let s = start (c .before .before .before) in product-fits (other s .X) (one s .W) (c .result2 .given) (c .before .before .before .before .before .before .u .given)
+mul-result-4 c =
+    let s = start (c .before .before .before) in
+    product-fits (other s .X) (one s .W) (c .result2 .given) (c .before .before .before .before .before .before .u .given)
 
 returns : tie.Need-returns
 returns c =

@@ -1,11 +1,12 @@
 -- `lowest::down_back` meets its contract: each corner passed was left for one that comes before it, and the first comes before none of those. Assumes nothing.
 use Prim.Native.Nat.{_<_}
 use mathlib.Core.Path.{_≡_}
+use mathlib.Core.List.{List}
 use native.Mathlib.Omega.{arith}
 use denote.Ref.{now}
 use lib.ListN.{length}
 use Rattle.whole.specs.Choice.{Decides}
-use Rattle.rings.specs.Points.{Before}
+use Rattle.rings.specs.Points.{Point, Before}
 use Rattle.rings.specs.Rings.{at}
 use Rattle.passes.specs.Memory.{ringIn}
 use Rattle.passes.proofs.Memories.{ring-length}
@@ -20,8 +21,11 @@ Inv-loop m n i₀ j₀ i j = FellBack (ringIn m n) i j
 abbrev μ-loop : tie.MeasureT-loop
 μ-loop m n i₀ j₀ i j = j
 
+abbrev ring : tie.Start Inv-loop μ-loop → List Point
+ring c = ringIn (now (c .args .m)) (c .args .n)
+
 -- n corners
-count : (c : tie.Start Inv-loop μ-loop) → length (ringIn (now (c .args .m)) (c .args .n)) ≡ c .args .n
+count : (c : tie.Start Inv-loop μ-loop) → length (ring c) ≡ c .args .n
 count c = ring-length (now (c .args .m)) 0 (c .args .n)
 
 sub-j : tie.Need-sub-j Inv-loop μ-loop
@@ -38,8 +42,12 @@ comes-before-requires : tie.Need-comes-before-requires Inv-loop μ-loop
 comes-before-requires c κs = let l = inside c in (omega arith, omega arith)
 
 -- what the test told of them
-told : (c : tie.After-comes-before Inv-loop μ-loop) → let a = c .before .before .args in Decides (c .comes-before .result) (Before (at (ringIn (now (a .m)) (a .n)) (c .before .loop .j)) (at (ringIn (now (a .m)) (a .n)) (c .before .loop .i)))
-told c = let m = now (c .before .before .args .m) in let l = inside (c .before) in decides-same (memory-at m (l .0)) (memory-at m (l .1)) (c .comes-before .ensures)
+told : (c : tie.After-comes-before Inv-loop μ-loop)
+    → let r = ring (c .before .before) in Decides (c .comes-before .result) (Before (at r (c .before .loop .j)) (at r (c .before .loop .i)))
+told c =
+    let m = now (c .before .before .args .m) in
+    let l = inside (c .before) in
+    decides-same (memory-at m (l .0)) (memory-at m (l .1)) (c .comes-before .ensures)
 
 more : (c : tie.Then1 Inv-loop μ-loop) → 0 < c .before .before .loop .j
 more c = let l = c .before .before in back-more (l .before .pre .1 .0) (l .loop .inv) (told (c .before) .yes (c .if1 .taken))

@@ -1,11 +1,12 @@
 -- `lowest::down_forward` meets its contract: each corner passed was left for one that comes before it. Assumes nothing.
 use Prim.Native.Nat.{_+_, _-_}
 use mathlib.Core.Path.{_≡_}
+use mathlib.Core.List.{List}
 use native.Mathlib.Omega.{arith}
 use denote.Ref.{now}
 use lib.ListN.{length}
 use Rattle.whole.specs.Choice.{Decides}
-use Rattle.rings.specs.Points.{Before}
+use Rattle.rings.specs.Points.{Point, Before}
 use Rattle.rings.specs.Rings.{at}
 use Rattle.passes.specs.Memory.{ringIn}
 use Rattle.passes.proofs.Memories.{ring-length}
@@ -20,8 +21,11 @@ Inv-loop m n i₀ i = Fell (ringIn m n) i
 abbrev μ-loop : tie.MeasureT-loop
 μ-loop m n i₀ i = n - i
 
+abbrev ring : tie.Start Inv-loop μ-loop → List Point
+ring c = ringIn (now (c .args .m)) (c .args .n)
+
 -- n corners
-count : (c : tie.Start Inv-loop μ-loop) → length (ringIn (now (c .args .m)) (c .args .n)) ≡ c .args .n
+count : (c : tie.Start Inv-loop μ-loop) → length (ring c) ≡ c .args .n
 count c = ring-length (now (c .args .m)) 0 (c .args .n)
 
 loop-holds : tie.Need-loop-holds Inv-loop μ-loop
@@ -43,8 +47,12 @@ loop-less : tie.Need-loop-less Inv-loop μ-loop
 loop-less c = omega arith
 
 -- what the test told of the two corners
-told : (c : tie.After-comes-before Inv-loop μ-loop) → let a = c .before .before .before .args in let i = c .before .before .loop .i in Decides (c .comes-before .result) (Before (at (ringIn (now (a .m)) (a .n)) (i + 1)) (at (ringIn (now (a .m)) (a .n)) i))
-told c = let m = now (c .before .before .before .args .m) in let l = c .before .loop-test .taken in decides-same (memory-at m (omega arith)) (memory-at m (omega arith)) (c .comes-before .ensures)
+told : (c : tie.After-comes-before Inv-loop μ-loop)
+    → let r = ring (c .before .before .before) in let i = c .before .before .loop .i in Decides (c .comes-before .result) (Before (at r (i + 1)) (at r i))
+told c =
+    let m = now (c .before .before .before .args .m) in
+    let l = c .before .loop-test .taken in
+    decides-same (memory-at m (omega arith)) (memory-at m (omega arith)) (c .comes-before .ensures)
 
 loop-again : tie.Need-loop-again Inv-loop μ-loop
 loop-again c =

@@ -52,14 +52,16 @@ unfolding first badOrder badOutline offTable
 returns-4 c =
     let f = c .before .before in
     let b = f .before .before in
-    past-window (b .before) (simp (le-leb _ _ (b .if2 .left), sym (f .before .right-count .ensures) ∙ not-false _ (f .if3 .left), ← c .before .first-off .ensures, lt-ltb _ _ (c .if4 .taken)))
+    past-window (b .before)
+    (simp (le-leb _ _ (b .if2 .left), sym (f .before .right-count .ensures) ∙ not-false _ (f .if3 .left), ← c .before .first-off .ensures, lt-ltb _ _ (c .if4 .taken)))
 
 returns-5 : tie.Need-returns-5
 returns-5 c =
     let f = c .before .before in
     let b = f .before .before in
     let s = b .before .before .before .before in
-    sym (not-convex _ _ _ (good-window (b .before)) (omega (arith, b .if2 .left)) (sym (f .before .right-count .ensures) ∙ not-false _ (f .if3 .left)) (omega (arith, c .before .first-off .ensures, c .if4 .left)) (s .pre))
+    sym (not-convex _ _ _ (good-window (b .before)) (omega (arith, b .if2 .left)) (sym (f .before .right-count .ensures) ∙ not-false _ (f .if3 .left))
+    (omega (arith, c .before .first-off .ensures, c .if4 .left)) (s .pre))
 
 pub refusal-spec : {M : Type 1} → statement M
 refusal-spec =

@@ -22,7 +22,10 @@ on-table-requires c κs = search needs
 returns : tie.Need-returns
 returns c =
     let s = c .before .before in
-    record { yes = λ e. absurd (ff-tt e); no = λ _ e. c .before .on-table .ensures .no (not-true _ (c .if1 .taken)) (s .pre .1 .1 (nothing-refused _ _ _ e .corners .on)) }
+    record {
+      yes = λ e. absurd (ff-tt e);
+      no = λ _ e. c .before .on-table .ensures .no (not-true _ (c .if1 .taken)) (s .pre .1 .1 (nothing-refused _ _ _ e .corners .on));
+    }
 
 -- the reach is on the table, so all numbers are
 on : (c : tie.Else1) → NumbersOnTable (now (c .before .before .args .outline))
@@ -36,7 +39,9 @@ strictly-convex-requires c κs = few-corners _ (c .before .before .pre .0) (on c
 returns-2 : tie.Need-returns-2
 returns-2 c = record {
   yes = λ e. absurd (ff-tt e);
-  no = λ _ e. let k = nothing-refused _ _ _ e in absurd (ff-tt (sym (not-true _ (c .if2 .taken)) ∙ c .before .strictly-convex .ensures ∙ ring-same _ (k .corners .three) .1 (k .ring)));
+  no = λ _ e.
+      let k = nothing-refused _ _ _ e in
+      absurd (ff-tt (sym (not-true _ (c .if2 .taken)) ∙ c .before .strictly-convex .ensures ∙ ring-same _ (k .corners .three) .1 (k .ring)));
 }
 
 window-refusal-requires : tie.Need-window-refusal-requires
@@ -57,7 +62,8 @@ returns-4 c =
     let k = r .before .before in
     let s = k .before .before .before in
     record {
-      yes = λ e. convex-taken _ _ _ (sym (window-number r) ∙ c .if3 .left) (leb-true _ _ e) (s .pre .0) (first-on _ (on (k .before))) (sym (k .strictly-convex .ensures) ∙ not-false _ (r .before .if2 .left));
+      yes = λ e. convex-taken _ _ _ (sym (window-number r) ∙ c .if3 .left) (leb-true _ _ e) (s .pre .0)
+          (first-on _ (on (k .before))) (sym (k .strictly-convex .ensures) ∙ not-false _ (r .before .if2 .left));
       no = λ e h. absurd (omega (arith, nothing-refused (s .args .w) (s .args .order) (now (s .args .outline)) h .order, leb-false (s .args .order) 23 e));
     }
 

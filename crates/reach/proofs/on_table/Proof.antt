@@ -11,17 +11,20 @@ use Rattle.reach.proofs.on_table.Tie as tie
 
 returns : tie.Need-returns
 returns c =
-    let t : c .before .before .before .args .b .left <ℤ negsuc 16382 = lt-taken w32 (record { sfits = c .before .struct-told .given .0 .1 }) (sfits-lit {z = negsuc 16382} tt) (c .if1 .taken) in
+    let t : c .before .before .before .args .b .left <ℤ negsuc 16382 =
+    lt-taken w32 (record { sfits = c .before .struct-told .given .0 .1 }) (sfits-lit {z = negsuc 16382} tt) (c .if1 .taken) in
     record { yes = λ e. absurd (ff-tt e); no = λ _ h. omega (zarith, h .left) }
 
 returns-2 : tie.Need-returns-2
 returns-2 c =
-    let t : pos 16383 <ℤ c .before .before .before .before .before .before .args .b .right = lt-taken w32 (sfits-lit {z = pos 16383} tt) (record { sfits = c .before .struct-told2 .given .1 .1 .0 .1 }) (c .if2 .taken) in
+    let t : pos 16383 <ℤ c .before .before .before .before .before .before .args .b .right =
+    lt-taken w32 (sfits-lit {z = pos 16383} tt) (record { sfits = c .before .struct-told2 .given .1 .1 .0 .1 }) (c .if2 .taken) in
     record { yes = λ e. absurd (ff-tt e); no = λ _ h. omega (zarith, h .right) }
 
 returns-3 : tie.Need-returns-3
 returns-3 c =
-    let t : c .before .before .before .before .before .before .before .before .before .args .b .bottom <ℤ negsuc 16382 = lt-taken w32 (record { sfits = c .before .struct-told3 .given .1 .0 .1 }) (sfits-lit {z = negsuc 16382} tt) (c .if3 .taken) in
+    let t : c .before .before .before .before .before .before .before .before .before .args .b .bottom <ℤ negsuc 16382 =
+    lt-taken w32 (record { sfits = c .before .struct-told3 .given .1 .0 .1 }) (sfits-lit {z = negsuc 16382} tt) (c .if3 .taken) in
     record { yes = λ e. absurd (ff-tt e); no = λ _ h. omega (zarith, h .bottom) }
 
 returns-4 : tie.Need-returns-4

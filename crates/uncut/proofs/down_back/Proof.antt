@@ -33,7 +33,8 @@ comes-before-requires : tie.Need-comes-before-requires Inv-loop μ-loop
 comes-before-requires c κs = let l = inside c in let zs = now (c .before .args .c) in (two-a-corner zs (l .0), two-a-corner zs (l .1))
 
 -- what the test told of them
-told : (c : tie.After-comes-before Inv-loop μ-loop) → let r = cornersOf (now (c .before .before .args .c)) in Decides (c .comes-before .result) (Before (at r (c .before .loop .j)) (at r (c .before .loop .i)))
+told : (c : tie.After-comes-before Inv-loop μ-loop)
+    → let r = cornersOf (now (c .before .before .args .c)) in Decides (c .comes-before .result) (Before (at r (c .before .loop .j)) (at r (c .before .loop .i)))
 told c = let zs = now (c .before .before .args .c) in let l = inside (c .before) in decides-same (own-at zs (l .0)) (own-at zs (l .1)) (c .comes-before .ensures)
 
 more : (c : tie.Then1 Inv-loop μ-loop) → 0 < c .before .before .loop .j

@@ -37,7 +37,9 @@ loop-less : tie.Need-loop-less Inv-loop μ-loop
 loop-less c = omega arith
 
 -- what the test told of the two corners
-told : (c : tie.After-comes-before Inv-loop μ-loop) → let r = cornersOf (now (c .before .before .before .args .c)) in let i = c .before .before .loop .i in Decides (c .comes-before .result) (Before (at r (i + 1)) (at r i))
+told : (c : tie.After-comes-before Inv-loop μ-loop)
+    → let r = cornersOf (now (c .before .before .before .args .c)) in let i = c .before .before .loop .i in
+    Decides (c .comes-before .result) (Before (at r (i + 1)) (at r i))
 told c =
     let zs = now (c .before .before .before .args .c) in
     let l = c .before .loop-test .taken in

@@ -1,4 +1,5 @@
--- `uncut::give_whole` meets its contract: without room nothing is written; with room, the corners from the lowest to the end, and behind them those before it. Assumes nothing.
+-- `uncut::give_whole` meets its contract: without room nothing is written.
+-- With room, the corners from the lowest to the end are, and behind them those before it. Assumes nothing.
 use Prim.Native.Nat.{_-_, _*_, _≤_}
 use mathlib.Core.Path.{_≡_, sym}
 use native.Mathlib.Omega.{arith}
@@ -85,7 +86,8 @@ returns c =
     let e : take (length zs - 2 * k) (drop (2 * k) zs) ≡ drop (2 * k) zs = take-all (length zs - 2 * k) (drop (2 * k) zs) (omega (arith, length-drop (2 * k) zs)) in
     gave-wrote (four-a-corner zs even) (turned-at (cornersOf zs) k) (lowest-starts (a .pre .1 .1) (l .lowest-corner .ensures))
     (wrote-same (own-started zs k)
-    (wrote-rest (2 * (length zs - 2 * k)) (four-behind zs k even) (omega (arith, four-before zs k b, l .before .if1 .taken)) (rw e at (w .write-corners .ensures)) (c .before .write-corners2 .ensures)))
+    (wrote-rest (2 * (length zs - 2 * k)) (four-behind zs k even) (omega (arith, four-before zs k b, l .before .if1 .taken))
+    (rw e at (w .write-corners .ensures)) (c .before .write-corners2 .ensures)))
 
 returns-2 : tie.Need-returns-2
 returns-2 c = let a = c .before in gave-short (four-a-corner (now (a .args .outline)) (a .pre .0)) (a .pre .1 .1) (c .if1 .left)

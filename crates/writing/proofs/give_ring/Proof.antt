@@ -25,7 +25,8 @@ lowest-corner-requires c κs = search needs
 write-ring-requires : tie.Need-write-ring-requires
 write-ring-requires c κs =
     let a = c .before .before .before in
-    (omega (arith, c .before .lowest-corner .ensures .inside, ring-length (now (a .args .m)) 0 (a .args .n)), (a .pre .0, (a .pre .1 .proper, omega (arith, c .before .before .if1 .taken))))
+    let e = ring-length (now (a .args .m)) 0 (a .args .n) in
+    (omega (arith, c .before .lowest-corner .ensures .inside), (a .pre .0, (a .pre .1 .proper, omega (arith, c .before .before .if1 .taken))))
 
 same-length : tie.Need-same-length
 same-length c = search needs

@@ -56,7 +56,8 @@ proper-read : (c : tie.After-w Inv-loop μ-loop) → pos 0 <ℤ toZ w32 (ofZ w32
 proper-read c =
     let b = c .before in
     let s = begun b in
-    subst (λ (z : ℤ). pos 0 <ℤ z) (sym (back w32 (at b .W) (c .w .given))) (part-proper (now (s .args .m)) (s .args .n) (s .pre .1 .0) (b .loop-test .taken) (b .before .loop .inv))
+    subst (λ (z : ℤ). pos 0 <ℤ z) (sym (back w32 (at b .W) (c .w .given)))
+    (part-proper (now (s .args .m)) (s .args .n) (s .pre .1 .0) (b .loop-test .taken) (b .before .loop .inv))
 
 mul-write-fraction : tie.Need-mul-write-fraction Inv-loop μ-loop
 mul-write-fraction c = omega (arith, in-memory (c .before), begun (c .before) .good)

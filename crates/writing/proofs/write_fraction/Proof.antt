@@ -1,4 +1,5 @@
--- `writing::write_fraction` meets its contract: a denominator of at most 1 is 1, and over 1 a fraction is in lowest terms; else both numbers are those of `lowest_signed`, which fit 32 bits again. Assumes nothing.
+-- `writing::write_fraction` meets its contract: a denominator of at most 1 is 1, and over 1 a fraction is in lowest terms.
+-- Else both numbers are those of `lowest_signed`, which fit 32 bits again. Assumes nothing.
 use mathlib.Core.Path.{_≡_, refl, sym, subst, subst₂}
 use native.Mathlib.Numerals.{towards-suc}
 use native.Mathlib.Omega.{arith}
