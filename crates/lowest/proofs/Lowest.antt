@@ -2,7 +2,6 @@
 use mathlib.Core.Path.{_≡_, refl, sym, subst}
 use mathlib.Core.List.{List, _∷_, _++_}
 use Prim.Native.Nat.{ℕ, suc}
-use native.Mathlib.Omega.{arith}
 use lib.IntN.{ℤ, _*ℤ_}
 use lib.ListN.{take, drop, take-append-drop}
 use lib.Seq.{drop-cons}

@@ -10,8 +10,8 @@ use lib.Seq.{getD-drop, take-all}
 use Rattle.rings.specs.Lists.{All}
 use Rattle.rings.specs.Points.{Point}
 use Rattle.rings.specs.Rings.{at}
-use Rattle.passes.specs.Memory.{pointIn, ringFrom, ringIn}
 use Rattle.rings.proofs.Linear.{place-all}
+use Rattle.passes.specs.Memory.{pointIn, ringFrom, ringIn}
 use Rattle.passes.proofs.Memories.{ring-length, ring-at}
 use Rattle.lowest.specs.Lowest.{startedAt}
 

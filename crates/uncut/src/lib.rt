@@ -1,4 +1,5 @@
-// An outline that lies in the window whole: its own corners, four numbers each.
+// An outline that lies in the window whole: its own corners, four numbers each. The walk down is that of `lowest`, but it compares the corners'
+// numbers as they are, without products: so it stands here once more.
 ghost use mathlib.Core.Path.{_≡_};
 ghost use Prim.Native.Nat.{_+_, _*_, _%_, _≤_};
 ghost use lib.ListN.{length};

@@ -1,3 +1,3 @@
-pub mod Widths
+pub mod Narrow
 pub mod Numbers
 pub mod Writing

@@ -15,7 +15,7 @@ use Rattle.whole.proofs.Comparisons.{le-yes}
 use Rattle.fraction.specs.Fraction.{LowestOf}
 use Rattle.fraction.proofs.LowestTerms.{lowest-over-one}
 use Rattle.writing.proofs.Numbers.{num-fits, den-fits}
-use Rattle.writing.proofs.Widths.{narrow-fits, narrow-is}
+use Rattle.writing.proofs.Narrow.{narrow-fits, narrow-is}
 use Rattle.writing.proofs.write_fraction.Statement.{statement}
 use Rattle.writing.proofs.write_fraction.Tie as tie
 
