@@ -29,12 +29,12 @@ use Rattle.rings.proofs.Start.{turned-ring}
 use Rattle.rings.proofs.Theorems.{starts-at}
 use Rattle.convex.specs.Corners.{cornersOf}
 use Rattle.passes.specs.Orders.{linesIn}
-use Rattle.outlines.specs.Outlines.{outlineRefusal, Clipped, Outline}
-use Rattle.outlines.proofs.Lowest.{by-width}
+use Rattle.outlines.specs.Outlines.{outlineRefusal, OutlineClipped, Outline}
+use Rattle.lowest.proofs.Lowest.{by-width}
 use Rattle.outlines.proofs.Passes.{cuts-ring, ring-passed, none-passed}
 use Rattle.outlines.proofs.Refusals.{nothing-refused}
 use Rattle.outlines.proofs.Unique.{outline-unique}
-use Rattle.outlines.proofs.Numbers.{numbersOf, numbers-of}
+use Rattle.writing.proofs.Numbers.{numbersOf, numbers-of}
 
 -- ---- one pass
 unfoldable pub keptOf : Line → Point → List Point
@@ -186,11 +186,11 @@ ringOf (some t) = numbersOf (startOf t)
 unfoldable pub outlineOf : Window → ℕ → List ℤ → List ℤ
 outlineOf w o zs = ringOf (cutsOf (linesIn o w) (cornersOf zs))
 
-outline-of : (w : Window) (o : ℕ) (zs : List ℤ) → o ≤ 23 → Ring (cornersOf zs) → Clipped w o zs (outlineOf w o zs)
+outline-of : (w : Window) (o : ℕ) (zs : List ℤ) → o ≤ 23 → Ring (cornersOf zs) → OutlineClipped w o zs (outlineOf w o zs)
 unfolding outlineOf ringOf
 outline-of w o zs h g = go (cutsOf (linesIn o w) (cornersOf zs)) (cuts-of (linesIn o w) (cornersOf zs))
   where
-    go : (k : Option (List Point)) → Cuts (linesIn o w) (cornersOf zs) k → Clipped w o zs (ringOf k)
+    go : (k : Option (List Point)) → Cuts (linesIn o w) (cornersOf zs) k → OutlineClipped w o zs (ringOf k)
     go none c = none-passed w h zs g c
     go (some t) c =
         let k = cuts-ring w h zs g c in
@@ -221,5 +221,6 @@ answer-is w o zs before = go (eqb (outlineRefusal w o zs .number) 0) refl
         }
     go false e = call-refused refl (eqb-false (r .number) 0 e)
 
-pub computed : {w : Window} {o : ℕ} {zs : List ℤ} {a : Answer} {before after : List ℤ} → Outline w o zs a before after → (a ≡ answerOf w o zs (length before)) × (after ≡ outputOf w o zs before)
+pub computed : {w : Window} {o : ℕ} {zs : List ℤ} {a : Answer} {before after : List ℤ} → Outline w o zs a before after
+    → (a ≡ answerOf w o zs (length before)) × (after ≡ outputOf w o zs before)
 computed {w} {o} {zs} {before = before} h = outline-unique h (answer-is w o zs before)

@@ -1,4 +1,5 @@
--- Denominators never pass 32,766: every edge of what is left lies on the line of an outline's edge or of a side, so every corner is an outline's corner or lies where such a line meets a side.
+-- Denominators never pass 32,766: every edge of what is left lies on the line of an outline's edge or of a side.
+-- So every corner is an outline's corner or lies where such a line meets a side.
 use mathlib.Core.Path.{_≡_, subst}
 use mathlib.Core.List.{List, [], _∷_}
 use mathlib.Core.Option.{Option, none, some}
@@ -23,7 +24,7 @@ use Rattle.rings.specs.Points.{Point, Line, value, through, Left, On, Real}
 use Rattle.rings.specs.Rings.{Ring}
 use Rattle.rings.specs.Cuts.{Between, Result, started}
 use Rattle.rings.specs.Cuts as cuts
-use Rattle.rings.specs.Windows.{sides}
+use Rattle.rings.specs.Windows.{side-lines}
 use Rattle.rings.proofs.Plane.{cycle, between-value, between-proper, corners, det-of, nought}
 use Rattle.rings.proofs.Lists.{Pairs, _◂ᵖ_, all-map, edges-zip, turned-all}
 use Rattle.rings.proofs.Convex.{CCW, _◂ᶜ_}
@@ -32,8 +33,10 @@ use Rattle.rings.proofs.Theorems.{convex-ccw, some-result}
 use Rattle.convex.specs.Corners.{gridPoint, cornersOf}
 use Rattle.passes.specs.Orders.{linesIn}
 use Rattle.passes.proofs.Orders.{lines-arranged}
-use Rattle.outlines.specs.Outlines.{RingNumbers, no-corner, corner, outlineRefusal, SmallDenominators, no-fraction, fraction, OutlineGives}
-use Rattle.outlines.proofs.Numbers.{lowest-same, numbers-of}
+use Rattle.writing.specs.Numbers.{RingNumbers, no-corner, corner}
+use Rattle.outlines.specs.Outlines.{outlineRefusal, OutlineGives}
+use Rattle.outlines.specs.Denominators.{SmallDenominators, no-fraction, fraction}
+use Rattle.writing.proofs.Numbers.{lowest-same, numbers-of}
 use Rattle.outlines.proofs.Unique.{gives-unique}
 use Rattle.outlines.proofs.Passes.{lines-real, ring-passed, none-passed}
 use Rattle.outlines.proofs.Refusals.{nothing-refused}
@@ -70,7 +73,7 @@ side-traced {h} s = record {
   runs = λ a b p q on-a on-b. record { line = h; ruled = side-ruled s; from = on-a; to = on-b; first = p; second = q };
 }
 
-sides-traced : (l b r t : ℤ) → All (Traced Along Fine) (sides l b r t)
+sides-traced : (l b r t : ℤ) → All (Traced Along Fine) (side-lines l b r t)
 sides-traced l b r t = side-traced (left l) ◂ side-traced (right r) ◂ side-traced (bottom b) ◂ side-traced (top t) ◂ ∅
 
 -- ---- the outline's own edges
@@ -129,7 +132,8 @@ both-ends {P} (_◂_ {x = o} p a) = closed (walk p a)
 
 outline-along : (zs : List ℤ) → NumbersOnTable zs → Ring (cornersOf zs) → Edges Along (cornersOf zs)
 outline-along zs on g =
-    edges-zip (λ a b real k. grid-edge real (k .0) (k .1)) (real-edges (cornersOf zs) (g .three) (convex-ccw (cornersOf zs) .0 (g .convex))) (both-ends (corners-on-grid zs on))
+    edges-zip (λ a b real k. grid-edge real (k .0) (k .1))
+    (real-edges (cornersOf zs) (g .three) (convex-ccw (cornersOf zs) .0 (g .convex))) (both-ends (corners-on-grid zs on))
 
 -- ---- the numbers of such corners
 all-fine : {r : List Point} → Edges Along r → All Fine r

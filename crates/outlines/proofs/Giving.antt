@@ -20,8 +20,8 @@ use Rattle.passes.specs.Passes.{ringAt, Ran}
 use Rattle.passes.specs.Passes as passes
 use Rattle.passes.specs.declared.Places.{Places}
 use Rattle.passes.proofs.Outlines.{outline-ring}
-use Rattle.outlines.specs.Outlines.{Clipped}
-use Rattle.outlines.specs.Workers.{GaveNumbers, GaveRing}
+use Rattle.outlines.specs.Outlines.{OutlineClipped}
+use Rattle.writing.specs.Writing.{GaveNumbers, GaveRing}
 use Rattle.outlines.proofs.Passes.{cuts-ring, ring-passed, none-passed}
 
 -- the passes left a ring at the places p of the memory m
@@ -35,8 +35,8 @@ in-order (passes.no-area z c) = omega arith
 in-order (passes.area l r three few c small) = l
 
 -- the answer of so many numbers is that of the ones given
-pub answer-given : {Gives : List ℤ → Type 0} {n : ℕ} {a : Answer} {before after : List ℤ} → ((xs : List ℤ) → n ≡ length xs → a ≡ answered xs (length before)) → GaveNumbers Gives n before after
-    → Given Gives a before after
+pub answer-given : {Gives : List ℤ → Type 0} {n : ℕ} {a : Answer} {before after : List ℤ}
+    → ((xs : List ℤ) → n ≡ length xs → a ≡ answered xs (length before)) → GaveNumbers Gives n before after → Given Gives a before after
 answer-given e g = record { numbers = g .numbers; gives = g .gives; answer = e (g .numbers) (g .count); output = g .output }
 
 module _ {w : Window} {o : ℕ} {zs : List ℤ} (h : o ≤ 23) (t : OutlineOnTable zs) where
@@ -44,10 +44,16 @@ module _ {w : Window} {o : ℕ} {zs : List ℤ} (h : o ≤ 23) (t : OutlineOnTab
   left-ring (passes.no-area z c) n = absurd (n (omega arith))
   left-ring (passes.area l r three few c small) n = record { cuts = c; ring = cuts-ring w h zs (outline-ring t) c; room = r }
 
-  pub give-ring : {r : List Point} {n : ℕ} {before after : List ℤ} → Cuts (linesIn o w) (cornersOf zs) (some r) → GaveRing r n before after → GaveNumbers (Clipped w o zs) n before after
-  give-ring c g = record { numbers = g .numbers; gives = ring-passed w h zs (outline-ring t) c (g .gives .turned) (g .gives .starts) (g .gives .are); count = g .count; output = g .output }
+  pub give-ring : {r : List Point} {n : ℕ} {before after : List ℤ} → Cuts (linesIn o w) (cornersOf zs) (some r)
+      → GaveRing r n before after → GaveNumbers (OutlineClipped w o zs) n before after
+  give-ring c g = record {
+    numbers = g .numbers;
+    gives = ring-passed w h zs (outline-ring t) c (g .gives .turned) (g .gives .starts) (g .gives .are);
+    count = g .count;
+    output = g .output;
+  }
 
-  pub give-nothing : {out : List ℤ} → Cuts (linesIn o w) (cornersOf zs) none → GaveNumbers (Clipped w o zs) 0 out out
+  pub give-nothing : {out : List ℤ} → Cuts (linesIn o w) (cornersOf zs) none → GaveNumbers (OutlineClipped w o zs) 0 out out
   unfolding written
   give-nothing {out} c = record { numbers = []; gives = none-passed w h zs (outline-ring t) c; count = refl; output = simp (le-leb 0 (length out) zero-le) }
 

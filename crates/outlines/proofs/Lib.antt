@@ -1,11 +1,5 @@
-pub mod Numbers
 pub mod Unique
 pub mod Passes
-pub mod Widths
-pub mod Memory
-pub mod Downhill
-pub mod Lowest
-pub mod Writing
 pub mod Traces
 pub mod Lines
 pub mod Denominators
@@ -13,5 +7,4 @@ pub mod Refusals
 pub mod Computed
 pub mod Giving
 pub mod Clear
-pub mod Reaching
-pub mod OwnCorners
+pub mod PlainCases

@@ -85,7 +85,8 @@ height {l} z c k o d lc e = go (sign (l .B))
       den = negℤ (l .B);
       positive = omega (zarith, neg-plus (l .B), neg-minus (l .B));
       small = omega (zarith, k .b .low, neg-plus (l .B), neg-minus (l .B));
-      same = eq-by ρ (y-of 1 ⊗ neg (y-of 0)) ((x-of 0 ⊗ x-of 2 ⊕ w-of 0) ⊗ w-of 1) (eqn (con (negsuc 0)) (value-of 0 1) nought lc ⊹ eqn (x-of 0) (x-of 1) (x-of 2 ⊗ w-of 1) e) tt;
+      same = eq-by ρ (y-of 1 ⊗ neg (y-of 0)) ((x-of 0 ⊗ x-of 2 ⊕ w-of 0) ⊗ w-of 1)
+          (eqn (con (negsuc 0)) (value-of 0 1) nought lc ⊹ eqn (x-of 0) (x-of 1) (x-of 2 ⊗ w-of 1) e) tt;
     }
     go (inr (inl h)) = absurd (not-upright z k o d h)
     go (inr (inr h)) = record {
@@ -93,7 +94,8 @@ height {l} z c k o d lc e = go (sign (l .B))
       den = l .B;
       positive = h;
       small = k .b .high;
-      same = eq-by ρ (y-of 1 ⊗ y-of 0) (neg (x-of 0 ⊗ x-of 2 ⊕ w-of 0) ⊗ w-of 1) (eqn (con (pos 1)) (value-of 0 1) nought lc ⊹ eqn (neg (x-of 0)) (x-of 1) (x-of 2 ⊗ w-of 1) e) tt;
+      same = eq-by ρ (y-of 1 ⊗ y-of 0) (neg (x-of 0 ⊗ x-of 2 ⊕ w-of 0) ⊗ w-of 1)
+          (eqn (con (pos 1)) (value-of 0 1) nought lc ⊹ eqn (neg (x-of 0)) (x-of 1) (x-of 2 ⊗ w-of 1) e) tt;
     }
 
 -- ---- x and y exchanged

@@ -19,7 +19,8 @@ use Rattle.rings.proofs.Theorems.{all-cuts, cuts-length, result-outcome, sides-
 use Rattle.convex.specs.Corners.{cornersOf}
 use Rattle.passes.specs.Orders.{linesIn}
 use Rattle.passes.proofs.Orders.{lines-arranged, lines-length}
-use Rattle.outlines.specs.Outlines.{RingNumbers, OutlineGives, area, no-area, ring-left, none-left, Clipped}
+use Rattle.writing.specs.Numbers.{RingNumbers}
+use Rattle.outlines.specs.Outlines.{OutlineGives, area, no-area, ring-left, none-left, OutlineClipped}
 
 module _ {o : ℕ} (w : Window) (h : o ≤ 23) where
   pub lines-real : All Real (linesIn o w)
@@ -38,7 +39,7 @@ module _ {o : ℕ} (w : Window) (h : o ≤ 23) where
         of : Outcome (linesIn o w) (cornersOf zs) (some t) → Ring t
         of (cuts.area l) = l .ring
 
-    pub ring-passed : {t s : List Point} {xs : List ℤ} → Cuts (linesIn o w) (cornersOf zs) (some t) → Turned t s → Starts s → RingNumbers s xs → Clipped w o zs xs
+    pub ring-passed : {t s : List Point} {xs : List ℤ} → Cuts (linesIn o w) (cornersOf zs) (some t) → Turned t s → Starts s → RingNumbers s xs → OutlineClipped w o zs xs
     ring-passed {t} {s} {xs} c u st n = record { gives = of (result-outcome lines-real g (started c u st)); passes = ring-left (started c u st) n }
       where
         of : Outcome (linesIn o w) (cornersOf zs) (some s) → OutlineGives w zs xs
@@ -54,7 +55,7 @@ module _ {o : ℕ} (w : Window) (h : o ≤ 23) where
           numbers = n;
         })
 
-    pub none-passed : Cuts (linesIn o w) (cornersOf zs) none → Clipped w o zs []
+    pub none-passed : Cuts (linesIn o w) (cornersOf zs) none → OutlineClipped w o zs []
     none-passed c = record { gives = of (result-outcome lines-real g (cuts.none-left c)); passes = none-left (cuts.none-left c) }
       where
         of : Outcome (linesIn o w) (cornersOf zs) none → OutlineGives w zs []

@@ -1,4 +1,5 @@
--- One answer for each input, and the same in every order: the list that is given is the only one, since a ring is determined by its points, and three corners that turn left lie on no common line.
+-- One answer for each input, and the same in every order: the list that is given is the only one.
+-- For a ring is determined by its points, and three corners that turn left lie on no common line.
 use mathlib.Core.Path.{_≡_, sym, _∙_, subst}
 use mathlib.Core.List.{List}
 use Prim.Native.Nat.{ℕ, _≤_}
@@ -15,7 +16,7 @@ use Rattle.rings.proofs.Fan.{corners-in}
 use Rattle.rings.proofs.OneCut.{few-on}
 use Rattle.rings.proofs.Theorems.{convex-ccw, same-points-alike}
 use Rattle.outlines.specs.Outlines.{badOrder, outlineRefusal, OutlineRing, OutlineNoArea, OutlineGives, area, no-area, Outline}
-use Rattle.outlines.proofs.Numbers.{numbers-unique}
+use Rattle.writing.proofs.Numbers.{numbers-unique}
 
 -- a ring's corners are points in common, and they lie on no common line
 not-both : {w : Window} {zs xs ys : List ℤ} → OutlineRing w zs xs → OutlineNoArea w zs ys → ⊥
@@ -29,7 +30,8 @@ not-both r n =
 rings-unique : {w : Window} {zs xs ys : List ℤ} → OutlineRing w zs xs → OutlineRing w zs ys → xs ≡ ys
 rings-unique p q =
     numbers-unique
-    (same-points-alike (p .corners) (q .corners) (p .ring) (q .ring) (p .starts) (q .starts) (λ v h. (λ i. q .points v h .1 (p .points v h .0 i), λ i. p .points v h .1 (q .points v h .0 i))))
+    (same-points-alike (p .corners) (q .corners) (p .ring) (q .ring) (p .starts) (q .starts)
+    (λ v h. (λ i. q .points v h .1 (p .points v h .0 i), λ i. p .points v h .1 (q .points v h .0 i))))
     (p .numbers)
     (q .numbers)
 

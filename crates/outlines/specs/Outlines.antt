@@ -1,32 +1,23 @@
 -- An outline against a rectangle: what the call refuses, the ring that it gives, and the passes by which it is found.
---   lastOrder, most        the side orders are 0 to 23; an outline has 3 to 64 corners
+--   lastOrder              the side orders are 0 to 23
 --   badOrder o             4 where the side order is above 23
---   rightCount n           so many numbers are 3 to 64 corners
---   badOutline zs          5 where an outline is of odd length or wrong count
---   unlessConvex zs           7 where its corners are not strictly convex counterclockwise
 --   outlineRefusal w o zs  what the call refuses: 2, 3, 4, 5, 6, then 7
---   CornerNumbers p a b c d  a/b and c/d are x and y of the corner p, as fractions in lowest terms
---   RingNumbers r xs       xs are the numbers of the corners r one after the other, four a corner
---   SmallDenominators xs   no denominator in xs passes 32,766
 --   Common w zs p          p lies in the outline zs and in the closed window w
 --   OutlineRing w zs xs    xs are the numbers of the ring of exactly the points in common, counterclockwise, started at the lowest corner, of those the leftmost
 --   OutlineNoArea w zs xs  there are no numbers, and the points in common all lie on one line
 --   OutlineGives w zs xs   the one or the other
 --   ByPasses w o zs xs     xs are the numbers of what one pass a side leaves, in the order o
---   Clipped w o zs xs      xs is right for a window, an order and an outline in which nothing is refused
+--   OutlineClipped w o zs xs   xs is right for a window, an order and an outline in which nothing is refused
 --   Outline w o zs a before after   the answer a is right, and so is the output before and after the call, refusals included
 use mathlib.Core.Path.{_≡_}
-use mathlib.Core.Bool.{Bool, _&&_}
 use mathlib.Core.List.{List, [], _∷_}
 use mathlib.Core.Logic.{_↔_}
 use mathlib.Core.Option.{none, some}
-use Prim.Native.Nat.{ℕ, _+_, _*_, _%_, _≤_}
-use lib.Dec.{eqb, leb}
-use lib.IntN.{ℤ, pos}
+use Prim.Native.Nat.{ℕ, _+_, _≤_}
+use lib.Dec.{leb}
+use lib.IntN.{ℤ}
 use lib.ListN.{length}
-use lib.Signed.{_≤ℤ_}
 use Rattle.whole.specs.Choice.{if_then_else_}
-use Rattle.fraction.specs.Fraction.{LowestOf}
 use Rattle.grid.specs.Calls.{Call}
 use Rattle.grid.specs.Refusals.{noOrder, wrongLength, numberOff, notConvex, refuse, first, offTable, windowRefusal}
 use Rattle.grid.specs.Refusals as grid
@@ -37,44 +28,20 @@ use Rattle.rings.specs.Points.{Point, Line, On, Real, Proper}
 use Rattle.rings.specs.Rings.{Ring, InRing, Starts}
 use Rattle.rings.specs.Cuts.{Result}
 use Rattle.rings.specs.Windows.{InWindow}
-use Rattle.convex.specs.Corners.{cornersOf, strictlyConvex, fewest}
+use Rattle.convex.specs.Corners.{cornersOf, mostCorners, countRefusal, convexRefusal}
 use Rattle.passes.specs.Orders.{linesIn}
+use Rattle.writing.specs.Numbers.{RingNumbers}
 
 -- ---- refusals
 abbrev pub lastOrder : ℕ
 lastOrder = 23
 
-abbrev pub most : ℕ
-most = 64
-
 unfoldable pub badOrder : ℕ → Refusal
 badOrder o = if leb o lastOrder then grid.none else refuse noOrder 0
 
-unfoldable pub rightCount : ℕ → Bool
-rightCount n = eqb (n % 2) 0 && (leb (2 * fewest) n && leb n (2 * most))
-
-unfoldable pub badOutline : List ℤ → Refusal
-badOutline zs = if rightCount (length zs) then grid.none else refuse wrongLength 0
-
-unfoldable pub unlessConvex : List ℤ → Refusal
-unlessConvex zs = if strictlyConvex (cornersOf zs) then grid.none else refuse notConvex 0
-
 unfoldable pub outlineRefusal : Window → ℕ → List ℤ → Refusal
-outlineRefusal w o zs = first (windowRefusal w ∷ badOrder o ∷ badOutline zs ∷ offTable numberOff zs ∷ unlessConvex zs ∷ [])
-
--- ---- the numbers of a ring
-pub record CornerNumbers (p : Point) (a b c d : ℤ) : Type 0 where
-  pub x : LowestOf (p .X) (p .W) (record { num = a; den = b })
-  pub y : LowestOf (p .Y) (p .W) (record { num = c; den = d })
-
-pub data RingNumbers : List Point → List ℤ → Type 0 where
-  no-corner : RingNumbers [] []
-  corner : {p : Point} {r : List Point} {a b c d : ℤ} {xs : List ℤ} → CornerNumbers p a b c d → RingNumbers r xs → RingNumbers (p ∷ r) (a ∷ b ∷ c ∷ d ∷ xs)
-
--- fractions, two numbers each
-pub data SmallDenominators : List ℤ → Type 0 where
-  no-fraction : SmallDenominators []
-  fraction : {n d : ℤ} {xs : List ℤ} → d ≤ℤ pos 32766 → SmallDenominators xs → SmallDenominators (n ∷ d ∷ xs)
+outlineRefusal w o zs = 
+    first (windowRefusal w ∷ badOrder o ∷ countRefusal mostCorners wrongLength zs ∷ offTable numberOff zs ∷ convexRefusal notConvex zs ∷ [])
 
 -- ---- the points in common
 pub record Common (w : Window) (zs : List ℤ) (p : Point) : Type 0 where
@@ -105,9 +72,9 @@ pub data ByPasses (w : Window) (o : ℕ) (zs : List ℤ) : List ℤ → Type 0 w
   none-left : Result (linesIn o w) (cornersOf zs) none → ByPasses w o zs []
 
 -- ---- the call
-pub record Clipped (w : Window) (o : ℕ) (zs xs : List ℤ) : Type 0 where
+pub record OutlineClipped (w : Window) (o : ℕ) (zs xs : List ℤ) : Type 0 where
   pub gives : OutlineGives w zs xs
   pub passes : ByPasses w o zs xs
 
 abbrev pub Outline : Window → ℕ → List ℤ → Answer → List ℤ → List ℤ → Type 0
-Outline w o zs = Call (outlineRefusal w o zs) (Clipped w o zs)
+Outline w o zs = Call (outlineRefusal w o zs) (OutlineClipped w o zs)

@@ -10,7 +10,7 @@ use Rattle.codes.specs.Codes.{code, decision}
 use Rattle.codes.specs.declared.CountedAnswer.{CountedAnswer}
 use Rattle.codes.proofs.Computed.{meetingOf, stepOf, countOf, countedOf, countedOf-is, computed}
 use Rattle.codes.proofs.Runs.{same-two}
-use Rattle.convex.specs.Corners.{cornersOf, every, next, joins, isLeft, strictlyConvex}
+use Rattle.convex.specs.Corners.{cornersOf, every, next, joins, isLeft, strictlyConvex, rightCount, countRefusal, convexRefusal}
 use Rattle.fraction.specs.Fraction.{lessThan}
 use Rattle.fraction.proofs.Computed.{euclid, lowestOf, roundedAt}
 use Rattle.whole.specs.Rounding.{towards}
@@ -19,10 +19,10 @@ use Rattle.grid.specs.declared.Stroke.{Stroke}
 use Rattle.grid.specs.Calls.{answered, written}
 use Rattle.grid.specs.Refusals.{first, offTable, noArea, windowRefusal, strokeRefusal}
 use Rattle.grid.specs.Table.{onTable, firstOff}
-use Rattle.outlines.specs.Outlines.{badOrder, rightCount, badOutline, unlessConvex, outlineRefusal, Outline}
+use Rattle.outlines.specs.Outlines.{badOrder, outlineRefusal, Outline}
 use Rattle.outlines.proofs.Computed.{keptOf, addedOf, passOf, cutOf, cutsOf, isBefore, leastOf, startOf, ringOf, outlineOf, answerOf, outputOf}
 use Rattle.outlines.proofs.Computed as outlines
-use Rattle.outlines.proofs.Numbers.{numbersOf}
+use Rattle.writing.proofs.Numbers.{numbersOf}
 use Rattle.outlines.proofs.Unique.{any-order}
 use Rattle.passes.specs.Orders.{sidesIn, linesIn}
 use Rattle.rings.specs.Lists.{All, ∅, _◂_}
@@ -50,8 +50,8 @@ pub worked : All Holds table
 unfolding table countedOf countOf stepOf meetingOf code decision trailingZeros
     strokeCallRefusal strokeRefusal strokeAnswerOf clippedOf spanOf acrossOf cutBy lessThan roundedAt towards euclid lowestOf
     answerOf outputOf answered written outlineOf ringOf cutsOf cutOf passOf keptOf addedOf meet isBefore leastOf startOf numbersOf
-    outlineRefusal first windowRefusal noArea badOrder badOutline rightCount offTable firstOff onTable
-    unlessConvex strictlyConvex every next joins isLeft cornersOf value through sidesIn linesIn left-side right-side bottom-side top-side
+    outlineRefusal first windowRefusal noArea badOrder countRefusal rightCount offTable firstOff onTable
+    convexRefusal strictlyConvex every next joins isLeft cornersOf value through sidesIn linesIn left-side right-side bottom-side top-side
 worked =
     stroke-holds refl ◂ stroke-holds refl ◂ stroke-holds refl ◂ stroke-holds refl ◂ stroke-holds refl ◂ stroke-holds refl ◂ stroke-holds refl
     ◂ outline-holds refl refl ◂ outline-holds refl refl ◂ outline-holds refl refl ◂ outline-holds refl refl ◂ outline-holds refl refl ◂ ∅

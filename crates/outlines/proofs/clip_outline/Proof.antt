@@ -9,20 +9,22 @@ use lib.ListN.{length}
 use Rattle.whole.proofs.Comparisons.{ff-tt}
 use Rattle.grid.specs.declared.Refusal.{Refusal}
 use Rattle.grid.proofs.Calls.{call-refused}
-use Rattle.outlines.specs.Outlines.{rightCount, outlineRefusal}
-use Rattle.outlines.proofs.Refusals.{right-three, nothing-refused}
+use Rattle.convex.specs.Corners.{mostCorners, rightCount}
+use Rattle.outlines.specs.Outlines.{outlineRefusal}
+use Rattle.convex.proofs.Refusals.{right-three}
+use Rattle.outlines.proofs.Refusals.{nothing-refused}
 use Rattle.outlines.proofs.clip_outline.Statement.{statement}
 use Rattle.outlines.proofs.clip_outline.Tie as tie
 
 right-count-requires : tie.Need-right-count-requires
-right-count-requires c κs = search needs
+right-count-requires c κs = omega arith
 
 -- the outline's length is right
-counted : (c : tie.Then1) → rightCount (length (now (c .before .before .args .outline))) ≡ true
+counted : (c : tie.Then1) → rightCount mostCorners (length (now (c .before .before .args .outline))) ≡ true
 counted c = sym (c .before .right-count .ensures) ∙ c .if1 .taken
 
 reach-of-requires : tie.Need-reach-of-requires
-reach-of-requires c κs = omega (arith, right-three _ (counted c))
+reach-of-requires c κs = omega (arith, right-three mostCorners _ (counted c))
 
 takes-requires : tie.Need-takes-requires
 takes-requires c κs = (counted (c .before), (c .reach-of .ensures .0, c .reach-of .ensures .1))

@@ -1,4 +1,5 @@
--- `outlines::clipped` meets its contract: where no side cuts anything off, the outline is what is left; where one leaves nothing there is no area; else what the passes leave is given. Each time the answer is that of the numbers given. Assumes nothing.
+-- `outlines::clipped` meets its contract: where no side cuts anything off, the outline is what is left; where one leaves nothing there is no area.
+-- Else what the passes leave is given. Each time the answer is that of the numbers given. Assumes nothing.
 use mathlib.Core.Path.{_≡_, sym, subst, transport}
 use borrow.Author.Needs.{needs}
 use denote.Ref.{now}
@@ -6,11 +7,12 @@ use Rattle.grid.specs.Table.{WindowOnTable}
 use Rattle.grid.specs.declared.Window.{Window}
 use Rattle.passes.specs.Outlines.{Cutting}
 use Rattle.passes.proofs.Outlines.{outline-ring}
-use Rattle.outlines.specs.Outlines.{Clipped}
-use Rattle.outlines.specs.Workers.{GaveNumbers}
+use Rattle.outlines.specs.Outlines.{OutlineClipped}
+use Rattle.writing.specs.Writing.{GaveNumbers}
 use Rattle.outlines.proofs.Clear.{cutting, cutting-is}
 use Rattle.outlines.proofs.Giving.{answer-given, give-ring, give-nothing}
-use Rattle.outlines.proofs.Reaching.{reading, is-reading, whole-left, nothing-left}
+use Rattle.outlines.proofs.PlainCases.{whole-left, nothing-left}
+use Rattle.reach.proofs.Reaching.{reading, is-reading}
 use Rattle.outlines.proofs.clipped.Statement.{statement}
 use Rattle.outlines.proofs.clipped.Tie as tie
 
@@ -33,7 +35,9 @@ returns c =
     let s = i .before .before in
     let p = s .pre in
     answer-given (c .given .ensures)
-    (give-ring (p .1 .0) (p .1 .1 .0) (whole-left (s .args .w) (p .1 .1 .1) (s .args .order) (outline-ring (p .1 .1 .0) .three) (i .before .inside .ensures (i .if1 .taken))) (g .give-whole .ensures))
+    (give-ring (p .1 .0) (p .1 .1 .0)
+    (whole-left (s .args .w) (p .1 .1 .1) (s .args .order) (outline-ring (p .1 .1 .0) .three) (i .before .inside .ensures (i .if1 .taken)))
+    (g .give-whole .ensures))
 
 apart-requires : tie.Need-apart-requires
 apart-requires c κs = search needs
@@ -91,7 +95,8 @@ returns-3 c =
     let a = c .before .before .before in
     let s = start a in
     answer-given (c .given3 .ensures)
-    (subst (λ (w : Window). GaveNumbers (Clipped w (s .args .order) (now (s .args .outline))) (done .result) (now (s .args .out)) (done .last .1 .1 .1 .1 .0)) (sym (is-w a)) (done .ensures))
+    (subst (λ (w : Window). GaveNumbers (OutlineClipped w (s .args .order) (now (s .args .outline))) (done .result) (now (s .args .out)) (done .last .1 .1 .1 .1 .0))
+    (sym (is-w a)) (done .ensures))
 
 pub clipped-spec : {M : Type 1} → statement M
 clipped-spec =

@@ -8,7 +8,9 @@ slice-aggregate-cut-in : tie.Need-slice-aggregate-cut-in
 slice-aggregate-cut-in c = search needs
 
 cut-in-requires : tie.Need-cut-in-requires
-cut-in-requires c κs = let s = c .before .before .before in (s .pre .0, (s .pre .1 .0, (s .pre .1 .1 .0, (s .pre .1 .1 .1, omega (arith, c .before .before .if1 .taken)))))
+cut-in-requires c κs =
+    let s = c .before .before .before in
+    (s .pre .0, (s .pre .1 .0, (s .pre .1 .1 .0, (s .pre .1 .1 .1, omega (arith, c .before .before .if1 .taken)))))
 
 same-length : tie.Need-same-length
 same-length c = search needs
@@ -20,7 +22,9 @@ slice-aggregate-cut-in-2 : tie.Need-slice-aggregate-cut-in-2
 slice-aggregate-cut-in-2 c = search needs
 
 cut-in-requires-2 : tie.Need-cut-in-requires-2
-cut-in-requires-2 c κs = let s = c .before .before .before .before in (s .pre .0, (s .pre .1 .0, (s .pre .1 .1 .0, (s .pre .1 .1 .1, omega (arith, c .before .before .if2 .taken)))))
+cut-in-requires-2 c κs =
+    let s = c .before .before .before .before in
+    (s .pre .0, (s .pre .1 .0, (s .pre .1 .1 .0, (s .pre .1 .1 .1, omega (arith, c .before .before .if2 .taken)))))
 
 same-length-2 : tie.Need-same-length-2
 same-length-2 c = search needs
@@ -32,7 +36,9 @@ slice-aggregate-cut-in-3 : tie.Need-slice-aggregate-cut-in-3
 slice-aggregate-cut-in-3 c = search needs
 
 cut-in-requires-3 : tie.Need-cut-in-requires-3
-cut-in-requires-3 c κs = let s = c .before .before .before .before in (s .pre .0, (s .pre .1 .0, (s .pre .1 .1 .0, (s .pre .1 .1 .1, omega (arith, s .pre .1 .1 .0 .corners .few)))))
+cut-in-requires-3 c κs =
+    let s = c .before .before .before .before in
+    (s .pre .0, (s .pre .1 .0, (s .pre .1 .1 .0, (s .pre .1 .1 .1, omega (arith, s .pre .1 .1 .0 .corners .few)))))
 
 same-length-3 : tie.Need-same-length-3
 same-length-3 c = search needs

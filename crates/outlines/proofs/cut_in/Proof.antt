@@ -1,19 +1,21 @@
 -- `outlines::cut_in` meets its contract: the ring that the passes left is given from its first place on. Assumes nothing.
-use mathlib.Core.Path.{sym, subst}
+use mathlib.Core.Path.{_≡_, sym, subst}
 use mathlib.Core.List.{List}
 use Prim.Native.Nat.{_-_, _*_, _≤_}
 use native.Mathlib.Omega.{arith}
 use borrow.Author.Needs.{needs}
 use denote.Ref.{now}
 use lib.IntN.{ℤ}
-use lib.ListN.{length, length-take, length-drop}
+use lib.ListN.{length, take, drop, length-take, length-drop}
 use Rattle.rings.specs.Points.{Point}
 use Rattle.rings.specs.Rings.{Ring}
+use Rattle.passes.specs.Memory.{ringIn}
 use Rattle.passes.specs.Orders.{windowOf}
+use Rattle.passes.specs.Passes.{ringAt}
 use Rattle.passes.specs.declared.Places.{Places}
-use Rattle.outlines.specs.Workers.{GaveRing}
+use Rattle.writing.specs.Writing.{GaveRing}
 use Rattle.outlines.proofs.Giving.{LeftRing, in-order, left-ring, give-ring, give-nothing, none-cuts}
-use Rattle.outlines.proofs.Memory.{ring-part}
+use Rattle.lowest.proofs.Memory.{ring-part}
 use Rattle.outlines.proofs.cut_in.Statement.{statement}
 use Rattle.outlines.proofs.cut_in.Tie as tie
 
@@ -52,6 +54,9 @@ module _ (c : tie.Else1) where
   first : 4 * p .from ≤ length m
   first = omega (arith, left .room, in-order (ran .run .ensures))
 
+  stands : ringIn (take (length m - 4 * p .from) (drop (4 * p .from) m)) (p .to - p .from) ≡ ringAt m p
+  stands = ring-part m (p .from) (p .to - p .from) first
+
   fits : 4 * p .to ≤ length (now (start .args .m))
   fits = omega (arith, left .room, ran .run .kept .1 .1 .1 .1 .0)
 
@@ -73,7 +78,7 @@ part-give-ring-end c = search needs
 give-ring-requires : tie.Need-give-ring-requires
 give-ring-requires c κs =
     let e = c .before .before .before .before in
-    (simp (length-take, length-drop) (omega (arith, left e .room, in-order (ran e .run .ensures))), subst Ring (sym (ring-part (m e) (p e .from) (p e .to - p e .from) (first e))) (left e .ring))
+    (simp (length-take, length-drop) (omega (arith, left e .room, in-order (ran e .run .ensures))), subst Ring (sym (stands e)) (left e .ring))
 
 same-length-2 : tie.Need-same-length-2
 same-length-2 c = search needs
@@ -86,7 +91,8 @@ returns-2 c =
     let e = c .before .before .before .before .before .before in
     let a = start e in
     give-ring (a .pre .1 .0) (a .pre .1 .1 .0) (left e .cuts)
-    (subst (λ (r : List Point). GaveRing r (c .before .give-ring .result) (now (a .args .out)) (c .before .give-ring .last .1 .1 .0)) (ring-part (m e) (p e .from) (p e .to - p e .from) (first e)) (c .before .give-ring .ensures))
+    (subst (λ (r : List Point). GaveRing r (c .before .give-ring .result) (now (a .args .out)) (c .before .give-ring .last .1 .1 .0))
+    (stands e) (c .before .give-ring .ensures))
 
 pub cut-in-spec : {M : Type 1} → statement M
 cut-in-spec =

@@ -5,10 +5,11 @@ use native.Mathlib.Omega.{arith}
 use borrow.Author.Needs.{needs}
 use borrow.Author.Tests.{le-leb, lt-leb, lt-ltb, not-true, not-false}
 use denote.Ref.{now}
-use Rattle.grid.specs.Refusals.{numberOff, first, offTable, windowRefusal}
+use Rattle.grid.specs.Refusals.{wrongLength, numberOff, notConvex, first, offTable, windowRefusal}
 use Rattle.grid.specs.declared.Refusal.{Refusal}
 use Rattle.grid.proofs.Refusals.{stops, goes-on}
-use Rattle.outlines.specs.Outlines.{badOrder, badOutline, unlessConvex, outlineRefusal}
+use Rattle.convex.specs.Corners.{mostCorners, countRefusal, convexRefusal}
+use Rattle.outlines.specs.Outlines.{badOrder, outlineRefusal}
 use Rattle.outlines.proofs.Refusals.{not-convex}
 use Rattle.outlines.proofs.refusal.Statement.{statement}
 use Rattle.outlines.proofs.refusal.Tie as tie
@@ -18,7 +19,7 @@ good-window : (c : tie.Else1) → windowRefusal (c .before .before .before .args
 good-window c = ap (λ (r : Refusal). r .number) (sym (c .before .before .window-refusal .ensures)) ∙ c .if1 .left
 
 past-window : (c : tie.Else1) {r : Refusal} → let a = c .before .before .before .args in let zs = now (a .outline) in
-    r ≡ first (badOrder (a .order) ∷ badOutline zs ∷ offTable numberOff zs ∷ unlessConvex zs ∷ []) → r ≡ outlineRefusal (a .w) (a .order) zs
+    r ≡ first (badOrder (a .order) ∷ countRefusal mostCorners wrongLength zs ∷ offTable numberOff zs ∷ convexRefusal notConvex zs ∷ []) → r ≡ outlineRefusal (a .w) (a .order) zs
 unfolding outlineRefusal
 past-window c h = h ∙ sym (goes-on _ _ (good-window c))
 
@@ -36,10 +37,10 @@ unfolding first badOrder
 returns-2 c = past-window (c .before) (simp (lt-leb _ _ (c .if2 .taken)))
 
 right-count-requires : tie.Need-right-count-requires
-right-count-requires c κs = search needs
+right-count-requires c κs = omega arith
 
 returns-3 : tie.Need-returns-3
-unfolding first badOrder badOutline
+unfolding first badOrder countRefusal
 returns-3 c =
     let b = c .before .before in
     past-window (b .before) (simp (le-leb _ _ (b .if2 .left), sym (c .before .right-count .ensures) ∙ not-true _ (c .if3 .taken)))
@@ -48,18 +49,20 @@ first-off-requires : tie.Need-first-off-requires
 first-off-requires c κs = search needs
 
 returns-4 : tie.Need-returns-4
-unfolding first badOrder badOutline offTable
+unfolding first badOrder countRefusal offTable
 returns-4 c =
     let f = c .before .before in
     let b = f .before .before in
-    past-window (b .before) (simp (le-leb _ _ (b .if2 .left), sym (f .before .right-count .ensures) ∙ not-false _ (f .if3 .left), ← c .before .first-off .ensures, lt-ltb _ _ (c .if4 .taken)))
+    past-window (b .before)
+    (simp (le-leb _ _ (b .if2 .left), sym (f .before .right-count .ensures) ∙ not-false _ (f .if3 .left), ← c .before .first-off .ensures, lt-ltb _ _ (c .if4 .taken)))
 
 returns-5 : tie.Need-returns-5
 returns-5 c =
     let f = c .before .before in
     let b = f .before .before in
     let s = b .before .before .before .before in
-    sym (not-convex _ _ _ (good-window (b .before)) (omega (arith, b .if2 .left)) (sym (f .before .right-count .ensures) ∙ not-false _ (f .if3 .left)) (omega (arith, c .before .first-off .ensures, c .if4 .left)) (s .pre))
+    sym (not-convex _ _ _ (good-window (b .before)) (omega (arith, b .if2 .left)) (sym (f .before .right-count .ensures) ∙ not-false _ (f .if3 .left))
+    (omega (arith, c .before .first-off .ensures, c .if4 .left)) (s .pre))
 
 pub refusal-spec : {M : Type 1} → statement M
 refusal-spec =

@@ -9,10 +9,12 @@ use Rattle.whole.proofs.Comparisons.{ff-tt}
 use Rattle.grid.specs.Refusals.{windowRefusal}
 use Rattle.grid.specs.declared.Refusal.{Refusal}
 use Rattle.grid.proofs.Refusals.{all-done}
+use Rattle.convex.specs.Corners.{mostCorners}
 use Rattle.convex.proofs.Convexity.{ring-same}
+use Rattle.convex.proofs.Refusals.{right-even, counted-on-table}
 use Rattle.outlines.specs.Outlines.{outlineRefusal}
-use Rattle.outlines.proofs.Reaching.{numbers-on}
-use Rattle.outlines.proofs.Refusals.{right-even, first-on, few-corners, nothing-refused, convex-taken}
+use Rattle.reach.proofs.Reaching.{numbers-on}
+use Rattle.outlines.proofs.Refusals.{first-on, nothing-refused, convex-taken}
 use Rattle.outlines.proofs.takes.Statement.{statement}
 use Rattle.outlines.proofs.takes.Tie as tie
 
@@ -22,21 +24,26 @@ on-table-requires c κs = search needs
 returns : tie.Need-returns
 returns c =
     let s = c .before .before in
-    record { yes = λ e. absurd (ff-tt e); no = λ _ e. c .before .on-table .ensures .no (not-true _ (c .if1 .taken)) (s .pre .1 .1 (nothing-refused _ _ _ e .corners .on)) }
+    record {
+      yes = λ e. absurd (ff-tt e);
+      no = λ _ e. c .before .on-table .ensures .no (not-true _ (c .if1 .taken)) (s .pre .1 .1 (nothing-refused _ _ _ e .corners .on));
+    }
 
 -- the reach is on the table, so all numbers are
 on : (c : tie.Else1) → NumbersOnTable (now (c .before .before .args .outline))
 on c =
     let p = c .before .before .pre in
-    numbers-on (right-even _ (p .0)) (p .1 .0) (c .before .on-table .ensures .yes (not-false _ (c .if1 .left)))
+    numbers-on (right-even mostCorners _ (p .0)) (p .1 .0) (c .before .on-table .ensures .yes (not-false _ (c .if1 .left)))
 
 strictly-convex-requires : tie.Need-strictly-convex-requires
-strictly-convex-requires c κs = few-corners _ (c .before .before .pre .0) (on c)
+strictly-convex-requires c κs = counted-on-table mostCorners _ (omega arith) (c .before .before .pre .0) (on c)
 
 returns-2 : tie.Need-returns-2
 returns-2 c = record {
   yes = λ e. absurd (ff-tt e);
-  no = λ _ e. let k = nothing-refused _ _ _ e in absurd (ff-tt (sym (not-true _ (c .if2 .taken)) ∙ c .before .strictly-convex .ensures ∙ ring-same _ (k .corners .three) .1 (k .ring)));
+  no = λ _ e.
+      let k = nothing-refused _ _ _ e in
+      absurd (ff-tt (sym (not-true _ (c .if2 .taken)) ∙ c .before .strictly-convex .ensures ∙ ring-same _ (k .corners .three) .1 (k .ring)));
 }
 
 window-refusal-requires : tie.Need-window-refusal-requires
@@ -57,7 +64,8 @@ returns-4 c =
     let k = r .before .before in
     let s = k .before .before .before in
     record {
-      yes = λ e. convex-taken _ _ _ (sym (window-number r) ∙ c .if3 .left) (leb-true _ _ e) (s .pre .0) (first-on _ (on (k .before))) (sym (k .strictly-convex .ensures) ∙ not-false _ (r .before .if2 .left));
+      yes = λ e. convex-taken _ _ _ (sym (window-number r) ∙ c .if3 .left) (leb-true _ _ e) (s .pre .0)
+          (first-on _ (on (k .before))) (sym (k .strictly-convex .ensures) ∙ not-false _ (r .before .if2 .left));
       no = λ e h. absurd (omega (arith, nothing-refused (s .args .w) (s .args .order) (now (s .args .outline)) h .order, leb-false (s .args .order) 23 e));
     }
 

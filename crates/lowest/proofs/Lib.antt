@@ -1,0 +1,4 @@
+pub mod Widths
+pub mod Memory
+pub mod Lowest
+pub mod Downhill

@@ -1,0 +1,24 @@
+-- `reach::lesser` meets its contract: the one that is given is itself, and is not above the other. Assumes nothing.
+use mir.Facts.{toZ-ofZ}
+use mir.Syntax.{w32}
+use Rattle.whole.proofs.Comparisons.{lt-taken, lt-left}
+use Rattle.whole.proofs.Order.{zarith}
+use Rattle.reach.proofs.lesser.Statement.{statement}
+use Rattle.reach.proofs.lesser.Tie as tie
+
+returns : tie.Need-returns
+returns c =
+    let f = c .before .fits in
+    let e = toZ-ofZ (f .b) in
+    let l = lt-taken w32 (f .b) (f .a) (c .if1 .taken) in
+    (omega zarith, omega zarith)
+
+returns-2 : tie.Need-returns-2
+returns-2 c =
+    let f = c .before .fits in
+    let e = toZ-ofZ (f .a) in
+    let l = lt-left w32 (f .b) (f .a) (c .if1 .left) in
+    (omega zarith, omega zarith)
+
+pub lesser-spec : {M : Type 1} → statement M
+lesser-spec = tie.close (tie.spec returns returns-2)

@@ -1,0 +1,3 @@
+pub mod Narrow
+pub mod Numbers
+pub mod Writing
