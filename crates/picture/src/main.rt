@@ -1,4 +1,5 @@
 // Reads a drawing on standard input, and writes its picture as an SVG.
+ghost use mathlib.Core.Path.{_≡_};
 ghost use Prim.Native.Nat.{_+_, _*_, _≤_};
 ghost use lib.ListN.{length, take};
 ghost use Rattle.io.specs.Counts.{Counts};
@@ -7,9 +8,6 @@ ghost use Rattle.picture.specs.Pictures.{picture, Picture};
 use grid::Window;
 use libc::STDIN_FILENO;
 use libc::STDOUT_FILENO;
-
-mod marks;
-mod view;
 
 // Puts the picture of a drawing that was cut.
 fn put_picture(
@@ -22,28 +20,28 @@ fn put_picture(
 ) -> usize
     requires { ⌜ drawn * 4 ≤ length (now strokes) ⌝ }
     requires { ⌜ kept * 5 ≤ length (now rows) ⌝ }
-    requires { ⌜ 13 * length (now strokes) + 10 * length (now rows) + 1600 ≤ length (now page) ⌝ }
+    requires { ⌜ 49 * drawn + 49 * kept + 1600 ≤ length (now page) ⌝ }
     ensures { λ r. ⌜ Put (now (page .entry)) (now (page .exit)) 0 r (picture w (now (strokes .entry)) drawn (now (rows .entry)) kept) ⌝ }
 {
     let v = view::reach(w, strokes);
-    let a = marks::put_frame(page, 0, v, kept, drawn);
-    let b = marks::put_placed(page, a, v);
-    let c = marks::put_strip(page, b, w);
-    let d = marks::put_strokes(page, c, strokes, drawn, rows, kept);
-    marks::put_caption(page, d, v, kept, drawn)
+    let a = frames::put_frame(page, 0, v, kept, drawn);
+    let b = frames::put_placed(page, a, v);
+    let c = paths::put_strip(page, b, w);
+    let d = paths::put_drawn(page, c, strokes, drawn, rows, kept);
+    frames::put_caption(page, d, v, kept, drawn)
 }
 
 // Draws a drawing into a page, and says where the picture ends.
 fn draw(bytes: &[u8], strokes: &mut [i32], rows: &mut [i32], page: &mut [u8]) -> usize
-    requires { ⌜ 16384 ≤ length (now strokes) ⌝ }
-    requires { ⌜ 20480 ≤ length (now rows) ⌝ }
-    requires { ⌜ 13 * length (now strokes) + 10 * length (now rows) + 1600 ≤ length (now page) ⌝ }
+    requires { ⌜ 16384 ≡ length (now strokes) ⌝ }
+    requires { ⌜ 20480 ≡ length (now rows) ⌝ }
+    requires { ⌜ 420000 ≤ length (now page) ⌝ }
     ensures { λ r. ⌜ Picture (now (bytes .entry)) (take r (now (page .exit))) ⌝ }
     ensures { λ r. ⌜ Counts r (now (page .exit)) ⌝ }
 {
     let sheet = cutting::cut_drawing(bytes, strokes, rows);
     if sheet.number != 0 {
-        return marks::put_refused(page, sheet.number, sheet.place);
+        return frames::put_refused(page, sheet.number, sheet.place);
     }
     let window = sheet.window;
     let numbers = sheet.drawn * 4;
@@ -58,13 +56,22 @@ fn draw(bytes: &[u8], strokes: &mut [i32], rows: &mut [i32], page: &mut [u8]) ->
     )
 }
 
+// Reads, draws and writes, in the memory that main lends.
+fn run(bytes: &mut [u8], strokes: &mut [i32], rows: &mut [i32], page: &mut [u8])
+    requires { ⌜ 16384 ≡ length (now strokes) ⌝ }
+    requires { ⌜ 20480 ≡ length (now rows) ⌝ }
+    requires { ⌜ 420000 ≤ length (now page) ⌝ }
+{
+    let count = io::read_full(STDIN_FILENO, bytes);
+    let end = draw(&bytes[..count], strokes, rows, page);
+    io::write_all(STDOUT_FILENO, &page[..end]);
+}
+
 fn main() {
     // One byte more than a drawing may have.
     let mut bytes = [0u8; 65537];
-    let count = io::read_full(STDIN_FILENO, &mut bytes);
     let mut strokes = [0i32; 16384];
     let mut rows = [0i32; 20480];
     let mut page = [0u8; 420000];
-    let end = draw(&bytes[..count], &mut strokes, &mut rows, &mut page);
-    io::write_all(STDOUT_FILENO, &page[..end]);
+    run(&mut bytes, &mut strokes, &mut rows, &mut page);
 }

@@ -1,11 +1,15 @@
--- `listing::list` meets its contract: a refused sheet has its line alone, and any other is cut. Assumes nothing.
-use mathlib.Core.Path.{sym}
+-- A refused sheet has its line alone, and any other is cut.
+use mathlib.Core.Path.{_≡_, sym}
+use mathlib.Core.List.{List}
 use native.Mathlib.Omega.{arith}
+use Prim.Native.Nat.{ℕ, _+_, _*_, _≤_}
+use lib.IntN.{ℤ}
+use lib.ListN.{length, take}
 use denote.Ref.{now}
 use lib.Seq.{length-take-le}
 use Rattle.cutting.specs.Sheets.{Cut}
 use Rattle.cutting.proofs.Theorems.{cut-of, rows-fit}
-use Rattle.listing.proofs.Listed.{refused, cut, room, front}
+use Rattle.reports.proofs.Reported.{refused-report, cut-report}
 use borrow.Author.Needs.{needs}
 use Rattle.listing.proofs.list.Statement.{statement}
 use Rattle.listing.proofs.list.Tie as tie
@@ -26,9 +30,14 @@ same-length-3 : tie.Need-same-length-3
 same-length-3 c = search needs
 
 returns : tie.Need-returns
-returns c = front (c .before .before .put-refusal .ensures .0) (refused (c .before .before .before .before .before .before .before .before .cut-drawing .ensures) (c .before .before .before .before .if1 .taken))
+returns c =
+    let t = c .before .before .before .before in
+    refused-report (t .before .before .before .before .cut-drawing .ensures) (t .if1 .taken) (c .before .before .put-refusal .ensures .0)
 
-cut-sheet : (c : tie.Else1) → Cut (now (c .before .before .before .before .before .before .before .before .before .args .bytes)) (c .before .before .before .before .cut-drawing .result) (c .before .before .before .before .cut-drawing .last .1 .0) (c .before .before .before .before .cut-drawing .last .1 .1 .0)
+-- nothing was refused
+cut-sheet : (c : tie.Else1) →
+    let d = c .before .before .before .before .cut-drawing in
+    Cut (now (c .before .before .before .before .before .before .before .before .before .args .bytes)) (d .result) (d .last .1 .0) (d .last .1 .1 .0)
 cut-sheet c = cut-of (c .before .before .before .before .cut-drawing .ensures) (c .if1 .left)
 
 mul-count : tie.Need-mul-count
@@ -40,10 +49,17 @@ slice-reshare-prefix-put-listing c = rows-fit (cut-sheet (c .before .before .bef
 slice-aggregate-put-listing : tie.Need-slice-aggregate-put-listing
 slice-aggregate-put-listing c = sym (length-take-le _ _ (rows-fit (cut-sheet (c .before .before .before .before))))
 
+-- the page has room for the lines of all rows that there can be
+room : (xs : List ℤ) {n whole page : ℕ} → n ≤ length xs → length xs ≡ whole → 20480 ≡ whole → 262144 ≤ page → 12 * length (take n xs) + 124 ≤ page
+room xs {n} h e f r = omega (arith, length-take-le n xs h)
+
 put-listing-requires : tie.Need-put-listing-requires
-put-listing-requires c κs = let s = cut-sheet (c .before .before .before .before) in
-    let d = c .before .before .before .before .before .before .before .before .cut-drawing in
-    room (d .last .1 .1 .0) (rows-fit s) (c .before .before .before .before .before .before .rows .given) (c .before .before .before .before .before .before .before .before .before .before .before .before .before .pre .1 .1)
+put-listing-requires c κs =
+    let e = c .before .before .before .before in
+    let r = e .before .before in
+    let d = r .before .before .cut-drawing in
+    let p = r .before .before .before .before .before .before .before .pre in
+    room (d .last .1 .1 .0) (rows-fit (cut-sheet e)) (r .rows .given) (p .1 .0) (p .1 .1)
 
 same-length-4 : tie.Need-same-length-4
 same-length-4 c = search needs
@@ -55,7 +71,7 @@ same-length-6 : tie.Need-same-length-6
 same-length-6 c = search needs
 
 returns-2 : tie.Need-returns-2
-returns-2 c = front (c .before .before .put-listing .ensures) (cut (cut-sheet (c .before .before .before .before .before .before .before)))
+returns-2 c = cut-report (cut-sheet (c .before .before .before .before .before .before .before)) (c .before .before .put-listing .ensures)
 
 pub list-spec : {M : Type 1} → statement M
 list-spec =

@@ -1,11 +1,16 @@
 -- A refusal is pictured by its number and place; a drawing that is cut, by what was read and kept.
-use mathlib.Core.Path.{sym}
+use mathlib.Core.Path.{_≡_, sym}
+use mathlib.Core.List.{List}
+use Prim.Native.Nat.{ℕ, _+_, _*_, _≤_}
+use native.Mathlib.Nat.{le-of-eq}
 use native.Mathlib.Omega.{arith}
 use denote.Ref.{now}
+use lib.IntN.{ℤ}
+use lib.ListN.{length, take}
 use lib.Seq.{length-take-le}
 use Rattle.cutting.specs.Sheets.{Cut}
 use Rattle.cutting.proofs.Theorems.{cut-of, strokes-fit, rows-fit}
-use Rattle.picture.proofs.Drawn.{refused, cut, room, front}
+use Rattle.reports.proofs.Reported.{refused-report, cut-report}
 use borrow.Author.Needs.{needs}
 use Rattle.picture.proofs.draw.Statement.{statement}
 use Rattle.picture.proofs.draw.Tie as tie
@@ -26,10 +31,14 @@ same-length-3 : tie.Need-same-length-3
 same-length-3 c = search needs
 
 returns : tie.Need-returns
-returns c = front (c .before .before .put-refused .ensures) (refused (c .before .before .before .before .before .before .before .before .cut-drawing .ensures) (c .before .before .before .before .if1 .taken))
+returns c =
+    let t = c .before .before .before .before in
+    refused-report (t .before .before .before .before .cut-drawing .ensures) (t .if1 .taken) (c .before .before .put-refused .ensures)
 
 -- nothing was refused
-cut-sheet : (c : tie.Else1) → Cut (now (c .before .before .before .before .before .before .before .before .before .args .bytes)) (c .before .before .before .before .cut-drawing .result) (c .before .before .before .before .cut-drawing .last .1 .0) (c .before .before .before .before .cut-drawing .last .1 .1 .0)
+cut-sheet : (c : tie.Else1) →
+    let d = c .before .before .before .before .cut-drawing in
+    Cut (now (c .before .before .before .before .before .before .before .before .before .args .bytes)) (d .result) (d .last .1 .0) (d .last .1 .1 .0)
 cut-sheet c = cut-of (c .before .before .before .before .cut-drawing .ensures) (c .if1 .left)
 
 mul-numbers : tie.Need-mul-numbers
@@ -50,11 +59,21 @@ slice-reshare-prefix-put-picture-2 c = rows-fit (cut-sheet (c .before .before .b
 slice-aggregate-put-picture-2 : tie.Need-slice-aggregate-put-picture-2
 slice-aggregate-put-picture-2 c = sym (length-take-le _ _ (rows-fit (cut-sheet (c .before .before .before .before .before .before))))
 
+-- the page has room for all strokes and rows that there can be
+room : (ss rs : List ℤ) (n k : ℕ) {strokes rows page : ℕ} → n * 4 ≤ length ss → k * 5 ≤ length rs → length ss ≡ strokes → length rs ≡ rows
+    → 16384 ≡ strokes → 20480 ≡ rows → 420000 ≤ page
+    → (n * 4 ≤ length (take (n * 4) ss)) × ((k * 5 ≤ length (take (k * 5) rs)) × (49 * n + 49 * k + 1600 ≤ page))
+room ss rs n k h g e f s r p = (le-of-eq (sym (length-take-le (n * 4) ss h)), (le-of-eq (sym (length-take-le (k * 5) rs g)), omega arith))
+
 put-picture-requires : tie.Need-put-picture-requires
 put-picture-requires c κs =
-    let s = (cut-sheet (c .before .before .before .before .before .before)) in
-    let d = c .before .before .before .before .before .before .before .before .before .before .cut-drawing in
-    room (d .last .1 .0) (d .last .1 .1 .0) (strokes-fit s) (rows-fit s) (c .before .before .before .before .before .before .before .before .before .strokes .given) (c .before .before .before .before .before .before .before .before .rows .given) (c .before .before .before .before .before .before .before .before .before .before .before .before .before .before .before .pre .1 .1)
+    let e = c .before .before .before .before .before .before in
+    let r = e .before .before in
+    let d = r .before .before .cut-drawing in
+    let p = r .before .before .before .before .before .before .before .pre in
+    let s = cut-sheet e in
+    room (d .last .1 .0) (d .last .1 .1 .0) (d .result .drawn) (d .result .kept) (strokes-fit s) (rows-fit s)
+    (r .before .strokes .given) (r .rows .given) (p .0) (p .1 .0) (p .1 .1)
 
 same-length-4 : tie.Need-same-length-4
 same-length-4 c = search needs
@@ -66,7 +85,26 @@ same-length-6 : tie.Need-same-length-6
 same-length-6 c = search needs
 
 returns-2 : tie.Need-returns-2
-returns-2 c = front (c .before .before .put-picture .ensures) (cut (cut-sheet (c .before .before .before .before .before .before .before .before .before)))
+returns-2 c = cut-report (cut-sheet (c .before .before .before .before .before .before .before .before .before)) (c .before .before .put-picture .ensures)
 
 pub draw-spec : {M : Type 1} → statement M
-draw-spec = tie.close (tie.spec cut-drawing-requires put-refused-requires same-length same-length-2 same-length-3 returns mul-numbers mul-count slice-reshare-prefix-put-picture slice-aggregate-put-picture slice-reshare-prefix-put-picture-2 slice-aggregate-put-picture-2 put-picture-requires same-length-4 same-length-5 same-length-6 returns-2)
+draw-spec =
+    tie.close
+    (tie.spec
+    cut-drawing-requires
+    put-refused-requires
+    same-length
+    same-length-2
+    same-length-3
+    returns
+    mul-numbers
+    mul-count
+    slice-reshare-prefix-put-picture
+    slice-aggregate-put-picture
+    slice-reshare-prefix-put-picture-2
+    slice-aggregate-put-picture-2
+    put-picture-requires
+    same-length-4
+    same-length-5
+    same-length-6
+    returns-2)

@@ -17,8 +17,8 @@ put-placed-requires c κs = search needs
 put-strip-requires : tie.Need-put-strip-requires
 put-strip-requires c κs = search needs
 
-put-strokes-requires : tie.Need-put-strokes-requires
-put-strokes-requires c κs = search needs
+put-drawn-requires : tie.Need-put-drawn-requires
+put-drawn-requires c κs = search needs
 
 put-caption-requires : tie.Need-put-caption-requires
 put-caption-requires c κs = search needs
@@ -29,12 +29,28 @@ same-length c = search needs
 returns : tie.Need-returns
 unfolding picture
 returns c =
-    let p1 = c .before .before .before .before .before .before .before .before .before .before .before .before .before .before .before .before .before .before .put-frame .ensures in
-    let p2 = c .before .before .before .before .before .before .before .before .before .before .before .before .before .before .put-placed .ensures in
-    let p3 = c .before .before .before .before .before .before .before .before .before .before .put-strip .ensures in
-    let p4 = c .before .before .before .before .before .before .put-strokes .ensures in
-    let p5 = c .before .before .put-caption .ensures in
-    rw (← c .before .before .before .before .before .before .before .before .before .before .before .before .before .before .before .before .before .before .before .before .reach .ensures) (put-then (put-then (put-then (put-then (p1 .0) (p2 .0)) (p3 .0)) (p4 .0)) p5)
+    let at₆ = c .before .before in
+    let at₅ = at₆ .before .before .before .before in
+    let at₄ = at₅ .before .before .before .before in
+    let at₃ = at₄ .before .before .before .before in
+    let at₂ = at₃ .before .before .before .before in
+    let at₁ = at₂ .before .before in
+    let p = at₂ .put-frame .ensures in
+    let q = at₃ .put-placed .ensures in
+    let r = at₄ .put-strip .ensures in
+    let s = at₅ .put-drawn .ensures in
+    let t = at₆ .put-caption .ensures in
+    rw (← at₁ .reach .ensures) (put-then (put-then (put-then (put-then (p .0) (q .0)) (r .0)) (s .0)) t)
 
 pub put-picture-spec : {M : Type 1} → statement M
-put-picture-spec = tie.close (tie.spec reach-requires put-frame-requires put-placed-requires put-strip-requires put-strokes-requires put-caption-requires same-length returns)
+put-picture-spec =
+    tie.close
+    (tie.spec
+    reach-requires
+    put-frame-requires
+    put-placed-requires
+    put-strip-requires
+    put-drawn-requires
+    put-caption-requires
+    same-length
+    returns)

@@ -1,0 +1,33 @@
+-- The report on a drawing by how the drawing was cut, and as it stands at the front of a page.
+use mathlib.Core.Path.{_≡_, sym, subst}
+use mathlib.Core.List.{List}
+use Prim.Native.Nat.{ℕ, _*_, _/_}
+use native.Mathlib.Omega.{arith}
+use lib.IntN.{ℤ}
+use lib.ListN.{length, take}
+use lib.Seq.{length-take-le}
+use Rattle.grid.specs.declared.Window.{Window}
+use Rattle.io.specs.Counts.{Counts}
+use Rattle.text.specs.Pages.{Put}
+use Rattle.cutting.specs.Sheets as Sheets
+use Rattle.cutting.specs.declared.Sheet.{Sheet}
+use Rattle.reports.specs.Reports.{Report, faulty, no-area, whole}
+
+module _ {refused : ℕ → ℕ → List ℕ} {cut : Window → List ℤ → ℕ → List ℤ → ℕ → List ℕ} {bytes before after : List ℕ} {end : ℕ} where
+  front : {text : List ℕ} → Put before after 0 end text → Report refused cut bytes text → Report refused cut bytes (take end after) × Counts end after
+  front p l = (subst (Report refused cut bytes) (sym (p .text)) l, (p .fits, sym (length-take-le _ _ (p .fits))))
+
+  pub refused-report : {sheet : Sheet} {strokes rows : List ℤ} → Sheets.CutDrawing bytes sheet strokes rows → (sheet .number ≡ 0 → ⊥)
+      → Put before after 0 end (refused (sheet .number) (sheet .place)) → Report refused cut bytes (take end after) × Counts end after
+  refused-report (Sheets.faulty m) h p = front p (faulty m)
+  refused-report (Sheets.no-area m n) h p = front p (no-area m n)
+  refused-report (Sheets.cut c) h p = absurd (h (c .number))
+
+  pub cut-report : {sheet : Sheet} {strokes rows : List ℤ} → Sheets.Cut bytes sheet strokes rows
+      → Put before after 0 end (cut (sheet .window) (take (sheet .drawn * 4) strokes) (sheet .drawn) (take (sheet .kept * 5) rows) (sheet .kept))
+      → Report refused cut bytes (take end after) × Counts end after
+  cut-report {sheet} c p =
+      let k : length (c .kept-rows) / 5 ≡ sheet .kept = omega (arith, c .kept-count) in
+      front p
+      (subst (Report refused cut bytes) (λ i. cut (sheet .window) (sym (c .strokes-start) i) (sym (c .count) i) (sym (c .rows-start) i) (k i))
+      (whole (c .means) (c .area) (c .are)))
