@@ -1,6 +1,6 @@
 -- The Cohen-Sutherland rule's own steps on the part of a stroke from the fraction f of its way to the fraction g, and what the call promises.
 --   decided w s f g         the decision for the codes of the two points
---   OnLine w s k f          the stroke's point at f lies on the line of side k
+--   OnLine w s k f          the stroke's point at f lies on the line of the side k
 --   Shortening w s f g f′ g′  one shortening of the part from f to g leaves that from f′ to g′
 --   Run w s f g n           the rule, run on the part from f to g, ends after n shortenings
 --   CohenSutherland w s r   r is right: the answer of any stroke call, and the rule's own count, which is 0 for a refused call

@@ -137,7 +137,7 @@ pub fn liang_barsky(w: Window, s: Stroke) -> StrokeAnswer
     crossing(w, s)
 }
 
-// ---- without the fractions, which most callers with many strokes do not ask for
+// ---- the points alone, without the fractions: what the call for many strokes asks for
 
 // Nothing is left.
 fn missed() -> Cut
