@@ -23,7 +23,7 @@ use Rattle.rings.specs.Points.{Point, Line, value, through, Left, On, Real}
 use Rattle.rings.specs.Rings.{Ring}
 use Rattle.rings.specs.Cuts.{Between, Result, started}
 use Rattle.rings.specs.Cuts as cuts
-use Rattle.rings.specs.Windows.{sides}
+use Rattle.rings.specs.Windows.{side-lines}
 use Rattle.rings.proofs.Plane.{cycle, between-value, between-proper, corners, det-of, nought}
 use Rattle.rings.proofs.Lists.{Pairs, _◂ᵖ_, all-map, edges-zip, turned-all}
 use Rattle.rings.proofs.Convex.{CCW, _◂ᶜ_}
@@ -70,7 +70,7 @@ side-traced {h} s = record {
   runs = λ a b p q on-a on-b. record { line = h; ruled = side-ruled s; from = on-a; to = on-b; first = p; second = q };
 }
 
-sides-traced : (l b r t : ℤ) → All (Traced Along Fine) (sides l b r t)
+sides-traced : (l b r t : ℤ) → All (Traced Along Fine) (side-lines l b r t)
 sides-traced l b r t = side-traced (left l) ◂ side-traced (right r) ◂ side-traced (bottom b) ◂ side-traced (top t) ◂ ∅
 
 -- ---- the outline's own edges

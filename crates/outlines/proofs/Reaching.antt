@@ -25,7 +25,7 @@ use Rattle.rings.specs.Cuts.{Inside, Cuts, no-more, cut, Outcome, area, Result,
 use Rattle.rings.specs.Lists.{All, ∅, _◂_}
 use Rattle.rings.specs.Points.{Point, Line, value, In, Under, Real}
 use Rattle.rings.specs.Rings.{Ring}
-use Rattle.rings.specs.Windows.{sides}
+use Rattle.rings.specs.Windows.{side-lines}
 use Rattle.rings.proofs.Fan.{corners-in}
 use Rattle.rings.proofs.Lists.{all-map}
 use Rattle.rings.proofs.OneCut.{few-on}
@@ -151,7 +151,7 @@ module _ {hs : List Line} {r : List Point} (reals : All Real hs) (g : Ring r) (h
 between : {v x y : ℤ} (m : ℤ) → v ≡ y -ℤ x → y ≤ℤ m → m ≤ℤ x → v ≤ℤ pos 0
 between {x = x} {y} m e h k = subst (λ z. z ≤ℤ pos 0) (sym e) (omega (zarith, sub-is y x))
 
-side-among : (w : Window) (s : ℕ) (p : Point) → Inside (sides (w .left) (w .bottom) (w .right) (w .top)) p → In (sideLine w s) p
+side-among : (w : Window) (s : ℕ) (p : Point) → Inside (side-lines (w .left) (w .bottom) (w .right) (w .top)) p → In (sideLine w s) p
 side-among w zero p (i ◂ a) = i
 side-among w (suc zero) p (i ◂ (j ◂ a)) = j
 side-among w (suc (suc zero)) p (i ◂ (j ◂ (k ◂ a))) = k
