@@ -9,7 +9,7 @@ use lib.ListN.{length, getD, drop, length-map, List·getD-map}
 use lib.Seq.{drop-cons}
 use Rattle.whole.proofs.Comparisons.{true-T}
 use Rattle.grid.specs.declared.Window.{Window}
-use Rattle.rings.specs.Windows.{sides}
+use Rattle.rings.specs.Windows.{side-lines}
 use Rattle.convex.specs.Corners.{every}
 use Rattle.convex.proofs.Places.{every-at}
 use Rattle.passes.specs.Orders.{sideLine, member, without, sidesIn, linesIn, packed}
@@ -78,7 +78,7 @@ map-arranged f (List·Permᴰ·swap d e) = List·Permᴰ·swap (ap f d) (ap f e)
 map-arranged f (List·Permᴰ·trans d e) = List·Permᴰ·trans (map-arranged f d) (map-arranged f e)
 
 module _ (o : ℕ) (w : Window) (h : o ≤ 23) where
-  pub lines-arranged : List·Permᴰ (sides (w .left) (w .bottom) (w .right) (w .top)) (linesIn o w)
+  pub lines-arranged : List·Permᴰ (side-lines (w .left) (w .bottom) (w .right) (w .top)) (linesIn o w)
   unfolding linesIn
   lines-arranged = map-arranged (sideLine w) (sides-arranged o h)
 
