@@ -14,18 +14,32 @@ fn cut(w: Window, strokes: &[i32], lent: &mut [i32]) -> Reply
     replies::begin(a.number, a.place).natural(a.count as u64)
 }
 
-// batch ROOM l b r t M s1 .. sM: N P W o1 .. oROOM, M at most 20,000
-pub fn batch(rest: &[u8], lent: &mut [i32]) -> Reply
+// The same of a line: its list is read into numbers.
+fn listed(rest: &[u8], numbers: &mut [i32], lent: &mut [i32]) -> Reply
+    requires { ⌜ length (now numbers) ≤ 20005 ⌝ }
     requires { ⌜ 40960 ≤ length (now lent) ⌝ }
     ensures { λ r. ⌜ r .count ≤ 16 ⌝ }
 {
-    let mut numbers = [0i32; 20005];
-    let list = lending::read_list(rest, &mut numbers);
+    let list = lending::read_list(rest, numbers);
     let room = list.room;
     let end = list.end;
     if end < 5 {
         return replies::unknown();
     }
-    let w = arguments::first_window(&numbers);
+    let w = arguments::first_window(numbers);
     cut(w, &numbers[5..end], &mut lent[0..room]).lent(room)
+}
+
+// batch ROOM l b r t M s1 .. sM: N P W o1 .. oROOM, M at most 20,000
+pub fn batch(rest: &[u8], lent: &mut [i32]) -> Reply
+    requires { ⌜ 40960 ≤ length (now lent) ⌝ }
+    ensures { λ r. ⌜ r .count ≤ 16 ⌝ }
+{
+    // A number takes two bytes or more, and to clear 20,005 places for a few takes longer than all else.
+    if rest.len() < 512 {
+        let mut few = [0i32; 256];
+        return listed(rest, &mut few, lent);
+    }
+    let mut many = [0i32; 20005];
+    listed(rest, &mut many, lent)
 }

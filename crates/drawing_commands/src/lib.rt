@@ -17,8 +17,8 @@ fn read(file: &[u8], lent: &mut [i32]) -> Reply
         .natural(a.count as u64)
 }
 
-// draw ROOM HEX: N P l b r t C o1 .. oROOM, HEX at most 70,000 bytes
-pub fn draw(rest: &[u8], lent: &mut [i32]) -> Reply
+// The same of a line: its file is read into bytes.
+fn drawn(rest: &[u8], bytes: &mut [u8], lent: &mut [i32]) -> Reply
     requires { ⌜ 40960 ≤ length (now lent) ⌝ }
     ensures { λ r. ⌜ r .count ≤ 16 ⌝ }
 {
@@ -30,11 +30,24 @@ pub fn draw(rest: &[u8], lent: &mut [i32]) -> Reply
     if first == rest.len() {
         return replies::unknown();
     }
-    let mut bytes = [0u8; 70000];
-    let file = words::read_bytes(&rest[first + 1..], &mut bytes);
+    let file = words::read_bytes(&rest[first + 1..], bytes);
     if !file.whole {
         return replies::unknown();
     }
     let n = file.count;
     read(&bytes[0..n], &mut lent[0..room]).lent(room)
+}
+
+// draw ROOM HEX: N P l b r t C o1 .. oROOM, HEX at most 70,000 bytes
+pub fn draw(rest: &[u8], lent: &mut [i32]) -> Reply
+    requires { ⌜ 40960 ≤ length (now lent) ⌝ }
+    ensures { λ r. ⌜ r .count ≤ 16 ⌝ }
+{
+    // A byte takes two digits, and to clear 70,000 places for a few takes longer than all else.
+    if rest.len() < 512 {
+        let mut few = [0u8; 256];
+        return drawn(rest, &mut few, lent);
+    }
+    let mut many = [0u8; 70000];
+    drawn(rest, &mut many, lent)
 }
