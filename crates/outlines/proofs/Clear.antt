@@ -12,14 +12,16 @@ use Rattle.whole.proofs.Polynomials.{ring}
 use Rattle.whole.proofs.Order.{zarith, ≤-diff}
 use Rattle.whole.proofs.Comparisons.{lt-no}
 use Rattle.grid.specs.declared.Window.{Window}
+use Rattle.grid.specs.Sides.{Side, placeOf, sideAt}
 use Rattle.rings.specs.Lists.{All}
 use Rattle.rings.specs.Points.{value, In}
 use Rattle.rings.specs.Windows.{left-side, right-side, bottom-side, top-side}
 use Rattle.rings.proofs.Plane.{nought}
 use Rattle.corners.specs.Corners.{gridPoint, cornersOf}
-use Rattle.passes.specs.Orders.{sideLine}
-use Rattle.passes.specs.Outlines.{Cutting}
-use Rattle.passes.proofs.Outlines.{corners-all}
+use Rattle.limits.specs.Sides.{sideLine}
+use Rattle.limits.proofs.Sides.{place-below, side-place}
+use Rattle.passes.specs.Passes.{Cutting}
+use Rattle.crossings.proofs.Outlines.{corners-all}
 use Rattle.outlines.specs.Workers.{Reaches, Clear}
 
 -- ---- the value of each side at a point of the grid; the side's number, x and y are the variables 0 to 2
@@ -47,7 +49,7 @@ module _ (c x y : ℤ) where
 between : {v a b : ℤ} (m : ℤ) → v ≡ b -ℤ a → a ≤ℤ m → m ≤ℤ b → pos 0 ≤ℤ v
 between {a = a} {b} m e h k = subst (λ z. pos 0 ≤ℤ z) (sym e) (≤-diff {a = a} {b = b} (omega zarith))
 
-pub clear-in : {zs : List ℤ} {b : Window} (w : Window) (s : ℕ) → Reaches zs b → Clear w b s → All (In (sideLine w s)) (cornersOf zs)
+pub clear-in : {zs : List ℤ} {b : Window} (w : Window) (s : ℕ) → Reaches zs b → Clear w b s → All (In (sideLine w (sideAt s))) (cornersOf zs)
 clear-in {zs} {b} w zero r c = corners-all zs (λ k h. between (b .left) (left-at (w .left) _ _) c (r .left k h))
 clear-in {zs} {b} w (suc zero) r c = corners-all zs (λ k h. between (b .right) (right-at (w .right) _ _) (r .right k h) c)
 clear-in {zs} {b} w (suc (suc zero)) r c = corners-all zs (λ k h. between (b .bottom) (bottom-at (w .bottom) _ _) c (r .bottom k h))
@@ -66,4 +68,5 @@ clear w b (suc (suc (suc zero))) h e = lt-no refl refl e
 clear w b (suc (suc (suc (suc s)))) h e = absurd (omega arith)
 
 pub cutting-is : (w b : Window) {zs : List ℤ} → Reaches zs b → Cutting w zs (cutting w b)
-cutting-is w b r s h e = clear-in w s r (clear w b s h e)
+cutting-is w b {zs} r k e =
+    subst (λ (i : Side). All (In (sideLine w i)) (cornersOf zs)) (side-place k) (clear-in w (placeOf k) r (clear w b (placeOf k) (place-below k) e))

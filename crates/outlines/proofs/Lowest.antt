@@ -13,8 +13,8 @@ use Rattle.rings.specs.Rings.{Ring, Starts}
 use Rattle.rings.proofs.Lists.{all-append}
 use Rattle.rings.proofs.Start.{turned-ring}
 use Rattle.rings.proofs.Theorems.{starts-at}
-use Rattle.passes.specs.Memory.{pointIn, ringFrom, ringIn}
-use Rattle.passes.proofs.Memories.{ring-length, ring-all}
+use Rattle.memory.specs.Memory.{pointIn, ringFrom, ringIn}
+use Rattle.memory.proofs.Memories.{ring-length, ring-all}
 use Rattle.outlines.specs.Workers.{LowestIn, startedAt}
 use Rattle.outlines.proofs.Memory.{memory-at, turned-at}
 

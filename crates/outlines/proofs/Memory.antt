@@ -11,8 +11,8 @@ use lib.Seq.{getD-drop, take-all}
 use Rattle.rings.specs.Lists.{All, _◂_, Turned}
 use Rattle.rings.specs.Points.{Point}
 use Rattle.rings.specs.Rings.{at}
-use Rattle.passes.specs.Memory.{pointIn, ringFrom, ringIn}
-use Rattle.passes.proofs.Memories.{ring-at, ring-split}
+use Rattle.memory.specs.Memory.{pointIn, ringFrom, ringIn}
+use Rattle.memory.proofs.Memories.{ring-at, ring-split}
 use Rattle.outlines.specs.Workers.{startedAt}
 
 module _ (m : List ℤ) where

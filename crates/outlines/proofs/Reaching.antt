@@ -21,6 +21,7 @@ use Rattle.whole.proofs.Order.{zarith, sub-is, ≤-antisym}
 use Rattle.whole.proofs.Polynomials.{ring}
 use Rattle.grid.specs.Table.{farthest, NumbersOnTable}
 use Rattle.grid.specs.declared.Window.{Window}
+use Rattle.grid.specs.Sides.{Side, placeOf, sideAt}
 use Rattle.rings.specs.Cuts.{Inside, Cuts, no-more, cut, Outcome, area, Result, none-left}
 use Rattle.rings.specs.Lists.{All, ∅, _◂_}
 use Rattle.rings.specs.Points.{Point, Line, value, In, Under, Real}
@@ -32,11 +33,12 @@ use Rattle.rings.proofs.OneCut.{few-on}
 use Rattle.rings.proofs.Orders.{some-result, all-order}
 use Rattle.rings.proofs.Theorems.{convex-ccw, fan, result-outcome}
 use Rattle.corners.specs.Corners.{cornersOf}
-use Rattle.passes.specs.Orders.{sideLine, sidesIn, linesIn}
+use Rattle.limits.specs.Sides.{sideLine}
+use Rattle.passes.specs.Orders.{sidesIn, linesIn}
 use Rattle.passes.proofs.Orders.{lines-arranged}
-use Rattle.passes.proofs.Outlines.{corners-all}
-use Rattle.passes.proofs.Sides.{side-line-real}
-use Rattle.passes.proofs.Pieces.{cut-nothing}
+use Rattle.crossings.proofs.Outlines.{corners-all}
+use Rattle.limits.proofs.Sides.{side-place, side-line-real}
+use Rattle.remains.proofs.Pieces.{cut-nothing}
 use Rattle.outlines.specs.Workers.{Round, Reaches, ReachOnTable, Clear, Beyond}
 use Rattle.outlines.proofs.Clear.{left-at, right-at, bottom-at, top-at, clear-in}
 use Rattle.outlines.proofs.Passes.{lines-real}
@@ -151,7 +153,7 @@ module _ {hs : List Line} {r : List Point} (reals : All Real hs) (g : Ring r) (h
 between : {v x y : ℤ} (m : ℤ) → v ≡ y -ℤ x → y ≤ℤ m → m ≤ℤ x → v ≤ℤ pos 0
 between {x = x} {y} m e h k = subst (λ z. z ≤ℤ pos 0) (sym e) (omega (zarith, sub-is y x))
 
-side-among : (w : Window) (s : ℕ) (p : Point) → Inside (sides (w .left) (w .bottom) (w .right) (w .top)) p → In (sideLine w s) p
+side-among : (w : Window) (s : ℕ) (p : Point) → Inside (sides (w .left) (w .bottom) (w .right) (w .top)) p → In (sideLine w (sideAt s)) p
 side-among w zero p (i ◂ a) = i
 side-among w (suc zero) p (i ◂ (j ◂ a)) = j
 side-among w (suc (suc zero)) p (i ◂ (j ◂ (k ◂ a))) = k
@@ -162,11 +164,11 @@ module _ (w : Window) {zs : List ℤ} {b : Window} (r : Reaches zs b) where
   unfolding linesIn
   whole-left o n f = cuts-nothing n (all (sidesIn o))
     where
-      all : (ss : List ℕ) → All (λ h. All (In h) (cornersOf zs)) (map (sideLine w) ss)
+      all : (ss : List Side) → All (λ h. All (In h) (cornersOf zs)) (map (sideLine w) ss)
       all [] = ∅
-      all (s ∷ ss) = clear-in w s r (f s) ◂ all ss
+      all (s ∷ ss) = subst (λ (i : Side). All (In (sideLine w i)) (cornersOf zs)) (side-place s) (clear-in w (placeOf s) r (f (placeOf s))) ◂ all ss
 
-  beyond-under : (s : ℕ) → Beyond w b s → All (Under (sideLine w s)) (cornersOf zs)
+  beyond-under : (s : ℕ) → Beyond w b s → All (Under (sideLine w (sideAt s))) (cornersOf zs)
   beyond-under zero c = corners-all zs (λ k h. between (b .right) (left-at (w .left) _ _) (r .right k h) c)
   beyond-under (suc zero) c = corners-all zs (λ k h. between (b .left) (right-at (w .right) _ _) c (r .left k h))
   beyond-under (suc (suc zero)) c = corners-all zs (λ k h. between (b .top) (bottom-at (w .bottom) _ _) (r .top k h) c)
@@ -174,5 +176,5 @@ module _ (w : Window) {zs : List ℤ} {b : Window} (r : Reaches zs b) where
 
   pub nothing-left : {o : ℕ} → o ≤ 23 → Ring (cornersOf zs) → (s : ℕ) × Beyond w b s → Cuts (linesIn o w) (cornersOf zs) none
   nothing-left {o} h g (s, c) =
-      cuts-away (lines-real w h) g (sideLine w s) (side-line-real w s)
+      cuts-away (lines-real w h) g (sideLine w (sideAt s)) (side-line-real w (sideAt s))
       (λ p i. side-among w s p (all-order (Permᴰ·symm (lines-arranged o w h)) i)) (beyond-under s c)

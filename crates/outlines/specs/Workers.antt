@@ -30,7 +30,7 @@ use Rattle.rings.specs.Lists.{All, Turned}
 use Rattle.rings.specs.Points.{Point, Before}
 use Rattle.rings.specs.Rings.{at, Starts}
 use Rattle.corners.specs.Corners.{gridPoint, cornersOf}
-use Rattle.passes.specs.Memory.{ringFrom}
+use Rattle.memory.specs.Memory.{ringFrom}
 use Rattle.outlines.specs.Outlines.{RingNumbers}
 
 pub record Round (zs : List ℤ) (n : ℕ) (b : Window) : Type 0 where

@@ -15,9 +15,10 @@ ghost use Rattle.grid.specs.Table.{WindowOnTable, NumbersOnTable};
 ghost use Rattle.rings.specs.Lists.{All};
 ghost use Rattle.rings.specs.Points.{Proper, Before};
 ghost use Rattle.rings.specs.Rings.{Ring};
-ghost use Rattle.passes.specs.Memory.{pointIn, ringIn};
-ghost use Rattle.passes.specs.Orders.{windowOf};
-ghost use Rattle.passes.specs.Outlines.{OutlineOnTable, Cutting};
+ghost use Rattle.memory.specs.Memory.{pointIn, ringIn};
+ghost use Rattle.limits.specs.Sides.{windowOf};
+ghost use Rattle.crossings.specs.Outlines.{OutlineOnTable};
+ghost use Rattle.passes.specs.Passes.{Cutting};
 ghost use Rattle.outlines.specs.Outlines.{rightCount, outlineRefusal, Clipped, Outline};
 ghost use Rattle.outlines.specs.Workers.{Reaches, ReachOnTable, LowestIn, Forward, startedAt, WroteFraction, Wrote, GaveNumbers, GaveRing};
 

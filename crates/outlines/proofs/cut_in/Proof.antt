@@ -9,8 +9,8 @@ use lib.IntN.{ℤ}
 use lib.ListN.{length, length-take, length-drop}
 use Rattle.rings.specs.Points.{Point}
 use Rattle.rings.specs.Rings.{Ring}
-use Rattle.passes.specs.Orders.{windowOf}
-use Rattle.passes.specs.declared.Places.{Places}
+use Rattle.limits.specs.Sides.{windowOf}
+use Rattle.memory.specs.declared.Places.{Places}
 use Rattle.outlines.specs.Workers.{GaveRing}
 use Rattle.outlines.proofs.Giving.{LeftRing, in-order, left-ring, give-ring, give-nothing, none-cuts}
 use Rattle.outlines.proofs.Memory.{ring-part}

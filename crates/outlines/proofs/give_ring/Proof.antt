@@ -5,8 +5,8 @@ use native.Mathlib.Omega.{arith}
 use borrow.Author.Needs.{needs}
 use denote.Ref.{now}
 use lib.ListN.{length}
-use Rattle.passes.specs.Memory.{ringIn}
-use Rattle.passes.proofs.Memories.{ring-length}
+use Rattle.memory.specs.Memory.{ringIn}
+use Rattle.memory.proofs.Memories.{ring-length}
 use Rattle.outlines.proofs.Lowest.{below, lowest-starts}
 use Rattle.outlines.proofs.Memory.{turned-at}
 use Rattle.outlines.proofs.Writing.{gave-short, gave-wrote}
