@@ -1,4 +1,5 @@
--- Where a stroke meets a line: the point that `meet` computes, the same with x and y exchanged, and that a stroke with points on both sides of a line does not run along it.
+-- Where a stroke meets a line: the point that `meet` computes, the same with x and y exchanged, and that a stroke with points on both sides of a line does not
+-- run along it.
 use mathlib.Core.Path.{_≡_, refl, sym, ap, _∙_}
 use mathlib.Core.Bool.{Bool, true, false}
 use mathlib.Core.List.{List, [], _∷_}
@@ -73,7 +74,12 @@ module _ (c ax ay bx by : ℤ) (hc : Within farthest c) (on : StrokeOnTable (str
   met k l d s t hd hk hl positive = record {
     on-side = ring ρ (at-side k l d) nought s;
     on-stroke = λ n. ring ρ (at-stroke k l d) nought t;
-    small = λ n. record { positive = positive (λ e. n (upright e)); den = within sizes ρ bounds d hd .high; x = within sizes ρ bounds k hk; y = within sizes ρ bounds l hl };
+    small = λ n. record {
+      positive = positive (λ e. n (upright e));
+      den = within sizes ρ bounds d hd .high;
+      x = within sizes ρ bounds k hk;
+      y = within sizes ρ bounds l hl;
+    };
   }
 
   pub meets-forward : pos 0 ≤ℤ means ρ run → Meets (left-side c) (strokeFrom ax ay bx by) (point (var 0 ⊗ run) height run)
@@ -109,7 +115,8 @@ stroke-exchanged ax ay bx by p = ring (ax ∷ ay ∷ bx ∷ by ∷ p .X ∷ p .Y
 
 bottom-meets : (c ax ay bx by : ℤ) {p : Point} → Meets (left-side c) (strokeFrom ay ax by bx) p → Meets (bottom-side c) (strokeFrom ax ay bx by) (exchanged p)
 bottom-meets c ax ay bx by {p} m =
-    let not : NotAlong (bottom-side c) (strokeFrom ax ay bx by) → NotAlong (left-side c) (strokeFrom ay ax by bx) = λ n q. n (bottom-left c (gridPoint ax ay) ∙ q ∙ sym (bottom-left c (gridPoint bx by))) in record {
+    let not : NotAlong (bottom-side c) (strokeFrom ax ay bx by) → NotAlong (left-side c) (strokeFrom ay ax by bx) =
+    λ n q. n (bottom-left c (gridPoint ax ay) ∙ q ∙ sym (bottom-left c (gridPoint bx by))) in record {
       on-side = bottom-left c (exchanged p) ∙ m .on-side;
       on-stroke = λ n. stroke-exchanged ax ay bx by p ∙ ap negℤ (m .on-stroke (not n));
       small = λ n. let s = m .small (not n) in record { positive = s .positive; den = s .den; x = s .y; y = s .x };
@@ -124,7 +131,8 @@ upright-meets l {e} {p} z m = go (l .low) (l .axis) z
     go false zero z = opposite (right-opposite (l .c)) m
     go low (suc k) z = absurd (omega arith)
 
-pub level-meets : (l : Limit) (e : Stroke) {p : Point} → (l .axis ≡ 0 → ⊥) → Meets (left-side (l .c)) (strokeFrom (e .y1) (e .x1) (e .y2) (e .x2)) p → Meets (limitLine l) e (exchanged p)
+pub level-meets : (l : Limit) (e : Stroke) {p : Point} → (l .axis ≡ 0 → ⊥) → Meets (left-side (l .c)) (strokeFrom (e .y1) (e .x1) (e .y2) (e .x2)) p
+    → Meets (limitLine l) e (exchanged p)
 level-meets l e {p} n m = go (l .low) (l .axis) n
   where
     met : Meets (bottom-side (l .c)) e (exchanged p)
@@ -155,7 +163,8 @@ module _ (c n : ℤ) (hc : Within farthest c) (hn : Within farthest n) where
   runs-along : Meets (left-side c) (strokeFrom n (pos 0) n (pos 1)) corner
   unfolding left-side value
   runs-along =
-      let along : value (left-side c) (gridPoint n (pos 0)) ≡ value (left-side c) (gridPoint n (pos 1)) = ring (c ∷ n ∷ []) (one ⊗ var 1 ⊕ nought ⊗ nought ⊕ neg (var 0) ⊗ one) (one ⊗ var 1 ⊕ nought ⊗ one ⊕ neg (var 0) ⊗ one) tt in
+      let along : value (left-side c) (gridPoint n (pos 0)) ≡ value (left-side c) (gridPoint n (pos 1)) =
+      ring (c ∷ n ∷ []) (one ⊗ var 1 ⊕ nought ⊗ nought ⊕ neg (var 0) ⊗ one) (one ⊗ var 1 ⊕ nought ⊗ one ⊕ neg (var 0) ⊗ one) tt in
       record { on-side = on-upright; on-stroke = λ k. absurd (k along); small = λ k. absurd (k along) }
 
 -- ---- a limit's line, met by that of a window's side

@@ -57,7 +57,8 @@ corner-at (x ∷ y ∷ zs) (suc k) h =
     let f : 2 * suc k + 1 ≡ suc (suc (2 * k + 1)) = omega arith in
     corner-at zs k (omega arith) ∙ sym (λ i. gridPoint (getD (x ∷ y ∷ zs) (e i) (pos 0)) (getD (x ∷ y ∷ zs) (f i) (pos 0)))
 
-pub corners-all : {P : Point → Type 0} (zs : List ℤ) → ((k : ℕ) → k < length zs / 2 → P (gridPoint (getD zs (2 * k) (pos 0)) (getD zs (2 * k + 1) (pos 0)))) → All P (cornersOf zs)
+pub corners-all : {P : Point → Type 0} (zs : List ℤ) → ((k : ℕ) → k < length zs / 2 → P (gridPoint (getD zs (2 * k) (pos 0)) (getD zs (2 * k + 1) (pos 0))))
+    → All P (cornersOf zs)
 unfolding cornersOf
 corners-all [] f = ∅
 corners-all (x ∷ []) f = ∅
@@ -106,7 +107,8 @@ edge-next {n} (closing {i = k} e) = next-round n k e
 pub edge-line : (zs : List ℤ) {k j : ℕ} → Edge (length zs / 2) k j → lineOf (edgeOf zs k) ≡ through (at (cornersOf zs) k) (at (cornersOf zs) j)
 unfolding edgeOf
 edge-line zs {k} {j} e =
-    ap (λ (i : ℕ). through (gridPoint (getD zs (2 * k) (pos 0)) (getD zs (2 * k + 1) (pos 0))) (gridPoint (getD zs (2 * i) (pos 0)) (getD zs (2 * i + 1) (pos 0)))) (edge-next e)
+    ap (λ (i : ℕ). through (gridPoint (getD zs (2 * k) (pos 0)) (getD zs (2 * k + 1) (pos 0)))
+    (gridPoint (getD zs (2 * i) (pos 0)) (getD zs (2 * i + 1) (pos 0)))) (edge-next e)
     ∙ (λ i. through (sym (corner-at zs k (edge-from e)) i) (sym (corner-at zs j (edge-below e)) i))
 
 module _ {zs : List ℤ} (o : OutlineOnTable zs) where
@@ -125,7 +127,12 @@ module _ {zs : List ℤ} (o : OutlineOnTable zs) where
   edge-on-table k h =
       let l = edge-below (next-edge h) in
       let j = next (length zs / 2) k in
-      record { x1 = o .corners .on (2 * k) (omega arith); y1 = o .corners .on (2 * k + 1) (omega arith); x2 = o .corners .on (2 * j) (omega arith); y2 = o .corners .on (2 * j + 1) (omega arith) }
+      record {
+        x1 = o .corners .on (2 * k) (omega arith);
+        y1 = o .corners .on (2 * k + 1) (omega arith);
+        x2 = o .corners .on (2 * j) (omega arith);
+        y2 = o .corners .on (2 * j + 1) (omega arith);
+      }
 
 pub named-real : {w : Window} {zs : List ℤ} {a : ℤ} {e : Stroke} → OutlineOnTable zs → Names w zs a e → Real (lineOf e)
 named-real o (edge k h) = edge-real o k h

@@ -25,11 +25,13 @@ Opposite h k = (q : Point) → value k q ≡ negℤ (value h q)
 
 pub right-opposite : (c : ℤ) → Opposite (left-side c) (right-side c)
 unfolding left-side right-side value
-right-opposite c q = ring (c ∷ q .X ∷ q .Y ∷ q .W ∷ []) (con (negsuc 0) ⊗ var 1 ⊕ nought ⊗ var 2 ⊕ var 0 ⊗ var 3) (neg (one ⊗ var 1 ⊕ nought ⊗ var 2 ⊕ neg (var 0) ⊗ var 3)) tt
+right-opposite c q =
+    ring (c ∷ q .X ∷ q .Y ∷ q .W ∷ []) (con (negsuc 0) ⊗ var 1 ⊕ nought ⊗ var 2 ⊕ var 0 ⊗ var 3) (neg (one ⊗ var 1 ⊕ nought ⊗ var 2 ⊕ neg (var 0) ⊗ var 3)) tt
 
 pub top-opposite : (c : ℤ) → Opposite (bottom-side c) (top-side c)
 unfolding bottom-side top-side value
-top-opposite c q = ring (c ∷ q .X ∷ q .Y ∷ q .W ∷ []) (nought ⊗ var 1 ⊕ con (negsuc 0) ⊗ var 2 ⊕ var 0 ⊗ var 3) (neg (nought ⊗ var 1 ⊕ one ⊗ var 2 ⊕ neg (var 0) ⊗ var 3)) tt
+top-opposite c q =
+    ring (c ∷ q .X ∷ q .Y ∷ q .W ∷ []) (nought ⊗ var 1 ⊕ con (negsuc 0) ⊗ var 2 ⊕ var 0 ⊗ var 3) (neg (nought ⊗ var 1 ⊕ one ⊗ var 2 ⊕ neg (var 0) ⊗ var 3)) tt
 
 opposite-on : (h k : Line) → Opposite h k → (p : Point) → On k p → On h p
 opposite-on h k o p e = let n : negℤ (value h p) ≡ pos 0 = sym (o p) ∙ e in omega (zarith, neg-plus (value h p), neg-minus (value h p))

@@ -26,7 +26,8 @@ module _ (w : Window) {zs : List ℤ} (s : Side) (g : OutlineOnTable zs) (m : Li
   abbrev FirstCut : Line → ℕ → ℕ → ℕ → Type 0
   FirstCut h a b to =
       Held w zs m (places 0 to) → ((i : ℕ) → 0 ≤ i → i < a → In h (pointIn m i)) → ((i : ℕ) → a ≤ i → i < b → Out h (pointIn m i)) → (b < to → In h (pointIn m b))
-      → (m₀ m₁ m₂ m₃ m₄ : List ℤ) (first second : ℕ) → Brought m m₀ m₁ 0 a 0 → Gone w zs s m₁ (a - 1) m₂ first → CameOwn w zs s m (b - 1) (pointIn m (if eqb b to then 0 else b)) m₂ first m₃ second
+      → (m₀ m₁ m₂ m₃ m₄ : List ℤ) (first second : ℕ) → Brought m m₀ m₁ 0 a 0 → Gone w zs s m₁ (a - 1) m₂ first
+      → CameOwn w zs s m (b - 1) (pointIn m (if eqb b to then 0 else b)) m₂ first m₃ second
       → Brought m m₃ m₄ b to second → Passed w zs s m (places 0 to) m₄ (places 0 (second + (to - b)))
 
   cut-first : (x y z : ℕ) → FirstCut (sideLine w s) (0 + suc x) (0 + suc x + suc y) (0 + suc x + suc y + z)
@@ -45,15 +46,18 @@ module _ (w : Window) {zs : List ℤ} (s : Side) (g : OutlineOnTable zs) (m : Li
       let o : b - 1 ≡ a + y = omega arith in
       let comes = subst (λ (q : Tagged). Comes w zs s q (pointIn m (if eqb b (b + z) then 0 else b)) (c .c)) (ap (cornerIn m) o) (c .comes) in
       let stays : cornersFrom m₄ 0 x ≡ cornersFrom m 0 x =
-      corners-same m m₄ 0 0 x (λ i l. behind .before (0 + i) (omega arith) ∙ c .before (0 + i) (omega arith) ∙ g′ .before (0 + i) (omega arith) ∙ front .brought i (omega arith)) in
+      corners-same m m₄ 0 0 x (λ i l. behind .before (0 + i) (omega arith) ∙ c .before (0 + i) (omega arith) ∙ g′ .before (0 + i) (omega arith)
+      ∙ front .brought i (omega arith)) in
       let kept : cornersFrom m₄ (0 + x) gc ≡ g′ .t =
-      corners-same m₂ m₄ (a - 1) (0 + x) gc (λ j l. behind .before (0 + x + j) (omega arith) ∙ c .before (0 + x + j) (omega arith) ∙ ap (λ (i : ℕ). cornerIn m₂ (i + j)) (sym i₀)) ∙ g′ .stands in
+      corners-same m₂ m₄ (a - 1) (0 + x) gc (λ j l. behind .before (0 + x + j) (omega arith) ∙ c .before (0 + x + j) (omega arith)
+      ∙ ap (λ (i : ℕ). cornerIn m₂ (i + j)) (sym i₀)) ∙ g′ .stands in
       let came : cornersFrom m₄ (0 + x + gc) cc ≡ c .c =
       corners-same m₃ m₄ first (0 + x + gc) cc (λ j l. behind .before (0 + x + gc + j) (omega arith) ∙ ap (λ (i : ℕ). cornerIn m₃ (i + j)) (sym i₁)) ∙ c .stands in
       let tail : cornersFrom m₄ (0 + x + gc + cc) z ≡ cornersFrom m b z =
       corners-same m m₄ b (0 + x + gc + cc) z (λ j l. ap (λ (i : ℕ). cornerIn m₄ (i + j)) (sym i₂) ∙ behind .brought j (omega arith)) in
       subst (λ (k : ℕ). Passed w zs s m (places 0 (b + z)) m₄ (places 0 k)) end
-      (cut-stands w s g m 0 x y z held inside outside back goes comes m₄ 0 n′ (in-four m₄ 0 x gc cc z stays kept (corners-split m₄ (0 + x + gc) cc z ∙ (λ j. came j ++ tail j))) (omega (arith, g′ .few, c .few)))
+      (cut-stands w s g m 0 x y z held inside outside back goes comes m₄ 0 n′
+      (in-four m₄ 0 x gc cc z stays kept (corners-split m₄ (0 + x + gc) cc z ∙ (λ j. came j ++ tail j))) (omega (arith, g′ .few, c .few)))
 
   pub first-cut : {h : Line} → h ≡ sideLine w s → {a b to : ℕ} → 0 < a → a < b → b ≤ to → FirstCut h a b to
   first-cut q {a} {b} {to} l k j =
@@ -72,7 +76,8 @@ module _ (w : Window) {zs : List ℤ} (s : Side) (g : OutlineOnTable zs) (m : Li
   abbrev FirstKeep : Line → ℕ → ℕ → ℕ → Type 0
   FirstKeep h f e to =
       Held w zs m (places 0 to) → ((i : ℕ) → 0 ≤ i → i < f → Out h (pointIn m i)) → ((i : ℕ) → f ≤ i → i < e → In h (pointIn m i)) → (e < to → Out h (pointIn m e))
-      → (m₀ m₁ m₂ m₃ : List ℤ) (start end : ℕ) → CameOwn w zs s m (f - 1) (pointIn m f) m₀ 0 m₁ start → Brought m m₁ m₂ f e start → Gone w zs s m₂ (start + (e - f) - 1) m₃ end
+      → (m₀ m₁ m₂ m₃ : List ℤ) (start end : ℕ) → CameOwn w zs s m (f - 1) (pointIn m f) m₀ 0 m₁ start → Brought m m₁ m₂ f e start
+      → Gone w zs s m₂ (start + (e - f) - 1) m₃ end
       → Passed w zs s m (places 0 to) m₃ (places 0 end)
 
   keep-first : (y x z : ℕ) → FirstKeep (sideLine w s) (0 + suc y) (0 + suc y + suc x) (0 + suc y + suc x + z)
@@ -96,7 +101,8 @@ module _ (w : Window) {zs : List ℤ} (s : Side) (g : OutlineOnTable zs) (m : Li
       let kept : cornersFrom m₃ (0 + cc + x) gc ≡ g′ .t = ap (λ (i : ℕ). cornersFrom m₃ i gc) i₂ ∙ g′ .stands in
       let stands : cornersFrom m₃ 0 n′ ≡ c .c ++ (cornersFrom m f x ++ g′ .t) =
       corners-split m₃ 0 cc (x + gc) ∙ (λ j. came j ++ (corners-split m₃ (0 + cc) x gc ∙ (λ i. stays i ++ kept i)) j) in
-      subst (λ (k : ℕ). Passed w zs s m (places 0 (e + z)) m₃ (places 0 k)) is (keep-stands w s g m 0 y x z held outside inside back comes goes m₃ 0 n′ stands (omega (arith, g′ .few, c .few)))
+      subst (λ (k : ℕ). Passed w zs s m (places 0 (e + z)) m₃ (places 0 k)) is (keep-stands w s g m 0 y x z held outside inside back comes goes m₃ 0 n′ stands
+      (omega (arith, g′ .few, c .few)))
 
   pub first-keep : {h : Line} → h ≡ sideLine w s → {f e to : ℕ} → 0 < f → f < e → e ≤ to → FirstKeep h f e to
   first-keep q {f} {e} {to} l k j =

@@ -52,7 +52,8 @@ pub record CameOwn (w : Window) (zs : List ℤ) (s : Side) (g : List ℤ) (k : �
   pub before : (j : ℕ) → j < at → cornerIn m′ j ≡ cornerIn m j
 
 pub came-own : {w : Window} {zs : List ℤ} {s : Side} {h : Line} {there : Bool} {k : ℕ} {p : Point} {m : List ℤ} {at : ℕ} {m′ : List ℤ} {r : ℕ}
-    → h ≡ sideLine w s → k < length zs / 2 → 4 * at + 4 ≤ length m → Decides there (On h p) → In h p → EnteredOwn zs h there k m at m′ r → CameOwn w zs s (loadedOf zs) k p m at m′ r
+    → h ≡ sideLine w s → k < length zs / 2 → 4 * at + 4 ≤ length m → Decides there (On h p) → In h p → EnteredOwn zs h there k m at m′ r
+    → CameOwn w zs s (loadedOf zs) k p m at m′ r
 unfolding cornersFrom
 came-own {p = z} {at = at} q l h e i (first.on-line t) = record {
   c = [];
@@ -76,6 +77,7 @@ came-own {w} {zs} {s} {h = line} {k = k} {p = z} {m} {at} q l h e i (first.cross
       before = λ j b. p .others j (inl b);
     }
 
-pub entered-few : {zs : List ℤ} {h : Line} {there : Bool} {k : ℕ} {m : List ℤ} {at : ℕ} {m′ : List ℤ} {r : ℕ} → EnteredOwn zs h there k m at m′ r → (at ≤ r) × (r ≤ at + 1)
+pub entered-few : {zs : List ℤ} {h : Line} {there : Bool} {k : ℕ} {m : List ℤ} {at : ℕ} {m′ : List ℤ} {r : ℕ} → EnteredOwn zs h there k m at m′ r
+    → (at ≤ r) × (r ≤ at + 1)
 entered-few (first.on-line x) = (omega arith, omega arith)
 entered-few (first.crosses x met) = (omega arith, omega arith)

@@ -14,10 +14,8 @@ ghost use Rattle.limits.specs.Sides.{windowOf, sideLine};
 ghost use Rattle.limits.specs.Limits.{LimitOnTable, limitLine, RunTo};
 ghost use Rattle.crossings.specs.Outlines.{OutlineOnTable};
 ghost use Rattle.crossings.specs.Tags.{Named};
-ghost use Rattle.crossings.specs.Meetings.{Meeting};
-ghost use Rattle.remains.specs.Ends.{Went};
 ghost use Rattle.remains.specs.Remains.{Held, Passed};
-ghost use Rattle.later_pass.specs.Later.{Job, Entered};
+ghost use Rattle.later_pass.specs.Later.{Job, Entered, Exited};
 
 // Where the ring comes in from the corner o outside: the crossing takes the place of o, unless the corner there, the next one, lies on the limit.
 // What is left begins at the place answered.
@@ -59,7 +57,7 @@ fn leave(
     requires { ⌜ LimitOnTable l ⌝ }
     requires { ⌜ 4 * i + 8 ≤ length (now m) ⌝ }
     requires { ⌜ Named (windowOf (now numbers)) (now outline) (tagIn (now m) i) ⌝ }
-    ensures { λ r. ⌜ Went (Meeting (windowOf (now (numbers .entry))) (now (outline .entry)) (limitLine l) (tagIn (now (m .entry)) i)) (sideAt side) here (now (m .entry)) i (now (m .exit)) r ⌝ }
+    ensures { λ r. ⌜ Exited (windowOf (now (numbers .entry))) (now (outline .entry)) (limitLine l) (sideAt side) here (now (m .entry)) i (now (m .exit)) r ⌝ }
 {
     if here {
         return remains::turn_along(m, i, side);

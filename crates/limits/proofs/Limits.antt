@@ -83,7 +83,8 @@ limit-value l m i b e h = subst (λ (b : Bool). means (numbers l m i) (inward b)
     ρ : Env
     ρ = pointIn m i .X ∷ l .c ∷ pointIn m i .W ∷ pointIn m i .Y ∷ []
 
-    go : (b : Bool) (k : ℕ) → k < 2 → let l′ : Limit = record { low = b; axis = k; c = l .c } in means (numbers l′ m i) (inward b) ≡ points.value (limitLine l′) (pointIn m i)
+    go : (b : Bool) (k : ℕ) → k < 2
+        → let l′ : Limit = record { low = b; axis = k; c = l .c } in means (numbers l′ m i) (inward b) ≡ points.value (limitLine l′) (pointIn m i)
     go true zero h = rw (add-zero (4 * i)) (ring ρ (var 0 ⊖ var 1 ⊗ var 2) (con (pos 1) ⊗ var 0 ⊕ nought ⊗ var 3 ⊕ neg (var 1) ⊗ var 2) tt)
     go false zero h = rw (add-zero (4 * i)) (ring ρ (var 1 ⊗ var 2 ⊖ var 0) (con (negsuc 0) ⊗ var 0 ⊕ nought ⊗ var 3 ⊕ var 1 ⊗ var 2) tt)
     go true (suc zero) h = ring ρ (var 3 ⊖ var 1 ⊗ var 2) (nought ⊗ var 0 ⊕ con (pos 1) ⊗ var 3 ⊕ neg (var 1) ⊗ var 2) tt
@@ -114,13 +115,22 @@ module _ (l : Limit) (m : List ℤ) (i : ℕ) (t : LimitOnTable l) (p : Small (p
   is-scaled = value sizes ρ (bounds l m i t p) scaled tt
 
   tells : (b : Bool) → l .low ≡ b → (test b ρ ≡ true → Out (limitLine l) (pointIn m i)) × (test b ρ ≡ false → In (limitLine l) (pointIn m i))
-  tells true e = let v = limit-value l m i true e (t .axis) in (outside (limitLine l) (pointIn m i) is-along is-scaled v, inside (limitLine l) (pointIn m i) is-along is-scaled v)
-  tells false e = let v = limit-value l m i false e (t .axis) in (outside (limitLine l) (pointIn m i) is-scaled is-along v, inside (limitLine l) (pointIn m i) is-scaled is-along v)
+  tells true e =
+      let v = limit-value l m i true e (t .axis) in (
+        outside (limitLine l) (pointIn m i) is-along is-scaled v,
+        inside (limitLine l) (pointIn m i) is-along is-scaled v,
+      )
+  tells false e =
+      let v = limit-value l m i false e (t .axis) in (
+        outside (limitLine l) (pointIn m i) is-scaled is-along v,
+        inside (limitLine l) (pointIn m i) is-scaled is-along v,
+      )
 
   pub as-asked : (b : Bool) → l .low ≡ b → (out : Bool) → not (Bool·beq (test b ρ) out) ≡ false → LiesSo out (limitLine l) (pointIn m i)
   as-asked b e = let k = tells b e in go (test b ρ) (k .0) (k .1)
     where
-      go : (f : Bool) → (f ≡ true → Out (limitLine l) (pointIn m i)) → (f ≡ false → In (limitLine l) (pointIn m i)) → (out : Bool) → not (Bool·beq f out) ≡ false → LiesSo out (limitLine l) (pointIn m i)
+      go : (f : Bool) → (f ≡ true → Out (limitLine l) (pointIn m i)) → (f ≡ false → In (limitLine l) (pointIn m i)) → (out : Bool)
+          → not (Bool·beq f out) ≡ false → LiesSo out (limitLine l) (pointIn m i)
       go true o n true q = o refl
       go true o n false q = absurd (tt-ff q)
       go false o n true q = absurd (tt-ff q)
@@ -129,7 +139,8 @@ module _ (l : Limit) (m : List ℤ) (i : ℕ) (t : LimitOnTable l) (p : Small (p
   pub else-asked : (b : Bool) → l .low ≡ b → (out : Bool) → not (Bool·beq (test b ρ) out) ≡ true → LiesSo (not out) (limitLine l) (pointIn m i)
   else-asked b e = let k = tells b e in go (test b ρ) (k .0) (k .1)
     where
-      go : (f : Bool) → (f ≡ true → Out (limitLine l) (pointIn m i)) → (f ≡ false → In (limitLine l) (pointIn m i)) → (out : Bool) → not (Bool·beq f out) ≡ true → LiesSo (not out) (limitLine l) (pointIn m i)
+      go : (f : Bool) → (f ≡ true → Out (limitLine l) (pointIn m i)) → (f ≡ false → In (limitLine l) (pointIn m i)) → (out : Bool) → not (Bool·beq f out) ≡ true
+          → LiesSo (not out) (limitLine l) (pointIn m i)
       go true o n true q = absurd (ff-tt q)
       go true o n false q = o refl
       go false o n true q = n refl
@@ -137,9 +148,18 @@ module _ (l : Limit) (m : List ℤ) (i : ℕ) (t : LimitOnTable l) (p : Small (p
 
   -- on the limit the two numbers are equal
   equal : (b : Bool) → l .low ≡ b → (means ρ (var 0) ≡ means ρ (var 1 ⊗ var 2)) ↔ On (limitLine l) (pointIn m i)
-  equal true e = let v = limit-value l m i true e (t .axis) in (λ q. sym v ∙ omega (zarith, q, sub-is (means ρ (var 0)) (means ρ (var 1 ⊗ var 2))), λ h. omega (zarith, v ∙ h, sub-is (means ρ (var 0)) (means ρ (var 1 ⊗ var 2))))
-  equal false e = let v = limit-value l m i false e (t .axis) in (λ q. sym v ∙ omega (zarith, q, sub-is (means ρ (var 1 ⊗ var 2)) (means ρ (var 0))), λ h. omega (zarith, v ∙ h, sub-is (means ρ (var 1 ⊗ var 2)) (means ρ (var 0))))
+  equal true e =
+      let v = limit-value l m i true e (t .axis) in (
+        λ q. sym v ∙ omega (zarith, q, sub-is (means ρ (var 0)) (means ρ (var 1 ⊗ var 2))),
+        λ h. omega (zarith, v ∙ h, sub-is (means ρ (var 0)) (means ρ (var 1 ⊗ var 2))),
+      )
+  equal false e =
+      let v = limit-value l m i false e (t .axis) in (
+        λ q. sym v ∙ omega (zarith, q, sub-is (means ρ (var 1 ⊗ var 2)) (means ρ (var 0))),
+        λ h. omega (zarith, v ∙ h, sub-is (means ρ (var 1 ⊗ var 2)) (means ρ (var 0))),
+      )
 
-  pub on-limit : {x y : ℤ} → SFits w32 x → SFits w32 y → x ≡ means ρ (var 0) → y ≡ means ρ (var 1 ⊗ var 2) → Decides (eqb (ofZ w32 x) (ofZ w32 y)) (On (limitLine l) (pointIn m i))
+  pub on-limit : {x y : ℤ} → SFits w32 x → SFits w32 y → x ≡ means ρ (var 0) → y ≡ means ρ (var 1 ⊗ var 2)
+      → Decides (eqb (ofZ w32 x) (ofZ w32 y)) (On (limitLine l) (pointIn m i))
   on-limit fx fy ex ey = let k = equal (l .low) refl in
       record { yes = λ q. k .0 (sym ex ∙ bits-eq w32 fx fy (eqb-true _ _ q) ∙ ey); no = λ q h. eqb-false _ _ q (ap (ofZ w32) (ex ∙ k .1 h ∙ sym ey)) }

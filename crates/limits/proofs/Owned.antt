@@ -86,10 +86,14 @@ module _ (zs : List ℤ) {a k : ℕ} (small : a < 2) (there : k < length zs / 2)
   is-1 = ap (λ (q : Point). q .W) (loaded-of zs .corner k there)
 
   low-value : (c : ℤ) → x -ℤ c ≡ value (lineBy true a c) p
-  low-value c = ring (x ∷ c ∷ []) (x0 ⊖ x1) (x0 ⊖ x1 ⊗ con (pos 1)) tt ∙ sym (λ i. is-number i -ℤ c *ℤ is-1 i) ∙ limit-value (record { low = true; axis = a; c = c }) (loadedOf zs) k true refl small
+  low-value c =
+      ring (x ∷ c ∷ []) (x0 ⊖ x1) (x0 ⊖ x1 ⊗ con (pos 1)) tt ∙ sym (λ i. is-number i -ℤ c *ℤ is-1 i) ∙ limit-value (record { low = true; axis = a; c = c })
+      (loadedOf zs) k true refl small
 
   high-value : (c : ℤ) → c -ℤ x ≡ value (lineBy false a c) p
-  high-value c = ring (x ∷ c ∷ []) (x1 ⊖ x0) (x1 ⊗ con (pos 1) ⊖ x0) tt ∙ sym (λ i. c *ℤ is-1 i -ℤ is-number i) ∙ limit-value (record { low = false; axis = a; c = c }) (loadedOf zs) k false refl small
+  high-value c =
+      ring (x ∷ c ∷ []) (x1 ⊖ x0) (x1 ⊗ con (pos 1) ⊖ x0) tt ∙ sym (λ i. c *ℤ is-1 i -ℤ is-number i) ∙ limit-value (record { low = false; axis = a; c = c })
+      (loadedOf zs) k false refl small
 
   module _ (c : ℤ) where
     pub below-low : x <ℤ c → Out (lineBy true a c) p
@@ -108,7 +112,10 @@ module _ (zs : List ℤ) {a k : ℕ} (small : a < 2) (there : k < length zs / 2)
     equal false = (λ e. omega (zarith, high-value c, sub-is c x), λ e. omega (zarith, high-value c, sub-is c x))
 
     pub on-line : (low : Bool) → mag x < 2 ^ 31 → mag c < 2 ^ 31 → Decides (eqb (ofZ w32 x) (ofZ w32 c)) (On (lineBy low a c) p)
-    on-line low fx fc = record { yes = λ q. equal low .0 (bits-eq w32 (record { sfits = fx }) (record { sfits = fc }) (eqb-true _ _ q)); no = λ q h. eqb-false _ _ q (ap (ofZ w32) (equal low .1 h)) }
+    on-line low fx fc = record {
+      yes = λ q. equal low .0 (bits-eq w32 (record { sfits = fx }) (record { sfits = fc }) (eqb-true _ _ q));
+      no = λ q h. eqb-false _ _ q (ap (ofZ w32) (equal low .1 h));
+    }
 
 -- ---- a run of them, by a number that is read from its bits
 pub plain-run : (zs : List ℤ) (low : Bool) (a : ℕ) {t : ℤ} {out : Bool} {from to r : ℕ} → SFits w32 t
@@ -137,14 +144,17 @@ module _ {c : ℤ} (on : Within farthest c) where
 
 -- ---- a run by the limit, from one by its kind and its number
 module _ (l : Limit) (zs : List ℤ) {from to r : ℕ} (on : LimitOnTable l) where
-  of-kind : (low : Bool) {out o : Bool} → l .low ≡ low → o ≡ out → RunTo (lineBy low (l .axis) (l .c)) (loadedOf zs) out from to r → RunTo (limitLine l) (loadedOf zs) o from to r
+  of-kind : (low : Bool) {out o : Bool} → l .low ≡ low → o ≡ out → RunTo (lineBy low (l .axis) (l .c)) (loadedOf zs) out from to r
+      → RunTo (limitLine l) (loadedOf zs) o from to r
   of-kind low e f run = transport (λ i. RunTo (lineBy (sym e i) (l .axis) (l .c)) (loadedOf zs) (sym f i) from to r) run
 
-  pub low-ends : {out o : Bool} → l .low ≡ true → o ≡ out → RunTo (lineBy true (l .axis) (toZ w32 (ofZ w32 (l .c)))) (loadedOf zs) out from to r → RunTo (limitLine l) (loadedOf zs) o from to r
+  pub low-ends : {out o : Bool} → l .low ≡ true → o ≡ out → RunTo (lineBy true (l .axis) (toZ w32 (ofZ w32 (l .c)))) (loadedOf zs) out from to r
+      → RunTo (limitLine l) (loadedOf zs) o from to r
   low-ends e f run = of-kind true e f (plain-run zs true (l .axis) (number-fits (on .number)) run)
 
   pub high-ends : (out : Bool) {o : Bool} → l .low ≡ false → o ≡ out → to ≤ length zs / 2
       → RunTo (lineBy true (l .axis) (toZ w32 (ofZ w32 (toZ w32 (ofZ w32 (l .c)) +ℤ pos 1)))) (loadedOf zs) (not out) from to r
       → RunTo (limitLine l) (loadedOf zs) o from to r
   high-ends out e f h run =
-      of-kind false e f (plain-run zs false (l .axis) (number-fits (on .number)) (high-run zs (l .axis) _ out (on .axis) h (plain-run zs true (l .axis) (more-fits (on .number)) run)))
+      of-kind false e f (plain-run zs false (l .axis) (number-fits (on .number))
+      (high-run zs (l .axis) _ out (on .axis) h (plain-run zs true (l .axis) (more-fits (on .number)) run)))

@@ -35,5 +35,6 @@ module _ {h : Line} {m : List ℤ} {out : Bool} {from to : ℕ} where
   run-is-all r k = record { above = omega (arith, r .above, r .below); below = omega arith; run = λ j a b. r .run j a (omega arith); ends = λ b. absurd (omega arith) }
 
 -- ---- a run and the corner before it
-pub run-with : {h : Line} {m : List ℤ} {a to r : ℕ} (out : Bool) → LiesSo out h (pointIn m a) → RunTo h m out (a + 1) to r → (i : ℕ) → a ≤ i → i < r → LiesSo out h (pointIn m i)
+pub run-with : {h : Line} {m : List ℤ} {a to r : ℕ} (out : Bool) → LiesSo out h (pointIn m a) → RunTo h m out (a + 1) to r → (i : ℕ) → a ≤ i → i < r
+    → LiesSo out h (pointIn m i)
 run-with {h} {m} out s k i l b = ⊎-elim (λ q. subst (λ (j : ℕ). LiesSo out h (pointIn m j)) q s) (λ d. k .run i (omega arith) b) (eq-or-lt-of-le l)

@@ -1,4 +1,5 @@
--- A corner put into a memory stands in its place, and all others are as they were; so corners in a memory, by their places, are lists that are split, moved and compared.
+-- A corner put into a memory stands in its place, and all others are as they were; so corners in a memory, by their places, are lists that are split, moved and
+-- compared.
 use mathlib.Core.Path.{_≡_, refl, sym, ap, _∙_, subst}
 use mathlib.Core.List.{List, [], _∷_, _++_}
 use mathlib.Core.Logic.{_⊎_, inl, inr, _≢_, ⊎-elim}
@@ -25,7 +26,8 @@ stored-else (v ∷ vs) m n j h =
 stored-at : (vs m : List ℤ) (n j : ℕ) → n + length vs ≤ length m → j < length vs → getD (sets m n vs) (n + j) (pos 0) ≡ getD vs j (pos 0)
 stored-at [] m n j h l = absurd (omega arith)
 stored-at (v ∷ vs) m n zero h l =
-    ap (λ (k : ℕ). getD (sets m n (v ∷ vs)) k (pos 0)) (add-zero n) ∙ stored-else vs (set m n v) (suc n) n (inl (omega arith)) ∙ getD-set-same m n v (pos 0) (omega arith)
+    ap (λ (k : ℕ). getD (sets m n (v ∷ vs)) k (pos 0)) (add-zero n) ∙ stored-else vs (set m n v) (suc n) n (inl (omega arith)) ∙ getD-set-same m n v (pos 0)
+    (omega arith)
 stored-at (v ∷ vs) m n (suc j) h l =
     let e : n + suc j ≡ suc n + j = omega arith in
     ap (λ (k : ℕ). getD (sets m n (v ∷ vs)) k (pos 0)) e ∙ stored-at vs (set m n v) (suc n) j (simp length-set (omega arith)) (omega arith)
@@ -37,8 +39,17 @@ pub record Put (m m′ : List ℤ) (n : ℕ) (c : Tagged) : Type 0 where
 
 pub put-at : (m : List ℤ) (n : ℕ) (p : Point) (t : ℤ) → 4 * n + 4 ≤ length m → Put m (putAt m n p t) n (tagged p t)
 put-at m n p t h = record {
-  put = λ i. tagged (record { X = (ap (λ (j : ℕ). getD (putAt m n p t) j (pos 0)) (sym (add-zero (4 * n))) ∙ now 0 (omega arith)) i; Y = now 1 (omega arith) i; W = now 2 (omega arith) i }) (now 3 (omega arith) i);
-  others = λ k e i. tagged (record { X = (ap (λ (j : ℕ). getD (putAt m n p t) j (pos 0)) (sym (add-zero (4 * k))) ∙ was k 0 (omega arith) e ∙ ap (λ (j : ℕ). getD m j (pos 0)) (add-zero (4 * k))) i; Y = was k 1 (omega arith) e i; W = was k 2 (omega arith) e i }) (was k 3 (omega arith) e i);
+  put = λ i. tagged (record {
+    X = (ap (λ (j : ℕ). getD (putAt m n p t) j (pos 0)) (sym (add-zero (4 * n))) ∙ now 0 (omega arith)) i;
+    Y = now 1 (omega arith) i;
+    W = now 2 (omega arith) i;
+  }) (now 3 (omega arith) i);
+  others = λ k e i. tagged (record {
+    X = (ap (λ (j : ℕ). getD (putAt m n p t) j (pos 0)) (sym (add-zero (4 * k))) ∙ was k 0 (omega arith) e
+        ∙ ap (λ (j : ℕ). getD m j (pos 0)) (add-zero (4 * k))) i;
+    Y = was k 1 (omega arith) e i;
+    W = was k 2 (omega arith) e i;
+  }) (was k 3 (omega arith) e i);
 }
   where
     four : List ℤ
@@ -70,7 +81,9 @@ ring-at m i (suc n) (suc k) h = ring-at m (suc i) n k (omega arith) ∙ ap (poin
 pub ring-split : (m : List ℤ) (i a b : ℕ) → ringFrom m i (a + b) ≡ ringFrom m i a ++ ringFrom m (i + a) b
 unfolding ringFrom
 ring-split m i zero b = (λ j. ringFrom m (sym (add-zero i) j) (zero-add b j))
-ring-split m i (suc a) b = ap (ringFrom m i) (suc-add a b) ∙ ap (λ (r : List Point). pointIn m i ∷ r) (ring-split m (suc i) a b ∙ ap (λ (k : ℕ). ringFrom m (suc i) a ++ ringFrom m k b) (omega arith))
+ring-split m i (suc a) b =
+    ap (ringFrom m i) (suc-add a b) ∙ ap (λ (r : List Point). pointIn m i ∷ r)
+    (ring-split m (suc i) a b ∙ ap (λ (k : ℕ). ringFrom m (suc i) a ++ ringFrom m k b) (omega arith))
 
 pub ring-all : {P : Point → Type 0} (m : List ℤ) (i n : ℕ) → ((k : ℕ) → i ≤ k → k < i + n → P (pointIn m k)) → All P (ringFrom m i n)
 unfolding ringFrom
@@ -86,7 +99,9 @@ corners-points m i (suc n) = ap (λ (r : List Point). pointIn m i ∷ r) (corner
 pub corners-split : (m : List ℤ) (i a b : ℕ) → cornersFrom m i (a + b) ≡ cornersFrom m i a ++ cornersFrom m (i + a) b
 unfolding cornersFrom
 corners-split m i zero b = (λ j. cornersFrom m (sym (add-zero i) j) (zero-add b j))
-corners-split m i (suc a) b = ap (cornersFrom m i) (suc-add a b) ∙ ap (λ (r : List Tagged). cornerIn m i ∷ r) (corners-split m (suc i) a b ∙ ap (λ (k : ℕ). cornersFrom m (suc i) a ++ cornersFrom m k b) (omega arith))
+corners-split m i (suc a) b =
+    ap (cornersFrom m i) (suc-add a b) ∙ ap (λ (r : List Tagged). cornerIn m i ∷ r)
+    (corners-split m (suc i) a b ∙ ap (λ (k : ℕ). cornersFrom m (suc i) a ++ cornersFrom m k b) (omega arith))
 
 pub corners-same : (m m′ : List ℤ) (i i′ n : ℕ) → ((k : ℕ) → k < n → cornerIn m′ (i′ + k) ≡ cornerIn m (i + k)) → cornersFrom m′ i′ n ≡ cornersFrom m i n
 unfolding cornersFrom

@@ -1,4 +1,5 @@
--- Each pass leaves a ring that ends at most one place later, which the remaining passes go on from, or no area; a side with no corner of the outline outside leaves the ring as it is.
+-- Each pass leaves a ring that ends at most one place later, which the remaining passes go on from, or no area; a side with no corner of the outline outside
+-- leaves the ring as it is.
 use mathlib.Core.Path.{_≡_, refl, sym, ap, _∙_, subst}
 use mathlib.Core.List.{List, [], _∷_}
 use mathlib.Core.Option.{Option, none, some}
@@ -40,8 +41,10 @@ cut-in {r = r} {s} g real o c l a =
     let d = one-cut real o c in
     all-map (λ p i. fan g p r o (d .points l p .0 i .0) a) (corners-in (convex-ccw s .0 (d .ring l .convex)))
 
--- ---- what one pass promises: at most one corner more, and a ring of exactly the points on or inside the side, or fewer than three corners and those points on its line
-pub pass-one-cut : {w : Window} {zs : List ℤ} {s : Side} {m : List ℤ} {p : Places} {m′ : List ℤ} {p′ : Places} → Held w zs m p → Passed w zs s m p m′ p′ → OneCut (sideLine w s) (ringAt m p) (ringAt m′ p′)
+-- ---- what one pass promises: at most one corner more, and a ring of exactly the points on or inside the side, or fewer than three corners and those points on
+-- its line
+pub pass-one-cut : {w : Window} {zs : List ℤ} {s : Side} {m : List ℤ} {p : Places} {m′ : List ℤ} {p′ : Places} → Held w zs m p → Passed w zs s m p m′ p′
+    → OneCut (sideLine w s) (ringAt m p) (ringAt m′ p′)
 pass-one-cut {w} {s = s} h c = one-cut (side-line-real w s) (h .ring) (c .cut)
 
 -- ---- the passes in turn
@@ -55,10 +58,12 @@ run-begun {w} {o} t l = record {
 }
 
 -- a side with no corner of the outline outside leaves the ring as it is
-pub passed-over : {w : Window} {o : ℕ} {zs m : List ℤ} {p : Places} {k : ℕ} (s : Side) → All (In (sideLine w s)) (cornersOf zs) → Running w o zs m p k → Passed w zs s m p m p
+pub passed-over : {w : Window} {o : ℕ} {zs m : List ℤ} {p : Places} {k : ℕ} (s : Side) → All (In (sideLine w s)) (cornersOf zs) → Running w o zs m p k
+    → Passed w zs s m p m p
 passed-over {w} s a r = record { order = r .order; end = omega arith; cut = cut-nothing (r .inside (sideLine w s) a); traced = r .held .traced }
 
-module _ {w : Window} {o : ℕ} {zs m m′ : List ℤ} {p p′ : Places} {k : ℕ} {s : Side} (ho : o ≤ 23) (hk : k < 4) (is : s ≡ sideIn o k) (c : Passed w zs s m p m′ p′) (r : Running w o zs m p k) where
+module _ {w : Window} {o : ℕ} {zs m m′ : List ℤ} {p p′ : Places} {k : ℕ} {s : Side} (ho : o ≤ 23) (hk : k < 4) (is : s ≡ sideIn o k)
+    (c : Passed w zs s m p m′ p′) (r : Running w o zs m p k) where
   -- the lines from the k-th on
   lines : drop k (linesIn o w) ≡ sideLine w s ∷ drop (suc k) (linesIn o w)
   lines = lines-from o w ho k hk ∙ ap (λ (j : Side). sideLine w j ∷ drop (suc k) (linesIn o w)) (sym is)
@@ -84,7 +89,8 @@ module _ {w : Window} {o : ℕ} {zs m m′ : List ℤ} {p p′ : Places} {k : �
       }
 
 -- the first k sides in an order, of which none cuts
-pub run-skipped : {w : Window} {o : ℕ} {zs : List ℤ} → OutlineOnTable zs → o ≤ 23 → (k : ℕ) → k ≤ 4 → ((j : ℕ) → j < k → All (In (sideLine w (sideIn o j))) (cornersOf zs))
+pub run-skipped : {w : Window} {o : ℕ} {zs : List ℤ} → OutlineOnTable zs → o ≤ 23 → (k : ℕ) → k ≤ 4
+    → ((j : ℕ) → j < k → All (In (sideLine w (sideIn o j))) (cornersOf zs))
     → Running w o zs (loadedOf zs) (places 0 (length zs / 2)) k
 run-skipped {zs = zs} t h zero l f = run-begun t (loaded-of zs)
 run-skipped {w} {o} {zs} t h (suc k) l f =

@@ -41,7 +41,8 @@ over h p k n = ⊎-elim (λ l. absurd (n (≤-antisym l k))) (λ l. l) (≤-tota
 
 -- by a limit whose line h is the side's
 pub gone : {w : Window} {zs : List ℤ} {s : Side} {h : Line} {here : Bool} {m : List ℤ} {i : ℕ} {m′ : List ℤ} {r : ℕ}
-    → h ≡ sideLine w s → 4 * i + 8 ≤ length m → Decides here (On h (pointIn m i)) → In h (pointIn m i) → Went (Meeting w zs h (tagIn m i)) s here m i m′ r → Gone w zs s m i m′ r
+    → h ≡ sideLine w s → 4 * i + 8 ≤ length m → Decides here (On h (pointIn m i)) → In h (pointIn m i) → Went (Meeting w zs h (tagIn m i)) s here m i m′ r
+    → Gone w zs s m i m′ r
 unfolding cornersFrom
 gone {s = s} {m = m} {i} q h e k (ends.on-line l) =
     let p = put-at m i (pointIn m i) (sideTag s) (omega arith) in

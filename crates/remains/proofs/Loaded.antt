@@ -35,11 +35,14 @@ unfolding value through
 joins-end a b = ring (corners (a ∷ b ∷ [])) (det-of 0 1 1) nought tt
 
 -- ---- what is so of each corner in memory and the next is so of the walk past them
-walk-from : {R : Tagged → Tagged → Type 0} (m : List ℤ) (i n : ℕ) (z : Tagged) → ((j : ℕ) → i ≤ j → j < i + n → R (cornerIn m j) (cornerIn m (suc j))) → R (cornerIn m (i + n)) z
+walk-from : {R : Tagged → Tagged → Type 0} (m : List ℤ) (i n : ℕ) (z : Tagged) → ((j : ℕ) → i ≤ j → j < i + n → R (cornerIn m j) (cornerIn m (suc j)))
+    → R (cornerIn m (i + n)) z
     → Walk R (cornerIn m i) (cornersFrom m (suc i) n) z
 unfolding cornersFrom
 walk-from {R} m i zero z f e = last (subst (λ (k : ℕ). R (cornerIn m k) z) (add-zero i) e)
-walk-from {R} m i (suc n) z f e = step (f i (omega arith) (omega arith)) (walk-from m (suc i) n z (λ j l h. f j (omega arith) (omega arith)) (subst (λ (k : ℕ). R (cornerIn m k) z) (omega arith) e))
+walk-from {R} m i (suc n) z f e =
+    step (f i (omega arith) (omega arith))
+    (walk-from m (suc i) n z (λ j l h. f j (omega arith) (omega arith)) (subst (λ (k : ℕ). R (cornerIn m k) z) (omega arith) e))
 
 edges-from : {R : Tagged → Tagged → Type 0} (m : List ℤ) (n : ℕ) → 0 < n → ((i k : ℕ) → Edge n i k → R (cornerIn m i) (cornerIn m k)) → Edges R (cornersFrom m 0 n)
 unfolding cornersFrom
@@ -58,7 +61,12 @@ module _ {zs m : List ℤ} (o : OutlineOnTable zs) (l : Loaded zs m (length zs /
       ring-at m 0 (length zs / 2) k j ∙ ap (pointIn m) (zero-add k) ∙ corner-in k j)
 
   loaded-small : (k : ℕ) → k < length zs / 2 → Small (pointIn m k)
-  loaded-small k h = subst Small (sym (l .corner k h)) (record { positive = omega zarith; den = omega zarith; x = within-up (omega arith) (o .corners .on (2 * k) (omega arith)); y = within-up (omega arith) (o .corners .on (2 * k + 1) (omega arith)) })
+  loaded-small k h = subst Small (sym (l .corner k h)) (record {
+    positive = omega zarith;
+    den = omega zarith;
+    x = within-up (omega arith) (o .corners .on (2 * k) (omega arith));
+    y = within-up (omega arith) (o .corners .on (2 * k + 1) (omega arith));
+  })
 
   loaded-lies : {w : Window} (i k : ℕ) → Edge (length zs / 2) i k → Lies w zs (tagIn m i) (pointIn m i) (pointIn m k)
   loaded-lies {w} i k e =
@@ -78,6 +86,7 @@ module _ {zs m : List ℤ} (o : OutlineOnTable zs) (l : Loaded zs m (length zs /
         ring = subst Ring (sym ring-loaded) (outline-ring o);
         traced = record {
           small = subst (λ (k : ℕ). All (λ c. Small (c .point)) (cornersFrom m 0 k)) e (tagged-all m 0 n (λ k a h. loaded-small k (omega arith)));
-          lies = subst (λ (k : ℕ). Edges (λ a b. Lies w zs (a .tag) (a .point) (b .point)) (cornersFrom m 0 k)) e (edges-from m n (omega (arith, o .corners .three)) loaded-lies);
+          lies = subst (λ (k : ℕ). Edges (λ a b. Lies w zs (a .tag) (a .point) (b .point)) (cornersFrom m 0 k)) e
+              (edges-from m n (omega (arith, o .corners .three)) loaded-lies);
         };
       }

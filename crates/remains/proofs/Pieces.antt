@@ -1,4 +1,5 @@
--- What a side leaves of a ring in runs, from the last corner back to the first: a run inside stays, a run outside goes, the crossings lie on the lines that the tags name, and the edge from the crossing out to the crossing in lies on the side.
+-- What a side leaves of a ring in runs, from the last corner back to the first: a run inside stays, a run outside goes, the crossings lie on the lines that the
+-- tags name, and the edge from the crossing out to the crossing in lies on the side.
 use mathlib.Core.Path.{_≡_, refl, sym, ap, _∙_, subst}
 use mathlib.Core.List.{List, [], _∷_, _++_, append-nil}
 use Prim.Native.Nat.{ℕ, _+_, _-_, _≤_}
@@ -66,7 +67,8 @@ record Found (h : Line) (e : Stroke) (u v p : Point) : Type 0 where
   crossing : Crossing h u v p
   on-stroke : On (lineOf e) p
 
-found : {w : Window} {zs : List ℤ} (s : Side) {a : ℤ} {u v p : Point} → OutlineOnTable zs → (l : Lies w zs a u v) → Meeting w zs (sideLine w s) a p → Proper u → Proper v → Across (sideLine w s) u v → Found (sideLine w s) (l .stroke) u v p
+found : {w : Window} {zs : List ℤ} (s : Side) {a : ℤ} {u v p : Point} → OutlineOnTable zs → (l : Lies w zs a u v) → Meeting w zs (sideLine w s) a p → Proper u
+    → Proper v → Across (sideLine w s) u v → Found (sideLine w s) (l .stroke) u v p
 found {w} s {u = u} {v} {p} g l m pu pv x =
     let e = l .stroke in
     let real = named-real (g) (l .named) in
@@ -97,7 +99,8 @@ data Leaves (h : Line) (z : Tagged) : List Tagged → List Tagged → Type 0 whe
   some : {u : Tagged} {cs ls : List Tagged} → Pass h (u .point) (pointsOf cs) (z .point) (pointsOf ls) → Leaves h z (u ∷ cs) ls
 
 module _ {h : Line} {z : Tagged} where
-  pass-more : {u : Point} {cs ls : List Tagged} {a b : List Point} → Kept h u a → Added h u (next-of cs z .point) b → Leaves h z cs ls → Pass h u (pointsOf cs) (z .point) (a ++ (b ++ pointsOf ls))
+  pass-more : {u : Point} {cs ls : List Tagged} {a b : List Point} → Kept h u a → Added h u (next-of cs z .point) b → Leaves h z cs ls
+      → Pass h u (pointsOf cs) (z .point) (a ++ (b ++ pointsOf ls))
   unfolding pointsOf
   pass-more {u} {a = a} {b} k d none = subst (λ (l : List Point). Pass h u [] (z .point) (a ++ l)) (sym (append-nil b)) (ends k d)
   pass-more k d (some p) = goes-on k d p
@@ -164,7 +167,8 @@ record Piece (w : Window) (zs : List ℤ) (s : Side) (z e : Tagged) (cs ls : Lis
   trail : Trail w zs e ls
 
 module _ {w : Window} {zs : List ℤ} {s : Side} where
-  piece-round : {u e : Tagged} {cs ls : List Tagged} → Piece w zs s u e (u ∷ cs) ls → e .point ≡ next-of ls e .point → CutBy (sideLine w s) (pointsOf (u ∷ cs)) (pointsOf ls) × Traced w zs ls
+  piece-round : {u e : Tagged} {cs ls : List Tagged} → Piece w zs s u e (u ∷ cs) ls → e .point ≡ next-of ls e .point
+      → CutBy (sideLine w s) (pointsOf (u ∷ cs)) (pointsOf ls) × Traced w zs ls
   piece-round b f = (cut-left (b .left), record { small = trail-small (b .trail); lies = trail-ring (b .trail) f })
 
   -- what is left of corners inside starts where they do
@@ -174,7 +178,8 @@ module _ {w : Window} {zs : List ℤ} {s : Side} where
   goes-first ls e (more q) = refl
 
   -- and of corners outside and the next inside, on the side's line
-  comes-first : {o : Tagged} {p : Point} {c : List Tagged} (ls : List Tagged) (e : Tagged) → Comes w zs s o p c → p ≡ next-of ls e .point → On (sideLine w s) (next-of (c ++ ls) e .point)
+  comes-first : {o : Tagged} {p : Point} {c : List Tagged} (ls : List Tagged) (e : Tagged) → Comes w zs s o p c → p ≡ next-of ls e .point
+      → On (sideLine w s) (next-of (c ++ ls) e .point)
   comes-first ls e (on-line i) f = subst (On (sideLine w s)) f i
   comes-first ls e (crosses i m) f = m .meets .on-side
 
@@ -183,7 +188,8 @@ module _ (w : Window) {zs : List ℤ} (s : Side) (g : OutlineOnTable zs) where
   along-side {p} {q} i j = record { stroke = sideStroke w s; named = side s; from = side-on w s p i; to = side-on w s q j }
 
   -- a run inside, with the next corner outside
-  goes-out : {z e u : Tagged} {r t cs ls : List Tagged} → Small (z .point) → Trail w zs z (u ∷ (r ++ cs)) → All (InC (sideLine w s)) (u ∷ r) → OutC (sideLine w s) (next-of cs z) → Goes w zs s u r t
+  goes-out : {z e u : Tagged} {r t cs ls : List Tagged} → Small (z .point) → Trail w zs z (u ∷ (r ++ cs)) → All (InC (sideLine w s)) (u ∷ r)
+      → OutC (sideLine w s) (next-of cs z) → Goes w zs s u r t
       → On (sideLine w s) (next-of ls e .point) → Piece w zs s z e cs ls → Piece w zs s z e (u ∷ (r ++ cs)) (t ++ ls)
   unfolding pointsOf
   goes-out sz (leads p l k) (i ◂ a) o (on-line j) f b = record {
@@ -194,14 +200,16 @@ module _ (w : Window) {zs : List ℤ} (s : Side) (g : OutlineOnTable zs) where
       let x = found s g l m (p .positive) (next-proper k sz) (leaves j o) in
       record {
         left = some (pass-more (stays i) (crossed (leaves j o) (x .crossing)) (b .left));
-        trail = leads p (record { stroke = l .stroke; named = l .named; from = l .from; to = x .on-stroke }) (leads (x .small) (along-side (x .crossing .on) f) (b .trail));
+        trail = leads p (record { stroke = l .stroke; named = l .named; from = l .from; to = x .on-stroke })
+            (leads (x .small) (along-side (x .crossing .on) f) (b .trail));
       }
   goes-out {e = e} {u} {ls = ls} sz (leads p l k) (i ◂ (j ◂ a)) o (more q) f b =
       let y = goes-out sz k (j ◂ a) o q f b in
       record { left = some (pass-more (stays i) (uncut i j) (y .left)); trail = leads p (subst (Lies w zs (u .tag) (u .point)) (goes-first ls e q) l) (y .trail) }
 
   -- a run outside, with the next corner inside
-  comes-in : {z e n : Tagged} {ns cs c ls : List Tagged} → Small (z .point) → Trail w zs z (n ∷ (ns ++ cs)) → All (OutC (sideLine w s)) (n ∷ ns) → Comes w zs s (final n ns) (next-of cs z .point) c
+  comes-in : {z e n : Tagged} {ns cs c ls : List Tagged} → Small (z .point) → Trail w zs z (n ∷ (ns ++ cs)) → All (OutC (sideLine w s)) (n ∷ ns)
+      → Comes w zs s (final n ns) (next-of cs z .point) c
       → next-of cs z .point ≡ next-of ls e .point → Piece w zs s z e cs ls → Piece w zs s z e (n ∷ (ns ++ cs)) (c ++ ls)
   unfolding pointsOf
   comes-in sz (leads p l k) (o ◂ ∅) (on-line j) f b = record { left = one-goes o (≡→≤ j) (b .left); trail = b .trail }
@@ -237,7 +245,9 @@ module _ (w : Window) {zs : List ℤ} (s : Side) (g : OutlineOnTable zs) where
       let first = ring-trail (k .small) (k .lies) in
       let second = trail-after (n ∷ ns) first in
       let e = next-of (c ++ (t ++ [])) u in
-      let rest = goes-out {e = e} sz second i (next-all n b (all-head a)) q (comes-first (t ++ []) u v (goes-first [] u q)) (record { left = all-go b (all-head a); trail = arrives }) in
+      let rest =
+      goes-out {e = e} sz second i (next-all n b (all-head a)) q (comes-first (t ++ []) u v (goes-first [] u q))
+      (record { left = all-go b (all-head a); trail = arrives }) in
       subst (λ (t : List Tagged). CutBy (sideLine w s) (pointsOf (n ∷ (ns ++ (u ∷ (r ++ o))))) (pointsOf (c ++ t)) × Traced w zs (c ++ t)) (append-nil t)
       (piece-round (comes-in sz first a v (goes-first [] e q) rest) (again (c ++ (t ++ []))))
     where

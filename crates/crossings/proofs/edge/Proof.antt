@@ -70,8 +70,10 @@ returns c =
     let zs = now (n .before .args .outline) in
     let k = n .before .args .k in
     let j = n .next-of .result in
-    read-stroke (getD zs (2 * k) (pos 0)) (getD zs (2 * k + 1) (pos 0)) (getD zs (2 * j) (pos 0)) (getD zs (2 * j + 1) (pos 0)) (c .before .before .before .t7 .given) (c .before .before .t12 .given) (c .before .t16 .given) (c .t21 .given)
-    ∙ (λ i. strokeFrom (getD zs (2 * k) (pos 0)) (getD zs (2 * k + 1) (pos 0)) (getD zs (2 * n .next-of .ensures i) (pos 0)) (getD zs (2 * n .next-of .ensures i + 1) (pos 0)))
+    read-stroke (getD zs (2 * k) (pos 0)) (getD zs (2 * k + 1) (pos 0)) (getD zs (2 * j) (pos 0)) (getD zs (2 * j + 1) (pos 0))
+    (c .before .before .before .t7 .given) (c .before .before .t12 .given) (c .before .t16 .given) (c .t21 .given)
+    ∙ (λ i. strokeFrom (getD zs (2 * k) (pos 0)) (getD zs (2 * k + 1) (pos 0)) (getD zs (2 * n .next-of .ensures i) (pos 0))
+    (getD zs (2 * n .next-of .ensures i + 1) (pos 0)))
 
 pub edge-spec : {M : Type 1} → statement M
 edge-spec =

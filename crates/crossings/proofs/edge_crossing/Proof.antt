@@ -26,7 +26,8 @@ edge-requires c κs = search needs
 on-table : (c : tie.After-edge) → StrokeOnTable (c .edge .result)
 on-table c = subst StrokeOnTable (sym (c .edge .ensures)) (edge-on-table (c .before .pre .0) (c .before .args .k) (c .before .pre .1 .1))
 
-of-edge : (c : tie.After-edge) {p : Point} → Meets (limitLine (c .before .args .l)) (c .edge .result) p → Meets (limitLine (c .before .args .l)) (edgeOf (now (c .before .args .outline)) (c .before .args .k)) p
+of-edge : (c : tie.After-edge) {p : Point} → Meets (limitLine (c .before .args .l)) (c .edge .result) p
+    → Meets (limitLine (c .before .args .l)) (edgeOf (now (c .before .args .outline)) (c .before .args .k)) p
 of-edge c {p} = subst (λ (e : Stroke). Meets (limitLine (c .before .args .l)) e p) (c .edge .ensures)
 
 -- the limit's number
@@ -54,7 +55,8 @@ returns c =
 
 -- ---- a level limit
 turned : (c : tie.After-struct-told9) → let e = c .before .before .before .before .before .before .before .edge .result in
-    strokeFrom (toZ w32 (ofZ w32 (e .y1))) (toZ w32 (ofZ w32 (e .x1))) (toZ w32 (ofZ w32 (e .y2))) (toZ w32 (ofZ w32 (e .x2))) ≡ strokeFrom (e .y1) (e .x1) (e .y2) (e .x2)
+    strokeFrom (toZ w32 (ofZ w32 (e .y1))) (toZ w32 (ofZ w32 (e .x1))) (toZ w32 (ofZ w32 (e .y2))) (toZ w32 (ofZ w32 (e .x2)))
+    ≡ strokeFrom (e .y1) (e .x1) (e .y2) (e .x2)
 turned c = let g = c .struct-told9 .given in read-stroke _ _ _ _ (g .1 .0 .1) (g .0 .1) (g .1 .1 .1 .0 .1) (g .1 .1 .0 .1)
 
 meet-requires-2 : tie.Need-meet-requires-2
@@ -69,7 +71,8 @@ returns-2 c =
     let s = n .before .before in
     let p = c .before .meet2 .result in
     let g = c .struct-told10 .given in
-    transport (λ i. Meets (limitLine (s .args .l)) (edgeOf (now (s .args .outline)) (s .args .k)) (record { X = sym (back w32 (p .y) (g .1 .0 .1)) i; Y = sym (back w32 (p .x) (g .0 .1)) i; W = sym (back w32 (p .den) (g .1 .1 .0 .1)) i }))
+    transport (λ i. Meets (limitLine (s .args .l)) (edgeOf (now (s .args .outline)) (s .args .k))
+    (record { X = sym (back w32 (p .y) (g .1 .0 .1)) i; Y = sym (back w32 (p .x) (g .0 .1)) i; W = sym (back w32 (p .den) (g .1 .1 .0 .1)) i }))
     (of-edge (n .before) (level-meets (s .args .l) (n .before .edge .result) (c .before .before .before .before .before .before .if1 .left)
     (transport (λ i. Meets (left-side (is-number n i)) (turned (c .before .before) i) (pointOf p)) (c .before .meet2 .ensures))))
 

@@ -1,4 +1,4 @@
--- `crossings::meet` meets its contract: the numbers fit, so the machine has the point of the law; where the run is negative it and the height change sign. Assumes nothing.
+-- `crossings::meet` meets its contract: the numbers fit, so the machine has the law's point; where the run is negative it and the height change sign. Assumes nothing.
 use mathlib.Core.Path.{refl, sym, transport}
 use mathlib.Core.List.{[], _∷_}
 use lib.Dec.{T}
@@ -81,7 +81,8 @@ read c k l d p q r m =
 returns : tie.Need-returns
 returns c =
     let s = c .before in
-    read s (across (minus run)) (minus height) (minus run) tt tt tt (meets-back _ _ _ _ _ (s .pre .0) (s .pre .1) (lt-yes (value sizes (env s) (small s) run tt) refl (c .if1 .taken)))
+    read s (across (minus run)) (minus height) (minus run) tt tt tt
+    (meets-back _ _ _ _ _ (s .pre .0) (s .pre .1) (lt-yes (value sizes (env s) (small s) run tt) refl (c .if1 .taken)))
 
 mul-t9 : tie.Need-mul-t9
 mul-t9 c = need sizes (env (c .before)) (small (c .before)) (across run) tt

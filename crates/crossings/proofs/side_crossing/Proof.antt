@@ -28,7 +28,9 @@ element-copy-out-n c = search needs
 is-c : (c : tie.After-struct-told) → let l = c .before .args .l in l .c ≡ toZ w32 (ofZ w32 (l .c))
 is-c c = sym (back w32 _ (c .struct-told .given .1 .1 .0 .1))
 
-is-number : (c : tie.After-n) → let s = c .before .before in numberOf (windowOf (now (s .args .numbers))) (sideAt (s .args .s)) ≡ toZ w32 (ofZ w32 (getD (now (s .args .numbers)) (s .args .s) (pos 0)))
+is-number : (c : tie.After-n)
+    → let s = c .before .before in numberOf (windowOf (now (s .args .numbers))) (sideAt (s .args .s))
+    ≡ toZ w32 (ofZ w32 (getD (now (s .args .numbers)) (s .args .s) (pos 0)))
 is-number c = let s = c .before .before in sym (back w32 _ (c .n .given) ∙ number-at (now (s .args .numbers)) (s .args .s) (s .pre .1 .1))
 
 returns : tie.Need-returns
@@ -36,14 +38,16 @@ returns c =
     let n = c .before .before in
     let s = n .before .before in
     let w = windowOf (now (s .args .numbers)) in
-    transport (λ i. Meets (limitLine (s .args .l)) (sideStroke w (sideAt (s .args .s))) (gridPoint (is-c (n .before) i) (is-number n i))) (side-meets-upright w (s .args .l) (s .pre .0) (s .pre .1 .0) (sideAt (s .args .s)) (c .if1 .taken))
+    transport (λ i. Meets (limitLine (s .args .l)) (sideStroke w (sideAt (s .args .s))) (gridPoint (is-c (n .before) i) (is-number n i)))
+    (side-meets-upright w (s .args .l) (s .pre .0) (s .pre .1 .0) (sideAt (s .args .s)) (c .if1 .taken))
 
 returns-2 : tie.Need-returns-2
 returns-2 c =
     let n = c .before .before in
     let s = n .before .before in
     let w = windowOf (now (s .args .numbers)) in
-    transport (λ i. Meets (limitLine (s .args .l)) (sideStroke w (sideAt (s .args .s))) (gridPoint (is-number n i) (is-c (n .before) i))) (side-meets-level w (s .args .l) (s .pre .0) (s .pre .1 .0) (sideAt (s .args .s)) (c .if1 .left))
+    transport (λ i. Meets (limitLine (s .args .l)) (sideStroke w (sideAt (s .args .s))) (gridPoint (is-number n i) (is-c (n .before) i)))
+    (side-meets-level w (s .args .l) (s .pre .0) (s .pre .1 .0) (sideAt (s .args .s)) (c .if1 .left))
 
 pub side-crossing-spec : {M : Type 1} → statement M
 side-crossing-spec = tie.close (tie.spec mul-n element-copy-out-n returns returns-2)

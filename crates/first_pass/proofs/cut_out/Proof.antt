@@ -188,7 +188,8 @@ module _ (c : tie.After-leave) where
   went w q =
       let p = ap (λ (q : Tagged). q .point) (last-in loaded) in
       let tag = ap (λ (q : Tagged). q .tag) (last-in loaded) ∙ loaded-of (zs s₂) .tag (s₂ .args .a - 1) (below loaded) in
-      gone-own (s₂ .args .a - 1) q (below loaded) tag (leave-fits loaded) (subst (λ (q : Point). Decides (here loaded .lies-on .result) (On (h s₂) q)) (sym p) (on-here loaded))
+      gone-own (s₂ .args .a - 1) q (below loaded) tag (leave-fits loaded) (subst (λ (q : Point). Decides (here loaded .lies-on .result) (On (h s₂) q)) (sym p)
+      (on-here loaded))
       (subst (In (h s₂)) (sym p) (first-in s₂ (s₂ .args .a - 1) (omega arith) (omega (arith, some s₂)))) (c .leave .ensures)
 
   first-low : c .leave .result ≤ s₂ .args .a + 1
@@ -252,7 +253,8 @@ returns c w q =
     let d = loaded l in
     let f = found d in
     let s = s₃ e in
-    first-cut w (k s) (s .pre .0) (g s) q (some s) (after-a f) (to-end f) (held s w) (first-in s) (all-out f) (back-in f) (now (s .args .m)) (m₁ d) (m₂ l) (m₃ e) (c .before .load2 .last .1 .1 .1 .0) (l .leave .result) (e .enter .result)
+    first-cut w (k s) (s .pre .0) (g s) q (some s) (after-a f) (to-end f) (held s w) (first-in s) (all-out f) (back-in f) (now (s .args .m)) (m₁ d) (m₂ l)
+    (m₃ e) (c .before .load2 .last .1 .1 .1 .0) (l .leave .result) (e .enter .result)
     (d .load .ensures) (went l w q) (came e w q) (c .before .load2 .ensures)
 
 pub cut-out-spec : {M : Type 1} → statement M

@@ -41,7 +41,8 @@ returns-2 c =
     let p = pointOf (e .edge-crossing .result) in
     let wrote : c .before .put .last .0 ≡ putAt m (s .args .at) p (pos (s .args .k)) =
     c .before .put .ensures ∙ ap (putAt m (s .args .at) p) (toZ-pos w32 {n = s .args .k} (omega (arith, s .pre .1 .1 .0, s .pre .0 .corners .few))) in
-    subst (λ (m′ : List ℤ). EnteredOwn (now (s .args .outline)) (limitLine (s .args .l)) (s .args .there) (s .args .k) m (s .args .at) m′ (s .args .at + 1)) (sym wrote) (crosses (e .before .before .if1 .left) (e .edge-crossing .ensures))
+    subst (λ (m′ : List ℤ). EnteredOwn (now (s .args .outline)) (limitLine (s .args .l)) (s .args .there) (s .args .k) m (s .args .at) m′ (s .args .at + 1))
+    (sym wrote) (crosses (e .before .before .if1 .left) (e .edge-crossing .ensures))
 
 pub enter-spec : {M : Type 1} → statement M
 enter-spec = tie.close (tie.spec returns edge-crossing-requires cast-put put-requires add-result same-length returns-2)

@@ -248,10 +248,13 @@ returns-2 c w q =
     let m₃ = c .before .leave .last .1 .1 .1 .0 in
     let p = ap (λ (q : Tagged). q .point) (last-in l) in
     let tag = ap (λ (q : Tagged). q .tag) (last-in l) ∙ loaded-of (zs s) .tag (e₃ l - 1) (below l) in
-    let on : Decides (here d .lies-on2 .result) (On (h s) (pointIn (m₂ l) (last l))) = subst (λ (q : Point). Decides (here d .lies-on2 .result) (On (h s) q)) (sym p) (here d .lies-on2 .ensures) in
+    let on : Decides (here d .lies-on2 .result) (On (h s) (pointIn (m₂ l) (last l))) =
+    subst (λ (q : Point). Decides (here d .lies-on2 .result) (On (h s) q)) (sym p) (here d .lies-on2 .ensures) in
     let inside : In (h s) (pointIn (m₂ l) (last l)) = subst (In (h s)) (sym p) (all-in j (e j - 1) (omega (arith, after-f j)) (omega (arith, after-f j))) in
-    let went : Gone w (zs s) (k s) (m₂ l) (last l) m₃ (c .before .leave .result) = gone-own (e₃ l - 1) q (below l) tag (leave-fits l) on inside (c .before .leave .ensures) in
-    first-keep w (k s) (s .pre .0) (g s) q (after-first (first (some-in j))) (after-f j) (to-end j) (held s w) (all-out (first (some-in j))) (all-in j) (out-again j) (now (s .args .m)) (m₁ d) (m₂ l) m₃ (begin d) (c .before .leave .result)
+    let went : Gone w (zs s) (k s) (m₂ l) (last l) m₃ (c .before .leave .result) =
+    gone-own (e₃ l - 1) q (below l) tag (leave-fits l) on inside (c .before .leave .ensures) in
+    first-keep w (k s) (s .pre .0) (g s) q (after-first (first (some-in j))) (after-f j) (to-end j) (held s w) (all-out (first (some-in j))) (all-in j)
+    (out-again j) (now (s .args .m)) (m₁ d) (m₂ l) m₃ (begin d) (c .before .leave .result)
     (came d w q) (l .load .ensures) went
 
 pub keep-run-spec : {M : Type 1} → statement M

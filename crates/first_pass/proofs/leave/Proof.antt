@@ -63,4 +63,6 @@ returns-2 c =
     subst (λ (m : List ℤ). Done s m (s .args .i + 2)) (sym wrote) (crosses (x .before .before .if1 .left) (x .edge-crossing .ensures))
 
 pub leave-spec : {M : Type 1} → statement M
-leave-spec = tie.close (tie.spec turn-along-requires same-length returns add-put edge-crossing-requires side-tag-requires put-requires add-result same-length-2 returns-2)
+leave-spec =
+    tie.close (tie.spec turn-along-requires same-length returns add-put edge-crossing-requires side-tag-requires put-requires add-result same-length-2
+    returns-2)

@@ -25,7 +25,8 @@ abbrev μ-loop : tie.MeasureT-loop
 μ-loop outline from to m₀ at k₀ i₀ m k i = to - k
 
 -- one corner more
-brought-more : {g m₀ m m′ : List ℤ} {from at k i : ℕ} {c : Tagged} → from ≤ k → i + from ≡ at + k → c ≡ cornerIn g k → Put m m′ i c → Brought g m₀ m from k at → Brought g m₀ m′ from (k + 1) at
+brought-more : {g m₀ m m′ : List ℤ} {from at k i : ℕ} {c : Tagged} → from ≤ k → i + from ≡ at + k → c ≡ cornerIn g k → Put m m′ i c → Brought g m₀ m from k at
+    → Brought g m₀ m′ from (k + 1) at
 brought-more {g} {m₀} {m} {m′} {from} {at} {k} {i} {c} l e q p b = record {
   brought = λ j h. ⊎-elim
       (λ (d : from + j ≡ k). let a : at + j ≡ i = omega arith in ap (cornerIn m′) a ∙ p .put ∙ q ∙ ap (cornerIn g) (sym d))
@@ -93,7 +94,8 @@ loop-again c =
     let wrote : c .before .put .last .0 ≡ putAt (l .m) (l .i) corner (pos (l .k)) =
     c .before .put .ensures ∙ (λ i. putAt (l .m) (l .i) (gridPoint (x i) (y i)) (toZ-pos w32 {n = l .k} (omega (arith, s .pre .0)) i)) in
     let p = subst (λ (m : List ℤ). Put (l .m) m (l .i) (tagged corner (pos (l .k)))) (sym wrote) (put-at (l .m) (l .i) _ _ (fits n)) in
-    let own : tagged corner (pos (l .k)) ≡ cornerIn (loadedOf zs) (l .k) = λ i. tagged (sym (loaded-of zs .corner (l .k) below) i) (sym (loaded-of zs .tag (l .k) below) i) in
+    let own : tagged corner (pos (l .k)) ≡ cornerIn (loadedOf zs) (l .k) =
+    λ i. tagged (sym (loaded-of zs .corner (l .k) below) i) (sym (loaded-of zs .tag (l .k) below) i) in
     (omega (arith, v .0), omega (arith, n .loop-test .taken), omega (arith, v .2), c .before .put .kept .0 ∙ v .3, brought-more (v .0) (v .2) own p (v .4))
 
 same-length : tie.Need-same-length Inv-loop μ-loop

@@ -33,7 +33,8 @@ returns c w q =
     let s = r .before in
     let zs = now (s .args .outline) in
     first-all w (sideAt (s .args .side)) (s .pre .0) (loadedOf zs) q (loaded-held (s .pre .0) (loaded-of zs) w)
-    (λ i a b. r .end-of-run .ensures .run i a (omega (arith, c .before .before .before .if1 .taken))) (now (s .args .m)) (c .before .load .last .1 .1 .1 .0) (c .before .load .ensures)
+    (λ i a b. r .end-of-run .ensures .run i a (omega (arith, c .before .before .before .if1 .taken))) (now (s .args .m)) (c .before .load .last .1 .1 .1 .0)
+    (c .before .load .ensures)
 
 -- some corner lies outside
 before-end : (c : tie.Else1) → c .before .end-of-run .result < length (now (c .before .before .args .outline)) / 2
@@ -42,8 +43,17 @@ before-end c = ⊎-elim (λ q. absurd (c .if1 .left q)) (λ l. l) (eq-or-lt-of-l
 keep-run-requires : tie.Need-keep-run-requires
 keep-run-requires c κs =
     let e = c .before .before in
-    let s = e .before .before in
-    (s .pre .0, (s .pre .1 .0, (s .pre .1 .1, subst (λ (i : ℕ). Out (limitLine (s .args .l)) (pointIn (loadedOf (now (s .args .outline))) i)) (c .before .if2 .taken) (e .before .end-of-run .ensures .ends (before-end e)))))
+    let s = e .before .before in (
+      s .pre .0,
+      (
+        s .pre .1 .0,
+        (
+          s .pre .1 .1,
+          subst (λ (i : ℕ). Out (limitLine (s .args .l)) (pointIn (loadedOf (now (s .args .outline))) i))
+              (c .before .if2 .taken) (e .before .end-of-run .ensures .ends (before-end e)),
+        ),
+      ),
+    )
 
 same-length-2 : tie.Need-same-length-2
 same-length-2 c = search needs
@@ -66,4 +76,6 @@ returns-3 : tie.Need-returns-3
 returns-3 c = search needs
 
 pub pass-spec : {M : Type 1} → statement M
-pass-spec = tie.close (tie.spec end-of-run-requires load-requires same-length returns keep-run-requires same-length-2 returns-2 cut-out-requires same-length-3 returns-3)
+pass-spec =
+    tie.close (tie.spec end-of-run-requires load-requires same-length returns keep-run-requires same-length-2 returns-2 cut-out-requires same-length-3
+    returns-3)

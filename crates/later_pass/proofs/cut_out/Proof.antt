@@ -84,7 +84,8 @@ module _ (c : tie.After-end-of-run) where
   next-of-ring =
       by-test (eqb b (start .args .to)) (λ (k : ℕ). (start .args .from ≤ k) × (k < start .args .to) × In (h start) (pointIn (m start) k))
       (λ e. (omega arith, omega (arith, after-from start, before-to start), first-in start (start .args .from) (omega arith) (after-from start)))
-      (λ e. let l : b < start .args .to = ⊎-elim (λ q. absurd (eqb-false b (start .args .to) e q)) (λ l. l) (eq-or-lt-of-le to-end) in (omega (arith, after-from start, after-a), l, back-in l))
+      (λ e. let l : b < start .args .to = ⊎-elim (λ q. absurd (eqb-false b (start .args .to) e q)) (λ l. l)
+      (eq-or-lt-of-le to-end) in (omega (arith, after-from start, after-a), l, back-in l))
 
 add-end-of-run : tie.Need-add-end-of-run
 add-end-of-run c = search needs
@@ -190,7 +191,8 @@ module _ (c : tie.After-enter) where
   size₂ : length m₂ ≡ length (m (s₁ room))
   size₂ = c .enter .kept .1 .1 .1 .0 ∙ size₁ room
 
-  came : Come (windowOf (now (s₁ room .args .numbers))) (now (s₁ room .args .outline)) (sideAt (s₁ room .args .side)) (m₁ room) (o room) (pointIn (m (s₁ room)) (next (found room))) m₂ (c .enter .result)
+  came : Come (windowOf (now (s₁ room .args .numbers))) (now (s₁ room .args .outline)) (sideAt (s₁ room .args .side)) (m₁ room) (o room)
+      (pointIn (m (s₁ room)) (next (found room))) m₂ (c .enter .result)
   came = come (s₁ room .pre .1 .0 .0) (o-fits room) (on-there room) (next-of-ring (found room) .2) (c .enter .ensures)
 
   -- the last corner inside is as it was
@@ -212,7 +214,8 @@ leave-requires c κs =
         s .pre .1 .0 .1,
         (
           omega (arith, size₂ e, fits s, before-to s),
-          subst (λ (c : Tagged). Named (windowOf (now (s .args .numbers))) (now (s .args .outline)) (c .tag)) (sym (last-in e)) (named-in (held s) (s .args .a - 1) (omega (arith, after-from s)) (omega (arith, before-to s))),
+          subst (λ (c : Tagged). Named (windowOf (now (s .args .numbers))) (now (s .args .outline)) (c .tag)) (sym (last-in e))
+              (named-in (held s) (s .args .a - 1) (omega (arith, after-from s)) (omega (arith, before-to s))),
         ),
       ),
     )
@@ -233,7 +236,8 @@ module _ (c : tie.After-leave) where
   went : Gone (windowOf (now (s₂ .args .numbers))) (now (s₂ .args .outline)) (sideAt (s₂ .args .side)) (m₂ entered) (s₂ .args .a - 1) m₃ (c .leave .result)
   went =
       let p = ap (λ (c : Tagged). c .point) (last-in entered) in
-      gone (s₂ .pre .1 .0 .0) (omega (arith, size₂ entered, fits s₂, before-to s₂)) (subst (λ (q : Point). Decides (here (room entered) .lies-on .result) (On (h s₂) q)) (sym p) (on-here (room entered)))
+      gone (s₂ .pre .1 .0 .0) (omega (arith, size₂ entered, fits s₂, before-to s₂))
+      (subst (λ (q : Point). Decides (here (room entered) .lies-on .result) (On (h s₂) q)) (sym p) (on-here (room entered)))
       (subst (In (h s₂)) (sym p) (first-in s₂ (s₂ .args .a - 1) (omega (arith, after-from s₂)) (omega (arith, after-from s₂)))) (c .leave .ensures)
 
   -- what is left ends before what comes after the run outside begins, and that before the end
@@ -259,7 +263,15 @@ sub-t26 : tie.Need-sub-t26
 sub-t26 c = in-turn (c .before .before .before .before) .1
 
 add-t32 : tie.Need-add-t32
-add-t32 c = let l = c .before .before .before .before in let s = s₂ l in omega (arith, in-turn l .0, in-turn l .1, fits s, s .good, (room (entered l)) .make-room .ensures .0 .0)
+add-t32 c =
+    let l = c .before .before .before .before in let s = s₂ l in omega (
+      arith,
+      in-turn l .0,
+      in-turn l .1,
+      fits s,
+      s .good,
+      (room (entered l)) .make-room .ensures .0 .0,
+    )
 
 same-length : tie.Need-same-length
 same-length c = let l = c .before .before .before .before in c .before .move-down .kept .0 ∙ size₃ l
@@ -271,7 +283,8 @@ returns c =
     let r = room e in
     let f = found r in
     let s = s₂ l in
-    cut-out (windowOf (now (s .args .numbers))) (sideAt (s .args .side)) (s .pre .0 .outline) (s .pre .1 .0 .0) (m s) (after-from s) (after-a f) (to-end f) (held s) (first-in s) (all-out f) (back-in f) (m₁ r) (m₂ e) (m₃ l) (c .before .move-down .last .0) (k r) (e .enter .result) (l .leave .result)
+    cut-out (windowOf (now (s .args .numbers))) (sideAt (s .args .side)) (s .pre .0 .outline) (s .pre .1 .0 .0) (m s) (after-from s) (after-a f) (to-end f)
+    (held s) (first-in s) (all-out f) (back-in f) (m₁ r) (m₂ e) (m₃ l) (c .before .move-down .last .0) (k r) (e .enter .result) (l .leave .result)
     (r .make-room .ensures .0 .1) (up r) (came e) (went l) (c .before .move-down .ensures)
 
 pub cut-out-spec : {M : Type 1} → statement M

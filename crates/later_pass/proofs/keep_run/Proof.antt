@@ -136,8 +136,14 @@ sub-lies-on c = omega (arith, after-f (c .before .before .before))
 lies-on-requires-2 : tie.Need-lies-on-requires-2
 lies-on-requires-2 c κs =
     let r = c .before .before .before in
-    let s = s₁ r in
-    (s .pre .1 .0 .1, (omega (arith, fits s, after-f r, e-to r), small-in (held s) (e r - 1) (omega (arith, after-from (first (out r)), after-f r)) (omega (arith, after-f r, e-to r))))
+    let s = s₁ r in (
+      s .pre .1 .0 .1,
+      (
+        omega (arith, fits s, after-f r, e-to r),
+        small-in (held s) (e r - 1) (omega (arith, after-from (first (out r)), after-f r))
+            (omega (arith, after-f r, e-to r)),
+      ),
+    )
 
 module _ (c : tie.After-lies-on2) where
   abbrev runs : tie.After-end-of-run2
@@ -176,7 +182,8 @@ module _ (c : tie.After-enter) where
   size₁ : length m₁ ≡ length (m (s₁ r))
   size₁ = c .enter .kept .1 .1 .1 .0
 
-  came : Come (windowOf (now (s₁ r .args .numbers))) (now (s₁ r .args .outline)) (sideAt (s₁ r .args .side)) (m (s₁ r)) (f (first (out r)) - 1) (pointIn (m (s₁ r)) (f (first (out r)))) m₁ (c .enter .result)
+  came : Come (windowOf (now (s₁ r .args .numbers))) (now (s₁ r .args .outline)) (sideAt (s₁ r .args .side)) (m (s₁ r)) (f (first (out r)) - 1)
+      (pointIn (m (s₁ r)) (f (first (out r)))) m₁ (c .enter .result)
   came =
       let l = after-from (first (out r)) in
       let t = before-to (out r) in
@@ -195,8 +202,17 @@ leave-requires c κs =
     let s = s₁ (r i) in
     let l = after-from (first (out (r i))) in
     let t = after-f (r i) in
-    let k = e-to (r i) in
-    (s .pre .0, (s .pre .1 .0 .1, (omega (arith, size₁ i, fits s), subst (λ (c : Tagged). Named (windowOf (now (s .args .numbers))) (now (s .args .outline)) (c .tag)) (sym (last-in i)) (named-in (held s) (e (r i) - 1) (omega arith) (omega arith)))))
+    let k = e-to (r i) in (
+      s .pre .0,
+      (
+        s .pre .1 .0 .1,
+        (
+          omega (arith, size₁ i, fits s),
+          subst (λ (c : Tagged). Named (windowOf (now (s .args .numbers))) (now (s .args .outline)) (c .tag)) (sym (last-in i))
+              (named-in (held s) (e (r i) - 1) (omega arith) (omega arith)),
+        ),
+      ),
+    )
 
 same-length-2 : tie.Need-same-length-2
 same-length-2 c = c .before .leave .kept .1 .1 .1 .1 .0 ∙ size₁ (c .before .before .before .before)
@@ -209,9 +225,13 @@ returns-2 c =
     let p = ap (λ (c : Tagged). c .point) (last-in i) in
     let t = after-f (r i) in
     let k = e-to (r i) in
-    let went : Gone (windowOf (now (s .args .numbers))) (now (s .args .outline)) (sideAt (s .args .side)) (m₁ i) (e (r i) - 1) (c .before .leave .last .1 .1 .1 .1 .0) (c .before .leave .result) =
-    gone (s .pre .1 .0 .0) (omega (arith, size₁ i, fits s)) (subst (λ (q : Point). Decides (values i .lies-on2 .result) (On (h s) q)) (sym p) (on-here (values i))) (subst (In (h s)) (sym p) (all-in (r i) (e (r i) - 1) (omega arith) (omega arith))) (c .before .leave .ensures) in
-    keep-run (windowOf (now (s .args .numbers))) (sideAt (s .args .side)) (s .pre .0 .outline) (s .pre .1 .0 .0) (m s) (after-from x) (after-f (r i)) (e-to (r i)) (held s) (all-out x) (all-in (r i)) (back-out (r i)) (m₁ i) (c .before .leave .last .1 .1 .1 .1 .0) (i .enter .result) (c .before .leave .result) (came i) went
+    let went : Gone (windowOf (now (s .args .numbers))) (now (s .args .outline)) (sideAt (s .args .side)) (m₁ i) (e (r i) - 1)
+    (c .before .leave .last .1 .1 .1 .1 .0) (c .before .leave .result) =
+    gone (s .pre .1 .0 .0) (omega (arith, size₁ i, fits s)) (subst (λ (q : Point). Decides (values i .lies-on2 .result) (On (h s) q)) (sym p)
+    (on-here (values i))) (subst (In (h s)) (sym p) (all-in (r i) (e (r i) - 1) (omega arith) (omega arith))) (c .before .leave .ensures) in
+    keep-run (windowOf (now (s .args .numbers))) (sideAt (s .args .side)) (s .pre .0 .outline) (s .pre .1 .0 .0) (m s) (after-from x) (after-f (r i))
+    (e-to (r i)) (held s) (all-out x) (all-in (r i)) (back-out (r i)) (m₁ i) (c .before .leave .last .1 .1 .1 .1 .0) (i .enter .result)
+    (c .before .leave .result) (came i) went
 
 pub keep-run-spec : {M : Type 1} → statement M
 keep-run-spec =

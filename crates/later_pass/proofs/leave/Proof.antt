@@ -15,7 +15,8 @@ use Rattle.limits.specs.Limits.{limitLine}
 use Rattle.crossings.specs.Tags.{sideTag, Named}
 use Rattle.memory.specs.Memory.{pointOf}
 use Rattle.crossings.specs.Meetings.{Meeting}
-use Rattle.remains.specs.Ends.{Went, on-line, crosses}
+use Rattle.remains.specs.Ends.{on-line, crosses}
+use Rattle.later_pass.specs.Later.{Exited}
 use Rattle.later_pass.proofs.leave.Statement.{statement}
 use Rattle.later_pass.proofs.leave.Tie as tie
 
@@ -24,7 +25,8 @@ memory s = now (s .args .m)
 
 abbrev Done : tie.Start → List ℤ → ℕ → Type 0
 Done s m k =
-    Went (Meeting (windowOf (now (s .args .numbers))) (now (s .args .outline)) (limitLine (s .args .l)) (tagIn (memory s) (s .args .i))) (sideAt (s .args .side)) (s .args .here) (memory s) (s .args .i) m k
+    let zs = now (s .args .outline) in
+    Exited (windowOf (now (s .args .numbers))) zs (limitLine (s .args .l)) (sideAt (s .args .side)) (s .args .here) (memory s) (s .args .i) m k
 
 -- ---- the corner's tag, as it is read
 is-tag : (c : tie.After-tag) → let t = tagIn (memory (c .before .before)) (c .before .before .args .i) in toZ w32 (ofZ w32 t) ≡ t
@@ -58,7 +60,18 @@ add-put : tie.Need-add-put
 add-put c = search needs
 
 crossing-requires : tie.Need-crossing-requires
-crossing-requires c κs = let s = c .before .before .before in (s .pre .0 .window, (s .pre .0 .outline, (s .pre .1 .0, subst (Named (windowOf (now (s .args .numbers))) (now (s .args .outline))) (sym (is-tag (c .before))) (s .pre .1 .1 .1))))
+crossing-requires c κs =
+    let s = c .before .before .before in (
+      s .pre .0 .window,
+      (
+        s .pre .0 .outline,
+        (
+          s .pre .1 .0,
+          subst (Named (windowOf (now (s .args .numbers))) (now (s .args .outline))) (sym (is-tag (c .before)))
+              (s .pre .1 .1 .1),
+        ),
+      ),
+    )
 
 side-tag-requires : tie.Need-side-tag-requires
 side-tag-requires c κs = c .before .before .before .before .pre .0 .side
@@ -78,10 +91,13 @@ returns-2 c =
     let e = x .before .before in
     let s = e .before .before in
     let p = pointOf (x .crossing .result) in
-    let wrote : c .before .put .last .0 ≡ putAt (memory s) (s .args .i + 1) p (sideTag (sideAt (s .args .side))) = c .before .put .ensures ∙ ap (putAt (memory s) (s .args .i + 1) p) (back w32 _ (c .before .before .side-tag .ok) ∙ c .before .before .side-tag .ensures) in
+    let wrote : c .before .put .last .0 ≡ putAt (memory s) (s .args .i + 1) p (sideTag (sideAt (s .args .side))) =
+    c .before .put .ensures ∙ ap (putAt (memory s) (s .args .i + 1) p) (back w32 _ (c .before .before .side-tag .ok) ∙ c .before .before .side-tag .ensures) in
     subst (λ (m : List ℤ). Done s m (s .args .i + 2)) (sym wrote)
     (crosses (e .before .if1 .left)
     (subst (λ (t : ℤ). Meeting (windowOf (now (s .args .numbers))) (now (s .args .outline)) (limitLine (s .args .l)) t p) (is-tag e) (x .crossing .ensures)))
 
 pub leave-spec : {M : Type 1} → statement M
-leave-spec = tie.close (tie.spec turn-along-requires same-length returns mul-tag add-tag mul-tag-2 slice-copy-out-tag add-put crossing-requires side-tag-requires put-requires add-result same-length-2 returns-2)
+leave-spec =
+    tie.close (tie.spec turn-along-requires same-length returns mul-tag add-tag mul-tag-2 slice-copy-out-tag add-put crossing-requires side-tag-requires
+    put-requires add-result same-length-2 returns-2)

@@ -43,8 +43,23 @@ keep-run-requires : tie.Need-keep-run-requires
 keep-run-requires c κs =
     let e = c .before .before in
     let r = e .before in
-    let s = s₀ e in
-    (s .pre .0, (s .pre .1 .0, (s .pre .1 .1 .0, (s .pre .1 .1 .1, (some s, subst (λ (i : ℕ). Out (limitLine (s .args .l)) (pointIn (now (s .args .m)) i)) (c .before .if2 .taken) (r .end-of-run .ensures .ends (before-to e)))))))
+    let s = s₀ e in (
+      s .pre .0,
+      (
+        s .pre .1 .0,
+        (
+          s .pre .1 .1 .0,
+          (
+            s .pre .1 .1 .1,
+            (
+              some s,
+              subst (λ (i : ℕ). Out (limitLine (s .args .l)) (pointIn (now (s .args .m)) i)) (c .before .if2 .taken)
+                  (r .end-of-run .ensures .ends (before-to e)),
+            ),
+          ),
+        ),
+      ),
+    )
 
 same-length-2 : tie.Need-same-length-2
 same-length-2 c = search needs
@@ -57,7 +72,8 @@ cut-out-requires c κs =
     let e = c .before .before in
     let r = e .before in
     let s = s₀ e in
-    let first : s .args .p .from < r .end-of-run .result = ⊎-elim (λ q. absurd (c .before .if2 .left (sym q))) (λ l. l) (eq-or-lt-of-le (r .end-of-run .ensures .above)) in
+    let first : s .args .p .from < r .end-of-run .result =
+    ⊎-elim (λ q. absurd (c .before .if2 .left (sym q))) (λ l. l) (eq-or-lt-of-le (r .end-of-run .ensures .above)) in
     (s .pre .0, (s .pre .1 .0, (s .pre .1 .1 .0, (s .pre .1 .1 .1, (first, before-to e, r .end-of-run .ensures)))))
 
 same-length-3 : tie.Need-same-length-3

@@ -30,7 +30,9 @@ shared-slice-copy-out-result-2 : tie.Need-shared-slice-copy-out-result-2
 shared-slice-copy-out-result-2 c = search needs
 
 mul-result-3 : tie.Need-mul-result-3
-mul-result-3 c = let s = c .before .before .before .before .before in need sizes (numbers (s .args .l) (now (s .args .m)) (s .args .i)) (bounds (s .args .l) (now (s .args .m)) (s .args .i) (s .pre .0) (s .pre .1 .1)) scaled tt
+mul-result-3 c =
+    let s = c .before .before .before .before .before in need sizes (numbers (s .args .l) (now (s .args .m)) (s .args .i))
+    (bounds (s .args .l) (now (s .args .m)) (s .args .i) (s .pre .0) (s .pre .1 .1)) scaled tt
 
 returns : tie.Need-returns
 returns c =
@@ -39,7 +41,8 @@ returns c =
     let m = now (s .args .m) in
     let i = s .args .i in
     let product = need sizes (numbers l m i) (bounds l m i (s .pre .0) (s .pre .1 .1)) scaled tt in
-    on-limit l m i (s .pre .0) (s .pre .1 .1) (record { sfits = c .before .before .before .result .given }) product refl (sym (toZ-ofZ product) ∙ value sizes (numbers l m i) (bounds l m i (s .pre .0) (s .pre .1 .1)) scaled tt)
+    on-limit l m i (s .pre .0) (s .pre .1 .1) (record { sfits = c .before .before .before .result .given }) product refl
+    (sym (toZ-ofZ product) ∙ value sizes (numbers l m i) (bounds l m i (s .pre .0) (s .pre .1 .1)) scaled tt)
 
 pub lies-on-spec : {M : Type 1} → statement M
 lies-on-spec =

@@ -54,7 +54,9 @@ loop-again c =
     let t = c .before .before .before .loop-test .taken in
     let l = c .before .before .before .before .before in
     let s = l .before in
-    let p = copied {m = v .m} {m′ = c .before .copy .last .0} (v .k) (v .i) (omega (arith, v .inv .2, v .inv .3, t, s .pre .0, s .pre .1 .1)) (c .before .copy .ensures) in
+    let p =
+    copied {m = v .m} {m′ = c .before .copy .last .0} (v .k) (v .i) (omega (arith, v .inv .2, v .inv .3, t, s .pre .0, s .pre .1 .1))
+    (c .before .copy .ensures) in
     let apart : s .args .at ≢ s .args .from = l .if1 .left in
     let low : v .k < v .i = below-of (s .pre .0) apart (v .inv .2) in (
       omega (arith, v .inv .0),

@@ -51,7 +51,8 @@ loop-again c =
       c .before .copy .kept .0 ∙ v .inv .2,
       λ k h. p .others k (inl (omega arith)) ∙ v .inv .3 k (omega arith),
       λ k l h. ⊎-elim
-          (λ (e : k + 1 ≡ v .i). ap (cornerIn (c .before .copy .last .0)) (omega arith) ∙ p .put ∙ v .inv .3 (v .i - 1) (omega arith) ∙ ap (cornerIn (now (s .args .m))) (omega arith))
+          (λ (e : k + 1 ≡ v .i). ap (cornerIn (c .before .copy .last .0)) (omega arith) ∙ p .put ∙ v .inv .3 (v .i - 1) (omega arith)
+          ∙ ap (cornerIn (now (s .args .m))) (omega arith))
           (λ (b : v .i ≤ k). p .others (suc k) (inr (omega arith)) ∙ v .inv .4 k b h)
           (first-or-later k (v .i) l t),
     )

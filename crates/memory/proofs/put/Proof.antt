@@ -52,7 +52,8 @@ returns : tie.Need-returns
 returns c =
     let s = c .before .before .before in
     let g = c .struct-told3 .given in
-    simp (toZ-ofZ (s .fits .tag), back w32 (s .args .p .x) (g .0 .1), back w32 (s .args .p .y) (g .1 .0 .1), back w32 (s .args .p .den) (g .1 .1 .0 .1)) (simp towards-suc)
+    simp (toZ-ofZ (s .fits .tag), back w32 (s .args .p .x) (g .0 .1), back w32 (s .args .p .y) (g .1 .0 .1), back w32 (s .args .p .den) (g .1 .1 .0 .1))
+    (simp towards-suc)
 
 pub put-spec : {M : Type 1} → statement M
 put-spec =

@@ -51,7 +51,8 @@ loop-again c =
     let o = s .args .order in (
       omega (arith, i .loop-test .taken),
       sides-after o (s .pre) (l .k) k (l .inv .1),
-      below-more (λ (j : ℕ). getD cs (placeOf (sideIn o j)) false ≡ false) (l .k) (l .inv .2) (subst (λ (j : ℕ). getD cs j false ≡ false) (next-place o (s .pre) (l .k) k (l .inv .1)) (not-true _ (c .if1 .taken))),
+      below-more (λ (j : ℕ). getD cs (placeOf (sideIn o j)) false ≡ false) (l .k) (l .inv .2)
+          (subst (λ (j : ℕ). getD cs j false ≡ false) (next-place o (s .pre) (l .k) k (l .inv .1)) (not-true _ (c .if1 .taken))),
     )
 
 returns : tie.Need-returns Inv-loop μ-loop

@@ -61,7 +61,8 @@ module _ (c : tie.After-first-turn) where
   skipped : Running (windowOf (now (start .args .numbers))) (t .order) zs (loadedOf zs) (places 0 (length zs / 2)) (t .k)
   skipped =
       run-skipped (start .pre .1 .1 .1 .0) order (t .k) (omega (arith, place))
-      (λ j l. sides (sideIn (t .order) j) (subst (λ (o : ℕ). getD (now (start .args .cuts)) (placeOf (sideIn o j)) false ≡ false) (sym is-order) (c .first-turn .ensures .1 j l)))
+      (λ j l. sides (sideIn (t .order) j) (subst (λ (o : ℕ). getD (now (start .args .cuts)) (placeOf (sideIn o j)) false ≡ false) (sym is-order)
+      (c .first-turn .ensures .1 j l)))
 
 first-turn-requires : tie.Need-first-turn-requires
 first-turn-requires c κs = c .pre .1 .0
@@ -76,7 +77,9 @@ element-copy-out-limit-of : tie.Need-element-copy-out-limit-of
 element-copy-out-limit-of c = omega arith
 
 -- the side's number, as it is read
-is-number : (c : tie.After-limit-of-arg) → let f = c .before .before in toZ w32 (ofZ w32 (getD (now (start f .args .numbers)) (side f) (pos 0))) ≡ numberOf (windowOf (now (start f .args .numbers))) (sideAt (side f))
+is-number : (c : tie.After-limit-of-arg)
+    → let f = c .before .before in toZ w32 (ofZ w32 (getD (now (start f .args .numbers)) (side f) (pos 0)))
+    ≡ numberOf (windowOf (now (start f .args .numbers))) (sideAt (side f))
 is-number c = let f = c .before .before in back w32 _ (c .limit-of-arg .given) ∙ number-at (now (start f .args .numbers)) (side f) (omega arith)
 
 limit-of-requires : tie.Need-limit-of-requires
@@ -98,7 +101,8 @@ module _ (c : tie.After-pass) where
   size = c .pass .kept .1 .1 .1 .0
 
   -- the limit is the side's
-  passed : Passed (windowOf (now (start turn .args .numbers))) (zs turn) (sideAt (side turn)) (loadedOf (zs turn)) (places 0 (length (zs turn) / 2)) (c .pass .last .1 .1 .1 .0) (c .pass .result)
+  passed : Passed (windowOf (now (start turn .args .numbers))) (zs turn) (sideAt (side turn)) (loadedOf (zs turn)) (places 0 (length (zs turn) / 2))
+      (c .pass .last .1 .1 .1 .0) (c .pass .result)
   passed = let w = windowOf (now (start turn .args .numbers)) in c .pass .ensures w (c .before .before .limit-of .ensures .0 w (is-number (c .before .before .before)))
 
 sub-if1 : tie.Need-sub-if1
@@ -111,7 +115,8 @@ returns : tie.Need-returns
 returns c =
     let p = c .before .before .before in
     let f = turn p in
-    no-area refl (subst (λ (o : ℕ). Cuts (linesIn o (windowOf (now (start f .args .numbers)))) (cornersOf (zs f)) none) (is-order f) (run-gone (order f) (omega (arith, place f)) (is-next f) (passed p) (skipped f) (c .if1 .taken)))
+    no-area refl (subst (λ (o : ℕ). Cuts (linesIn o (windowOf (now (start f .args .numbers)))) (cornersOf (zs f)) none) (is-order f)
+    (run-gone (order f) (omega (arith, place f)) (is-next f) (passed p) (skipped f) (c .if1 .taken)))
 
 go-on-requires : tie.Need-go-on-requires
 go-on-requires c κs =
@@ -140,7 +145,8 @@ same-length-2 c = c .before .go-on .kept .1 .1 .1 .1 .0 ∙ size (c .before .bef
 returns-2 : tie.Need-returns-2
 returns-2 c =
     let f = turn (c .before .before .before .before .before .before) in
-    subst (λ (o : ℕ). Ran (windowOf (now (start f .args .numbers))) o (zs f) (c .before .go-on .last .1 .1 .1 .1 .0) (c .before .go-on .result)) (is-order f) (c .before .go-on .ensures)
+    subst (λ (o : ℕ). Ran (windowOf (now (start f .args .numbers))) o (zs f) (c .before .go-on .last .1 .1 .1 .1 .0) (c .before .go-on .result)) (is-order f)
+    (c .before .go-on .ensures)
 
 pub run-spec : {M : Type 1} → statement M
 run-spec =

@@ -26,8 +26,11 @@ same-length c = search needs
 returns : tie.Need-returns
 returns c =
     let t = c .before .before in
-    let s = t .before .before .before .before in
-    (refl, c .before .put .ensures ∙ (λ k. putAt (now (s .args .m)) (s .args .i) (t .before .corner-at .ensures k) ((back w32 _ (t .side-tag .ok) ∙ t .side-tag .ensures) k)))
+    let s = t .before .before .before .before in (
+      refl,
+      c .before .put .ensures
+          ∙ (λ k. putAt (now (s .args .m)) (s .args .i) (t .before .corner-at .ensures k) ((back w32 _ (t .side-tag .ok) ∙ t .side-tag .ensures) k)),
+    )
 
 pub turn-along-spec : {M : Type 1} → statement M
 turn-along-spec = tie.close (tie.spec corner-at-requires side-tag-requires put-requires add-result same-length returns)

@@ -44,7 +44,9 @@ returns : tie.Need-returns Inv-loop μ-loop
 returns c =
     let k = c .before .before in
     let s = k .before .before in
-    plain-run (now (s .args .outline)) true (s .args .axis) (s .fits .t) (run-ends (k .before .loop .inv) (below-low (now (s .args .outline)) (s .pre .0) (there k) _ (lt-yes (back w32 _ (c .before .if12 .given)) refl (c .if1 .taken))))
+    plain-run (now (s .args .outline)) true (s .args .axis) (s .fits .t)
+    (run-ends (k .before .loop .inv)
+    (below-low (now (s .args .outline)) (s .pre .0) (there k) _ (lt-yes (back w32 _ (c .before .if12 .given)) refl (c .if1 .taken))))
 
 add-k : tie.Need-add-k Inv-loop μ-loop
 add-k c = search needs
@@ -56,7 +58,8 @@ loop-again : tie.Need-loop-again Inv-loop μ-loop
 loop-again c =
     let k = c .before .before in
     let s = k .before .before in
-    run-goes-on (k .before .loop .inv) (k .loop-test .taken) (above-low (now (s .args .outline)) (s .pre .0) (there k) _ (lt-no (back w32 _ (c .before .if12 .given)) refl (c .if1 .left)))
+    run-goes-on (k .before .loop .inv) (k .loop-test .taken)
+    (above-low (now (s .args .outline)) (s .pre .0) (there k) _ (lt-no (back w32 _ (c .before .if12 .given)) refl (c .if1 .left)))
 
 returns-2 : tie.Need-returns-2 Inv-loop μ-loop
 returns-2 c = let s = c .before .before in plain-run (now (s .args .outline)) true (s .args .axis) (s .fits .t) (run-is-all (c .before .loop .inv) (c .loop-test .left))

@@ -20,7 +20,8 @@ shared-slice-copy-out-result c = search needs
 returns : tie.Need-returns
 returns c =
     let s = c .before .before .before .before in
-    on-line (now (s .args .outline)) (s .pre .0 .axis) (s .pre .1) (s .args .l .c) (s .args .l .low) (c .before .before .result .given) (c .struct-told .given .1 .1 .0 .1)
+    on-line (now (s .args .outline)) (s .pre .0 .axis) (s .pre .1) (s .args .l .c) (s .args .l .low) (c .before .before .result .given)
+    (c .struct-told .given .1 .1 .0 .1)
 
 pub lies-on-spec : {M : Type 1} → statement M
 lies-on-spec =
