@@ -11,8 +11,8 @@ use Rattle.rings.specs.Lists.{All}
 use Rattle.rings.specs.Points.{Point}
 use Rattle.rings.specs.Rings.{at}
 use Rattle.rings.proofs.Linear.{place-all}
-use Rattle.passes.specs.Memory.{pointIn, ringFrom, ringIn}
-use Rattle.passes.proofs.Memories.{ring-length, ring-at}
+use Rattle.memory.specs.Memory.{pointIn, ringFrom, ringIn}
+use Rattle.memory.proofs.Memories.{ring-length, ring-at}
 use Rattle.lowest.specs.Lowest.{startedAt}
 
 module _ (m : List ℤ) where

@@ -4,7 +4,7 @@ ghost use lib.ListN.{length};
 ghost use Rattle.whole.specs.Choice.{Decides};
 ghost use Rattle.rings.specs.Points.{Before};
 ghost use Rattle.rings.specs.Rings.{Ring};
-ghost use Rattle.passes.specs.Memory.{pointIn, ringIn};
+ghost use Rattle.memory.specs.Memory.{pointIn, ringIn};
 ghost use Rattle.lowest.specs.Lowest.{LowestIn, Forward};
 
 // Whether the corner at place i lies lower than that at place j, or as low and further left.

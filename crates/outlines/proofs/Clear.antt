@@ -2,7 +2,6 @@
 use mathlib.Core.Path.{_≡_, refl, sym, subst}
 use mathlib.Core.Bool.{Bool, false}
 use mathlib.Core.List.{List, [], _∷_}
-use Prim.Native.Nat.{ℕ, zero, suc, _<_}
 use native.Mathlib.Omega.{arith}
 use lib.IntN.{ℤ, pos, negsuc, _-ℤ_}
 use lib.ListN.{getD}
@@ -11,17 +10,17 @@ use Rattle.whole.proofs.Expressions.{Expr, var, con, _⊕_, _⊖_, _⊗_, neg}
 use Rattle.whole.proofs.Polynomials.{ring}
 use Rattle.whole.proofs.Order.{zarith, ≤-diff}
 use Rattle.whole.proofs.Comparisons.{lt-no}
-use Rattle.grid.specs.Sides.{Side, left, right, bottom, top, placeOf, sideAt, Clear}
+use Rattle.grid.specs.Sides.{Side, left, right, bottom, top, placeOf, Clear}
 use Rattle.grid.specs.declared.Window.{Window}
 use Rattle.reach.specs.Reach.{Reaches}
 use Rattle.rings.specs.Lists.{All}
-use Rattle.rings.specs.Points.{Line, value, In}
+use Rattle.rings.specs.Points.{value, In}
 use Rattle.rings.specs.Windows.{left-side, right-side, bottom-side, top-side}
 use Rattle.rings.proofs.Plane.{nought}
 use Rattle.convex.specs.Corners.{gridPoint, cornersOf}
-use Rattle.passes.specs.Orders.{sideLine}
-use Rattle.passes.specs.Outlines.{Cutting}
-use Rattle.passes.proofs.Outlines.{corners-all}
+use Rattle.limits.specs.Sides.{sideLine}
+use Rattle.passes.specs.Passes.{Cutting}
+use Rattle.crossings.proofs.Outlines.{corners-all}
 
 -- ---- the value of each side at a point of the grid; the side's number, x and y are the variables 0 to 2
 abbrev value-by : Expr → Expr → Expr → Expr
@@ -48,14 +47,7 @@ module _ (c x y : ℤ) where
 between : {v a b : ℤ} (m : ℤ) → v ≡ b -ℤ a → a ≤ℤ m → m ≤ℤ b → pos 0 ≤ℤ v
 between {a = a} {b} m e h k = subst (λ z. pos 0 ≤ℤ z) (sym e) (≤-diff {a = a} {b = b} (omega zarith))
 
--- ---- a side by its place
-pub same-line : (w : Window) (s : ℕ) → sideLine w (placeOf (sideAt s)) ≡ sideLine w s
-same-line w zero = refl
-same-line w (suc zero) = refl
-same-line w (suc (suc zero)) = refl
-same-line w (suc (suc (suc s))) = refl
-
-pub clear-in : {zs : List ℤ} {b : Window} (w : Window) (k : Side) → Reaches zs b → Clear w b k → All (In (sideLine w (placeOf k))) (cornersOf zs)
+pub clear-in : {zs : List ℤ} {b : Window} (w : Window) (k : Side) → Reaches zs b → Clear w b k → All (In (sideLine w k)) (cornersOf zs)
 clear-in {zs} {b} w left r c = corners-all zs (λ k h. between (b .left) (left-at (w .left) _ _) c (r .left k h))
 clear-in {zs} {b} w right r c = corners-all zs (λ k h. between (b .right) (right-at (w .right) _ _) (r .right k h) c)
 clear-in {zs} {b} w bottom r c = corners-all zs (λ k h. between (b .bottom) (bottom-at (w .bottom) _ _) c (r .bottom k h))
@@ -66,12 +58,11 @@ abbrev pub cutting : Window → Window → List Bool
 cutting w b = ltZ (b .left) (w .left) ∷ ltZ (w .right) (b .right) ∷ ltZ (b .bottom) (w .bottom) ∷ ltZ (w .top) (b .top) ∷ []
 
 -- a side that does not cut is clear
-clear : (w b : Window) (s : ℕ) → s < 4 → getD (cutting w b) s false ≡ false → Clear w b (sideAt s)
-clear w b zero h e = lt-no refl refl e
-clear w b (suc zero) h e = lt-no refl refl e
-clear w b (suc (suc zero)) h e = lt-no refl refl e
-clear w b (suc (suc (suc zero))) h e = lt-no refl refl e
-clear w b (suc (suc (suc (suc s)))) h e = absurd (omega arith)
+clear : (w b : Window) (k : Side) → getD (cutting w b) (placeOf k) false ≡ false → Clear w b k
+clear w b left e = lt-no refl refl e
+clear w b right e = lt-no refl refl e
+clear w b bottom e = lt-no refl refl e
+clear w b top e = lt-no refl refl e
 
 pub cutting-is : (w b : Window) {zs : List ℤ} → Reaches zs b → Cutting w zs (cutting w b)
-cutting-is w b {zs} r s h e = subst (λ (l : Line). All (In l) (cornersOf zs)) (same-line w s) (clear-in w (sideAt s) r (clear w b s h e))
+cutting-is w b r k e = clear-in w k r (clear w b k e)

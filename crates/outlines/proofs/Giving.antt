@@ -15,11 +15,12 @@ use Rattle.rings.specs.Rings.{Ring}
 use Rattle.rings.specs.Cuts.{Cuts}
 use Rattle.convex.specs.Corners.{cornersOf}
 use Rattle.passes.specs.Orders.{linesIn}
-use Rattle.passes.specs.Outlines.{OutlineOnTable}
-use Rattle.passes.specs.Passes.{ringAt, Ran}
+use Rattle.crossings.specs.Outlines.{OutlineOnTable}
+use Rattle.memory.specs.Memory.{ringAt}
+use Rattle.passes.specs.Passes.{Ran}
 use Rattle.passes.specs.Passes as passes
-use Rattle.passes.specs.declared.Places.{Places}
-use Rattle.passes.proofs.Outlines.{outline-ring}
+use Rattle.memory.specs.declared.Places.{Places}
+use Rattle.crossings.proofs.Outlines.{outline-ring}
 use Rattle.outlines.specs.Outlines.{OutlineClipped}
 use Rattle.writing.specs.Writing.{GaveNumbers, GaveRing}
 use Rattle.outlines.proofs.Passes.{cuts-ring, ring-passed, none-passed}

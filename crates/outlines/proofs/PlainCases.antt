@@ -11,7 +11,7 @@ use Rattle.whole.proofs.Expressions.{Expr, var, neg, _⊕_, _⊗_}
 use Rattle.whole.proofs.Naturals.{neg-plus, neg-minus}
 use Rattle.whole.proofs.Order.{zarith, sub-is, ≤-antisym}
 use Rattle.whole.proofs.Polynomials.{ring}
-use Rattle.grid.specs.Sides.{Side, left, right, bottom, top, placeOf, sideAt, Clear, Beyond}
+use Rattle.grid.specs.Sides.{Side, left, right, bottom, top, Clear, Beyond}
 use Rattle.grid.specs.declared.Window.{Window}
 use Rattle.reach.specs.Reach.{Reaches}
 use Rattle.rings.specs.Cuts.{Inside, Cuts, no-more, cut, Outcome, area, Result, none-left}
@@ -25,12 +25,13 @@ use Rattle.rings.proofs.OneCut.{few-on}
 use Rattle.rings.proofs.Orders.{some-result, all-order}
 use Rattle.rings.proofs.Theorems.{convex-ccw, fan, result-outcome}
 use Rattle.convex.specs.Corners.{cornersOf}
-use Rattle.passes.specs.Orders.{sideLine, sidesIn, linesIn}
+use Rattle.limits.specs.Sides.{sideLine}
+use Rattle.passes.specs.Orders.{sidesIn, linesIn}
 use Rattle.passes.proofs.Orders.{lines-arranged}
-use Rattle.passes.proofs.Outlines.{corners-all}
-use Rattle.passes.proofs.Sides.{side-line-real}
-use Rattle.passes.proofs.Pieces.{cut-nothing}
-use Rattle.outlines.proofs.Clear.{left-at, right-at, bottom-at, top-at, same-line, clear-in}
+use Rattle.crossings.proofs.Outlines.{corners-all}
+use Rattle.limits.proofs.Sides.{side-line-real}
+use Rattle.remains.proofs.Pieces.{cut-nothing}
+use Rattle.outlines.proofs.Clear.{left-at, right-at, bottom-at, top-at, clear-in}
 use Rattle.outlines.proofs.Passes.{lines-real}
 
 -- ---- no side cuts anything off
@@ -78,7 +79,7 @@ module _ {hs : List Line} {r : List Point} (reals : All Real hs) (g : Ring r) (h
 between : {v x y : ℤ} (m : ℤ) → v ≡ y -ℤ x → y ≤ℤ m → m ≤ℤ x → v ≤ℤ pos 0
 between {x = x} {y} m e h k = subst (λ z. z ≤ℤ pos 0) (sym e) (omega (zarith, sub-is y x))
 
-side-among : (w : Window) (k : Side) (p : Point) → Inside (side-lines (w .left) (w .bottom) (w .right) (w .top)) p → In (sideLine w (placeOf k)) p
+side-among : (w : Window) (k : Side) (p : Point) → Inside (side-lines (w .left) (w .bottom) (w .right) (w .top)) p → In (sideLine w k) p
 side-among w left p (i ◂ a) = i
 side-among w right p (i ◂ (j ◂ a)) = j
 side-among w bottom p (i ◂ (j ◂ (k ◂ a))) = k
@@ -89,11 +90,11 @@ module _ (w : Window) {zs : List ℤ} {b : Window} (r : Reaches zs b) where
   unfolding linesIn
   whole-left o n f = cuts-nothing n (all (sidesIn o))
     where
-      all : (ss : List ℕ) → All (λ h. All (In h) (cornersOf zs)) (map (sideLine w) ss)
+      all : (ss : List Side) → All (λ h. All (In h) (cornersOf zs)) (map (sideLine w) ss)
       all [] = ∅
-      all (s ∷ ss) = subst (λ (h : Line). All (In h) (cornersOf zs)) (same-line w s) (clear-in w (sideAt s) r (f (sideAt s))) ◂ all ss
+      all (k ∷ ks) = clear-in w k r (f k) ◂ all ks
 
-  beyond-under : (k : Side) → Beyond w b k → All (Under (sideLine w (placeOf k))) (cornersOf zs)
+  beyond-under : (k : Side) → Beyond w b k → All (Under (sideLine w k)) (cornersOf zs)
   beyond-under left c = corners-all zs (λ k h. between (b .right) (left-at (w .left) _ _) (r .right k h) c)
   beyond-under right c = corners-all zs (λ k h. between (b .left) (right-at (w .right) _ _) c (r .left k h))
   beyond-under bottom c = corners-all zs (λ k h. between (b .top) (bottom-at (w .bottom) _ _) (r .top k h) c)
@@ -101,5 +102,5 @@ module _ (w : Window) {zs : List ℤ} {b : Window} (r : Reaches zs b) where
 
   pub nothing-left : {o : ℕ} → o ≤ 23 → Ring (cornersOf zs) → (k : Side) × Beyond w b k → Cuts (linesIn o w) (cornersOf zs) none
   nothing-left {o} h g (k, c) =
-      cuts-away (lines-real w h) g (sideLine w (placeOf k)) (side-line-real w (placeOf k))
+      cuts-away (lines-real w h) g (sideLine w k) (side-line-real w k)
       (λ p i. side-among w k p (all-order (Permᴰ·symm (lines-arranged o w h)) i)) (beyond-under k c)

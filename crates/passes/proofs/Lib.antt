@@ -1,14 +1,2 @@
-pub mod Sides
-pub mod Limits
-pub mod Runs
 pub mod Orders
-pub mod Memories
-pub mod Outlines
-pub mod Meetings
-pub mod Pieces
-pub mod Owned
-pub mod Ends
-pub mod Passing
-pub mod FirstPass
-pub mod Corners
 pub mod Running

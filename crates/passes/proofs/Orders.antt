@@ -4,36 +4,35 @@ use mathlib.Core.List.{List, [], _∷_, map, List·Permᴰ, List·Permᴰ·nil, 
 use Prim.Native.Nat.{ℕ, zero, suc, _+_, _*_, _/_, _%_, _<_, _≤_}
 use native.Mathlib.Numerals.{add-one}
 use native.Mathlib.Omega.{arith}
-use lib.Dec.{ltb, ltb→lt}
 use lib.ListN.{length, getD, drop, length-map, List·getD-map}
 use lib.Seq.{drop-cons}
-use Rattle.whole.proofs.Comparisons.{true-T}
 use Rattle.grid.specs.declared.Window.{Window}
+use Rattle.grid.specs.Sides.{Side, left, right, bottom, top, placeOf, sideAt}
 use Rattle.rings.specs.Windows.{side-lines}
-use Rattle.convex.specs.Corners.{every}
-use Rattle.convex.proofs.Places.{every-at}
-use Rattle.passes.specs.Orders.{sideLine, member, without, sidesIn, linesIn, packed}
+use Rattle.limits.specs.Sides.{sideLine}
+use Rattle.limits.proofs.Sides.{place-below, side-place}
+use Rattle.passes.specs.Orders.{without, sidesIn, sideIn, linesIn, packed}
 
 -- ---- one taken out
-taken : (k : ℕ) (xs : List ℕ) → k < length xs → List·Permᴰ xs (member k xs ∷ without k xs)
+taken : (k : ℕ) (xs : List Side) → k < length xs → List·Permᴰ xs (getD xs k left ∷ without k xs)
 taken k [] h = absurd (omega arith)
 taken zero (x ∷ xs) h = Permᴰ·refl (x ∷ xs)
 taken (suc k) (x ∷ xs) h = List·Permᴰ·trans (List·Permᴰ·cons refl (taken k xs (omega arith))) (List·Permᴰ·swap refl refl)
 
-without-length : (k : ℕ) (xs : List ℕ) → k < length xs → suc (length (without k xs)) ≡ length xs
+without-length : (k : ℕ) (xs : List Side) → k < length xs → suc (length (without k xs)) ≡ length xs
 without-length k [] h = absurd (omega arith)
 without-length zero (x ∷ xs) h = refl
 without-length (suc k) (x ∷ xs) h = ap suc (without-length k xs (omega arith))
 
 -- ---- all four
 module _ (o : ℕ) (h : o ≤ 23) where
-  abbrev all : List ℕ
-  all = 0 ∷ 1 ∷ 2 ∷ 3 ∷ []
+  abbrev all : List Side
+  all = left ∷ right ∷ bottom ∷ top ∷ []
 
-  abbrev three : List ℕ
+  abbrev three : List Side
   three = without (o / 6) all
 
-  abbrev two : List ℕ
+  abbrev two : List Side
   two = without (o % 6 / 2) three
 
   three-length : suc (length three) ≡ 4
@@ -53,22 +52,21 @@ module _ (o : ℕ) (h : o ≤ 23) where
   unfolding sidesIn
   sides-length = omega (arith, three-length, two-length, without-length (o % 2) two (omega (arith, three-length, two-length)))
 
-  pub side-below : (k : ℕ) → k < 4 → getD (sidesIn o) k 0 < 4
-  unfolding sidesIn every
-  side-below k l = ltb→lt (getD (sidesIn o) k 0) 4 (true-T (every-at 4 (λ k. ltb (getD (sidesIn o) k 0) 4) (every-at 24 (λ o. every 4 (λ k. ltb (getD (sidesIn o) k 0) 4)) refl o (omega arith)) k l))
-
   -- of the sides packed from the k-th on, the first and the others
   module _ (k : ℕ) (l : k < 4) {rest : ℕ} (e : rest ≡ packed (drop k (sidesIn o))) where
-    in-two : rest ≡ getD (sidesIn o) k 0 + 4 * packed (drop (suc k) (sidesIn o))
+    in-two : rest ≡ placeOf (sideIn o k) + 4 * packed (drop (suc k) (sidesIn o))
     unfolding packed
-    in-two = e ∙ ap packed (drop-cons (sidesIn o) k 0 (omega (arith, sides-length)))
+    in-two = e ∙ ap packed (drop-cons (sidesIn o) k left (omega (arith, sides-length)))
 
-    pub next-side : rest % 4 ≡ getD (sidesIn o) k 0
-    next-side = omega (arith, in-two, side-below k l)
+    pub next-place : rest % 4 ≡ placeOf (sideIn o k)
+    next-place = omega (arith, in-two, place-below (sideIn o k))
+
+    pub next-side : sideAt (rest % 4) ≡ sideIn o k
+    next-side = ap sideAt next-place ∙ side-place (sideIn o k)
 
     pub sides-after : rest / 4 ≡ packed (drop (k + 1) (sidesIn o))
     sides-after =
-        let d : rest / 4 ≡ packed (drop (suc k) (sidesIn o)) = omega (arith, in-two, side-below k l) in
+        let d : rest / 4 ≡ packed (drop (suc k) (sidesIn o)) = omega (arith, in-two, place-below (sideIn o k)) in
         d ∙ ap (λ (j : ℕ). packed (drop j (sidesIn o))) (sym (add-one k))
 
 map-arranged : {A B : Type 0} {xs ys : List A} (f : A → B) → List·Permᴰ xs ys → List·Permᴰ (map f xs) (map f ys)
@@ -87,6 +85,6 @@ module _ (o : ℕ) (w : Window) (h : o ≤ 23) where
   lines-length = omega (arith, length-map (sidesIn o) (sideLine w), sides-length o h)
 
   -- the lines from the k-th on
-  pub lines-from : (k : ℕ) → k < 4 → drop k (linesIn o w) ≡ sideLine w (getD (sidesIn o) k 0) ∷ drop (suc k) (linesIn o w)
+  pub lines-from : (k : ℕ) → k < 4 → drop k (linesIn o w) ≡ sideLine w (sideIn o k) ∷ drop (suc k) (linesIn o w)
   unfolding linesIn
-  lines-from k l = rw (drop-cons (linesIn o w) k (sideLine w 0) (omega (arith, lines-length)), List·getD-map (sideLine w) (sidesIn o) k 0)
+  lines-from k l = rw (drop-cons (linesIn o w) k (sideLine w left) (omega (arith, lines-length)), List·getD-map (sideLine w) (sidesIn o) k left)

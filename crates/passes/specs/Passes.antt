@@ -1,49 +1,29 @@
--- What one pass promises, and what all four do.
---   places i k                 the places from i up to k
---   ringAt m p                 the ring at the places p of the memory m
---   cornersAt m p              its corners with their tags
---   Held w zs m p              the corners at the places p of the memory m are a ring, traced
---   Passed w zs s m p m′ p′    of the ring at p in m the side s leaves that at p′ in m′, which is traced and ends at most one place later
---   FirstPassed w zs s m p     of the outline zs the side s leaves the ring at p in m
---   Running w o zs m p k       the first k sides in the order o have left of the outline zs the ring at p in m, which lies inside each line that the outline does; what
---                              the others leave of it, all leave of the outline
+-- What the passes are given, and what all four promise.
+--   Cutting w zs cs            at the place of a side of the window w the list cs has false only where no corner of the outline zs lies outside it
+--   Running w o zs m p k       the first k sides in the order o have left of the outline zs the ring at p in m, which lies inside each line that the outline does;
+--                              what the others leave of it, all leave of the outline
 --   Ran w o zs m p             the sides of the window in the order o leave of the outline zs the ring at p in m, or no area, and p has no place
 use mathlib.Core.Path.{_≡_}
+use mathlib.Core.Bool.{Bool, false}
 use mathlib.Core.List.{List}
 use mathlib.Core.Option.{Option, none, some}
-use Prim.Native.Nat.{ℕ, suc, _+_, _-_, _*_, _/_, _≤_}
+use Prim.Native.Nat.{ℕ, _+_, _-_, _*_, _/_, _≤_}
 use lib.IntN.{ℤ}
-use lib.ListN.{length, drop}
+use lib.ListN.{length, getD, drop}
 use Rattle.grid.specs.declared.Window.{Window}
+use Rattle.grid.specs.Sides.{Side, placeOf}
 use Rattle.rings.specs.Lists.{All}
 use Rattle.rings.specs.Points.{Point, Line, In}
-use Rattle.rings.specs.Rings.{Ring}
-use Rattle.rings.specs.Cuts.{CutBy, Cuts}
+use Rattle.rings.specs.Cuts.{Cuts}
 use Rattle.convex.specs.Corners.{cornersOf}
-use Rattle.passes.specs.Memory.{ringFrom, Small}
-use Rattle.passes.specs.Orders.{sideLine, linesIn}
-use Rattle.passes.specs.Tags.{loadedOf}
-use Rattle.passes.specs.Runs.{Tagged, cornersFrom, Traced}
-use Rattle.passes.specs.declared.Places.{Places}
+use Rattle.memory.specs.declared.Places.{Places}
+use Rattle.memory.specs.Memory.{ringAt, Small}
+use Rattle.limits.specs.Sides.{sideLine}
+use Rattle.remains.specs.Remains.{Held}
+use Rattle.passes.specs.Orders.{linesIn}
 
-abbrev pub places : ℕ → ℕ → Places
-places i k = record { from = i; to = k }
-
-abbrev pub ringAt : List ℤ → Places → List Point
-ringAt m p = ringFrom m (p .from) (p .to - p .from)
-
-abbrev pub cornersAt : List ℤ → Places → List Tagged
-cornersAt m p = cornersFrom m (p .from) (p .to - p .from)
-
-pub record Held (w : Window) (zs m : List ℤ) (p : Places) : Type 0 where
-  pub ring : Ring (ringAt m p)
-  pub traced : Traced w zs (cornersAt m p)
-
-pub record Passed (w : Window) (zs : List ℤ) (s : ℕ) (m : List ℤ) (p : Places) (m′ : List ℤ) (p′ : Places) : Type 0 where
-  pub order : p′ .from ≤ p′ .to
-  pub end : p′ .to ≤ suc (p .to)
-  pub cut : CutBy (sideLine w s) (ringAt m p) (ringAt m′ p′)
-  pub traced : Traced w zs (cornersAt m′ p′)
+abbrev pub Cutting : Window → List ℤ → List Bool → Type 0
+Cutting w zs cs = (k : Side) → getD cs (placeOf k) false ≡ false → All (In (sideLine w k)) (cornersOf zs)
 
 pub record Running (w : Window) (o : ℕ) (zs m : List ℤ) (p : Places) (k : ℕ) : Type 0 where
   pub held : Held w zs m p
@@ -51,9 +31,6 @@ pub record Running (w : Window) (o : ℕ) (zs m : List ℤ) (p : Places) (k : �
   pub room : p .to ≤ length zs / 2 + k
   pub inside : (h : Line) → All (In h) (cornersOf zs) → All (In h) (ringAt m p)
   pub so-far : (r : Option (List Point)) → Cuts (drop k (linesIn o w)) (ringAt m p) r → Cuts (linesIn o w) (cornersOf zs) r
-
-abbrev pub FirstPassed : Window → List ℤ → ℕ → List ℤ → Places → Type 0
-FirstPassed w zs s m p = Passed w zs s (loadedOf zs) (places 0 (length zs / 2)) m p
 
 pub data Ran (w : Window) (o : ℕ) (zs m : List ℤ) (p : Places) : Type 0 where
   no-area : p .to ≡ p .from → Cuts (linesIn o w) (cornersOf zs) none → Ran w o zs m p

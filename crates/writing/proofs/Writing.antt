@@ -20,8 +20,8 @@ use Rattle.rings.specs.Points.{Point, Proper}
 use Rattle.rings.specs.Rings.{Ring, Starts}
 use Rattle.rings.proofs.Lists.{turned-length, turned-all}
 use Rattle.rings.proofs.Theorems.{start}
-use Rattle.passes.specs.Memory.{ringFrom, ringIn}
-use Rattle.passes.proofs.Memories.{ring-length}
+use Rattle.memory.specs.Memory.{ringFrom, ringIn}
+use Rattle.memory.proofs.Memories.{ring-length}
 use Rattle.writing.specs.Numbers.{RingNumbers}
 use Rattle.writing.specs.Writing.{WroteFraction, Wrote, GaveRing}
 use Rattle.lowest.proofs.Memory.{at-place}

@@ -6,7 +6,7 @@ ghost use lib.Signed.{_<ℤ_};
 ghost use Rattle.rings.specs.Lists.{All};
 ghost use Rattle.rings.specs.Points.{Proper};
 ghost use Rattle.rings.specs.Rings.{Ring};
-ghost use Rattle.passes.specs.Memory.{ringIn};
+ghost use Rattle.memory.specs.Memory.{ringIn};
 ghost use Rattle.lowest.specs.Lowest.{startedAt};
 ghost use Rattle.writing.specs.Writing.{WroteFraction, Wrote, GaveRing};
 

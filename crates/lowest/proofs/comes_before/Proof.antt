@@ -6,7 +6,7 @@ use lib.IntN.{_*ℤ_}
 use mir.Syntax.{w64}
 use mir.Val.{toZ, ofZ}
 use Rattle.rings.specs.Points.{Point}
-use Rattle.passes.specs.Memory.{pointIn}
+use Rattle.memory.specs.Memory.{pointIn}
 use Rattle.lowest.proofs.Widths.{wide, wide-fits, factors-are, product-fits, product-is}
 use Rattle.lowest.proofs.Lowest.{by-height, by-width}
 use Rattle.lowest.proofs.comes_before.Statement.{statement}

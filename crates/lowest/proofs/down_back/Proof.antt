@@ -8,8 +8,8 @@ use lib.ListN.{length}
 use Rattle.whole.specs.Choice.{Decides}
 use Rattle.rings.specs.Points.{Point, Before}
 use Rattle.rings.specs.Rings.{at}
-use Rattle.passes.specs.Memory.{ringIn}
-use Rattle.passes.proofs.Memories.{ring-length}
+use Rattle.memory.specs.Memory.{ringIn}
+use Rattle.memory.proofs.Memories.{ring-length}
 use Rattle.lowest.proofs.Downhill.{decides-same, ends-inside, FellBack, back-first, back-more, back-on, back-no-more}
 use Rattle.lowest.proofs.Memory.{memory-at}
 use Rattle.lowest.proofs.down_back.Statement.{statement}

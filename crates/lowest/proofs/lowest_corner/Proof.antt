@@ -2,7 +2,7 @@
 use mathlib.Core.Path.{subst}
 use borrow.Author.Needs.{needs}
 use denote.Ref.{now}
-use Rattle.passes.specs.Memory.{ringIn}
+use Rattle.memory.specs.Memory.{ringIn}
 use Rattle.lowest.specs.Lowest.{Forward}
 use Rattle.lowest.proofs.Downhill.{moved}
 use Rattle.lowest.proofs.lowest_corner.Statement.{statement}

@@ -5,8 +5,8 @@ use borrow.Author.Needs.{needs}
 use denote.Ref.{now}
 use Rattle.grid.specs.Table.{WindowOnTable}
 use Rattle.grid.specs.declared.Window.{Window}
-use Rattle.passes.specs.Outlines.{Cutting}
-use Rattle.passes.proofs.Outlines.{outline-ring}
+use Rattle.passes.specs.Passes.{Cutting}
+use Rattle.crossings.proofs.Outlines.{outline-ring}
 use Rattle.outlines.specs.Outlines.{OutlineClipped}
 use Rattle.writing.specs.Writing.{GaveNumbers}
 use Rattle.outlines.proofs.Clear.{cutting, cutting-is}

@@ -9,10 +9,10 @@ use lib.IntN.{ℤ}
 use lib.ListN.{length, take, drop, length-take, length-drop}
 use Rattle.rings.specs.Points.{Point}
 use Rattle.rings.specs.Rings.{Ring}
-use Rattle.passes.specs.Memory.{ringIn}
-use Rattle.passes.specs.Orders.{windowOf}
-use Rattle.passes.specs.Passes.{ringAt}
-use Rattle.passes.specs.declared.Places.{Places}
+use Rattle.memory.specs.Memory.{ringIn}
+use Rattle.limits.specs.Sides.{windowOf}
+use Rattle.memory.specs.Memory.{ringAt}
+use Rattle.memory.specs.declared.Places.{Places}
 use Rattle.writing.specs.Writing.{GaveRing}
 use Rattle.outlines.proofs.Giving.{LeftRing, in-order, left-ring, give-ring, give-nothing, none-cuts}
 use Rattle.lowest.proofs.Memory.{ring-part}

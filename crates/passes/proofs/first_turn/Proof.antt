@@ -8,13 +8,14 @@ use borrow.Author.Count.{below-more}
 use borrow.Author.Tests.{not-true}
 use denote.Ref.{now}
 use lib.ListN.{getD, drop}
-use Rattle.passes.specs.Orders.{sidesIn, packed}
-use Rattle.passes.proofs.Orders.{next-side, sides-after}
+use Rattle.grid.specs.Sides.{placeOf}
+use Rattle.passes.specs.Orders.{sidesIn, sideIn, packed}
+use Rattle.passes.proofs.Orders.{next-place, sides-after}
 use Rattle.passes.proofs.first_turn.Statement.{statement}
 use Rattle.passes.proofs.first_turn.Tie as tie
 
 abbrev Skipped : ℕ → List Bool → ℕ → Type 0
-Skipped o cs k = (j : ℕ) → j < k → getD cs (getD (sidesIn o) j 0) false ≡ false
+Skipped o cs k = (j : ℕ) → j < k → getD cs (placeOf (sideIn o j)) false ≡ false
 
 abbrev Inv-loop : tie.InvT-loop
 Inv-loop order cuts rest₀ k₀ rest k = (k ≤ 3) × (rest ≡ packed (drop k (sidesIn order))) × Skipped order cuts k
@@ -50,7 +51,8 @@ loop-again c =
     let o = s .args .order in (
       omega (arith, i .loop-test .taken),
       sides-after o (s .pre) (l .k) k (l .inv .1),
-      below-more (λ (j : ℕ). getD cs (getD (sidesIn o) j 0) false ≡ false) (l .k) (l .inv .2) (subst (λ (j : ℕ). getD cs j false ≡ false) (next-side o (s .pre) (l .k) k (l .inv .1)) (not-true _ (c .if1 .taken))),
+      below-more (λ (j : ℕ). getD cs (placeOf (sideIn o j)) false ≡ false) (l .k) (l .inv .2)
+          (subst (λ (j : ℕ). getD cs j false ≡ false) (next-place o (s .pre) (l .k) k (l .inv .1)) (not-true _ (c .if1 .taken))),
     )
 
 returns : tie.Need-returns Inv-loop μ-loop

@@ -1,4 +1,4 @@
--- `passes::go_on` meets its contract: the passes so far have left a ring from which the others go on, or no area, and the sides still to come are packed in the rest. Assumes nothing.
+-- `passes::go_on` meets its contract: the passes so far have left a ring to go on from, or no area, and the sides to come are packed in the rest. Assumes nothing.
 use mathlib.Core.Path.{_≡_, refl, sym, _∙_, subst}
 use mathlib.Core.Bool.{false}
 use mathlib.Core.List.{List}
@@ -17,13 +17,15 @@ use Rattle.grid.specs.Table.{farthest}
 use Rattle.grid.specs.declared.Window.{Window}
 use Rattle.rings.specs.Cuts.{Cuts}
 use Rattle.convex.specs.Corners.{cornersOf}
-use Rattle.passes.specs.Orders.{windowOf, linesIn, sidesIn, packed}
-use Rattle.passes.specs.Outlines.{Cutting, Job}
-use Rattle.passes.specs.Tags.{numberOf}
-use Rattle.passes.specs.Passes.{Passed, Running, no-area}
-use Rattle.passes.specs.declared.Places.{Places}
-use Rattle.passes.proofs.Sides.{number-within, number-at}
-use Rattle.passes.proofs.Memories.{ring-length}
+use Rattle.limits.specs.Sides.{windowOf}
+use Rattle.passes.specs.Orders.{linesIn, sidesIn, packed}
+use Rattle.passes.specs.Passes.{Cutting, Running, no-area}
+use Rattle.later_pass.specs.Later.{Job}
+use Rattle.grid.specs.Sides.{placeOf, sideAt, numberOf}
+use Rattle.remains.specs.Remains.{Passed}
+use Rattle.memory.specs.declared.Places.{Places}
+use Rattle.limits.proofs.Sides.{place-side, number-within, number-at}
+use Rattle.memory.proofs.Memories.{ring-length}
 use Rattle.passes.proofs.Orders.{next-side, sides-after}
 use Rattle.passes.proofs.Running.{passed-over, run-gone, run-more, run-ended}
 use Rattle.passes.proofs.go_on.Statement.{statement}
@@ -57,7 +59,8 @@ module _ (c : tie.At-loop Inv-loop μ-loop) where
   is-order : order ≤ 23
   is-order = start .pre .1 .0 .order
 
-  so-far : (c .loop .rest ≡ packed (drop (c .loop .k) (sidesIn order))) × Running (windowOf (now (start .args .numbers))) order (now (start .args .outline)) (c .loop .m) (c .loop .p) (c .loop .k)
+  so-far : (c .loop .rest ≡ packed (drop (c .loop .k) (sidesIn order))) × Running (windowOf (now (start .args .numbers))) order (now (start .args .outline))
+      (c .loop .m) (c .loop .p) (c .loop .k)
   so-far =
       let t = start .pre .1 .0 in
       c .loop .inv .2 order is-order (sides-after order is-order (start .args .t .k) (omega (arith, t .place)) (t .sides)) (start .pre .1 .1 .1 .1 .1)
@@ -75,13 +78,19 @@ module _ (c : tie.In-loop Inv-loop μ-loop) where
 
   abbrev Left-by : Places → List ℤ → Type 0
   Left-by p m =
-      Followed (windowOf (now (start at .args .numbers))) (now (start at .args .outline)) (now (start at .args .m)) (start at .args .q) (start at .args .t .rest / 4) (start at .args .t .k + 1) m p (at .loop .rest / 4) (at .loop .k + 1)
+      Followed (windowOf (now (start at .args .numbers))) (now (start at .args .outline)) (now (start at .args .m)) (start at .args .q)
+      (start at .args .t .rest / 4) (start at .args .t .k + 1) m p (at .loop .rest / 4) (at .loop .k + 1)
 
   -- what a pass along it leaves
-  left : (p : Places) (m : List ℤ) → Passed (windowOf (now (start at .args .numbers))) (now (start at .args .outline)) side (at .loop .m) (at .loop .p) m p → 3 ≤ p .to - p .from → Left-by p m
+  left : (p : Places) (m : List ℤ)
+      → Passed (windowOf (now (start at .args .numbers))) (now (start at .args .outline)) (sideAt side) (at .loop .m) (at .loop .p) m p → 3 ≤ p .to - p .from
+      → Left-by p m
   left p m d h o ho e₀ r₀ =
-      let f = at .loop .inv .2 o ho e₀ r₀ in
-      (sides-after o ho (at .loop .k) (c .loop-test .taken) (f .0), run-more ho (c .loop-test .taken) (next-side o ho (at .loop .k) (c .loop-test .taken) (f .0)) d (f .1) h)
+      let f = at .loop .inv .2 o ho e₀ r₀ in (
+        sides-after o ho (at .loop .k) (c .loop-test .taken) (f .0),
+        run-more ho (c .loop-test .taken)
+            (next-side o ho (at .loop .k) (c .loop-test .taken) (f .0)) d (f .1) h,
+      )
 
 cast-side : tie.Need-cast-side Inv-loop μ-loop
 cast-side c = omega arith
@@ -96,13 +105,15 @@ element-copy-out-limit-of : tie.Need-element-copy-out-limit-of Inv-loop μ-loop
 element-copy-out-limit-of c = omega arith
 
 -- the side's number, as it is read
-is-number : (c : tie.After-limit-of-arg Inv-loop μ-loop) → let i = c .before .before .before in toZ w32 (ofZ w32 (getD (now (start (at i) .args .numbers)) (side i) (pos 0))) ≡ numberOf (windowOf (now (start (at i) .args .numbers))) (side i)
+is-number : (c : tie.After-limit-of-arg Inv-loop μ-loop)
+    → let i = c .before .before .before in toZ w32 (ofZ w32 (getD (now (start (at i) .args .numbers)) (side i) (pos 0)))
+    ≡ numberOf (windowOf (now (start (at i) .args .numbers))) (sideAt (side i))
 is-number c = let i = c .before .before .before in back w32 _ (c .limit-of-arg .given) ∙ number-at (now (start (at i) .args .numbers)) (side i) (omega arith)
 
 limit-of-requires : tie.Need-limit-of-requires Inv-loop μ-loop
 limit-of-requires c κs =
     let i = c .before .before .before in
-    (omega arith, subst (Within farthest) (sym (is-number c)) (number-within (windowOf (now (start (at i) .args .numbers))) (side i) (start (at i) .pre .0)))
+    (omega arith, subst (Within farthest) (sym (is-number c)) (number-within (windowOf (now (start (at i) .args .numbers))) (sideAt (side i)) (start (at i) .pre .0)))
 
 pass-requires : tie.Need-pass-requires Inv-loop μ-loop
 pass-requires c κs =
@@ -120,17 +131,22 @@ module _ (c : tie.After-pass Inv-loop μ-loop) where
   abbrev within : tie.In-loop Inv-loop μ-loop
   within = c .before .before .before .before .before .before
 
-  none-left : c .pass .result .to - c .pass .result .from < 3 → Cuts (linesIn (order (at within)) (windowOf (now (start (at within) .args .numbers)))) (cornersOf (now (start (at within) .args .outline))) none
+  none-left : c .pass .result .to - c .pass .result .from < 3
+      → Cuts (linesIn (order (at within)) (windowOf (now (start (at within) .args .numbers)))) (cornersOf (now (start (at within) .args .outline))) none
   none-left h =
       let f = so-far (at within) in
-      run-gone (is-order (at within)) (within .loop-test .taken) (next-side (order (at within)) (is-order (at within)) (at within .loop .k) (within .loop-test .taken) (f .0)) (c .pass .ensures) (f .1) h
+      run-gone (is-order (at within)) (within .loop-test .taken) (next-side (order (at within)) (is-order (at within)) (at within .loop .k)
+      (within .loop-test .taken) (f .0)) (c .pass .ensures) (f .1) h
 
 -- ---- after a side that cuts nothing off
 over : (c : tie.In-loop Inv-loop μ-loop) → getD (now (start (at c) .args .cuts)) (side c) false ≡ false → Left-by c (at c .loop .p) (at c .loop .m)
 over c e =
     let l = at c .loop in
     let r = so-far (at c) .1 in
-    left c (l .p) (l .m) (passed-over (side c) (sides c (side c) (omega arith) e) r) (omega (arith, r .held .ring .three, ring-length (l .m) (l .p .from) (l .p .to - l .p .from)))
+    let place : getD (now (start (at c) .args .cuts)) (placeOf (sideAt (side c))) false ≡ false =
+    subst (λ (i : ℕ). getD (now (start (at c) .args .cuts)) i false ≡ false) (sym (place-side (side c) (omega arith))) e in
+    left c (l .p) (l .m) (passed-over (sideAt (side c)) (sides c (sideAt (side c)) place) r)
+    (omega (arith, r .held .ring .three, ring-length (l .m) (l .p .from) (l .p .to - l .p .from)))
 
 sub-if2 : tie.Need-sub-if2 Inv-loop μ-loop
 sub-if2 c = c .before .before .pass .ensures .order
@@ -164,7 +180,8 @@ returns-2 c =
     let a = c .before in
     let s = start a in
     let e : a .loop .k ≡ 4 = omega arith in
-    run-ended (is-order a) (omega (arith, s .pre .1 .1 .1 .1 .0, a .loop .inv .1)) (subst (Running (windowOf (now (s .args .numbers))) (order a) (now (s .args .outline)) (a .loop .m) (a .loop .p)) e (so-far a .1))
+    run-ended (is-order a) (omega (arith, s .pre .1 .1 .1 .1 .0, a .loop .inv .1))
+    (subst (Running (windowOf (now (s .args .numbers))) (order a) (now (s .args .outline)) (a .loop .m) (a .loop .p)) e (so-far a .1))
 
 pub go-on-spec : {M : Type 1} → statement M
 go-on-spec =

@@ -5,8 +5,8 @@ use native.Mathlib.Omega.{arith}
 use borrow.Author.Needs.{needs}
 use denote.Ref.{now}
 use lib.ListN.{length}
-use Rattle.passes.specs.Memory.{ringIn}
-use Rattle.passes.proofs.Memories.{ring-length}
+use Rattle.memory.specs.Memory.{ringIn}
+use Rattle.memory.proofs.Memories.{ring-length}
 use Rattle.lowest.proofs.Lowest.{turned-at, lowest-starts}
 use Rattle.writing.proofs.Writing.{gave-short, gave-wrote}
 use Rattle.writing.proofs.give_ring.Statement.{statement}

@@ -9,8 +9,8 @@ use lib.ListN.{length, take, drop, length-take, length-drop}
 use Rattle.rings.specs.Lists.{All}
 use Rattle.rings.specs.Points.{Proper}
 use Rattle.rings.proofs.Lists.{all-left, all-right, turned-all}
-use Rattle.passes.specs.Memory.{ringFrom, ringIn}
-use Rattle.passes.proofs.Memories.{ring-length}
+use Rattle.memory.specs.Memory.{ringFrom, ringIn}
+use Rattle.memory.proofs.Memories.{ring-length}
 use Rattle.lowest.specs.Lowest.{startedAt}
 use Rattle.lowest.proofs.Lowest.{turned-at}
 use Rattle.lowest.proofs.Memory.{ring-part, started-in}

@@ -1,0 +1,3 @@
+pub mod SideStrokes
+pub mod Outlines
+pub mod Meetings

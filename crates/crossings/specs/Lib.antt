@@ -1,0 +1,3 @@
+pub mod Outlines
+pub mod Tags
+pub mod Meetings

@@ -1,0 +1,2 @@
+pub mod OwnEnds
+pub mod FirstPass

@@ -1,0 +1,4 @@
+pub mod Sides
+pub mod Limits
+pub mod Runs
+pub mod Owned

@@ -1,0 +1,5 @@
+pub mod Pieces
+pub mod Held
+pub mod Ends
+pub mod Passing
+pub mod Loaded
