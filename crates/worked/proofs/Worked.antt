@@ -16,8 +16,8 @@ use Rattle.fraction.specs.Fraction.{lessThan}
 use Rattle.fraction.proofs.Computed.{euclid, lowestOf, nearestToZero, roundedAt}
 use Rattle.grid.specs.declared.Answer.{Answer}
 use Rattle.grid.specs.declared.Stroke.{Stroke}
-use Rattle.grid.specs.Calls.{answered, written}
-use Rattle.grid.specs.Refusals.{first, offTable, noArea, windowRefusal, strokeRefusal}
+use Rattle.grid.specs.Calls.{written, answeredBy}
+use Rattle.grid.specs.Refusals.{first, offTable, noArea, windowRefusal, strokeRefusal, roomRefusal}
 use Rattle.grid.specs.Table.{onTable, firstOff}
 use Rattle.outlines.specs.Outlines.{badOrder, rightCount, badOutline, unlessConvex, outlineRefusal, Outline}
 use Rattle.outlines.proofs.Computed.{keptOf, addedOf, passOf, cutOf, cutsOf, isBefore, leastOf, startOf, ringOf, outlineOf, answerOf, outputOf}
@@ -46,7 +46,7 @@ outline-holds : {zs : List ℤ} {expected : Answer} {output : List ℤ} → answ
 outline-holds {zs} p q = record { in-order = λ o l a after h. let k = any-order l (omega arith) h (outlines.answer-is ten 0 zs (zeros 32)) in (k .0 ∙ p, k .1 ∙ q) }
 
 pub worked : All Holds table
-unfolding table countedOf countOf stepOf meetingOf sideOf code decision trailingZeros strokeCallRefusal strokeRefusal strokeAnswerOf clippedOf spanOf acrossOf cutBy lessThan roundedAt nearestToZero answerOf outputOf answered written outlineOf ringOf cutsOf cutOf passOf keptOf addedOf meet isBefore leastOf startOf numbersOf euclid lowestOf outlineRefusal first windowRefusal noArea badOrder badOutline rightCount offTable firstOff onTable unlessConvex strictlyConvex every next joins isLeft cornersOf value through sidesIn linesIn left-side right-side bottom-side top-side
+unfolding table countedOf countOf stepOf meetingOf sideOf code decision trailingZeros strokeCallRefusal strokeRefusal strokeAnswerOf clippedOf spanOf acrossOf cutBy lessThan roundedAt nearestToZero answerOf outputOf answeredBy roomRefusal written outlineOf ringOf cutsOf cutOf passOf keptOf addedOf meet isBefore leastOf startOf numbersOf euclid lowestOf outlineRefusal first windowRefusal noArea badOrder badOutline rightCount offTable firstOff onTable unlessConvex strictlyConvex every next joins isLeft cornersOf value through sidesIn linesIn left-side right-side bottom-side top-side
 worked =
     stroke-holds refl ◂ stroke-holds refl ◂ stroke-holds refl ◂ stroke-holds refl ◂ stroke-holds refl ◂ stroke-holds refl ◂ stroke-holds refl
     ◂ outline-holds refl refl ◂ outline-holds refl refl ◂ outline-holds refl refl ◂ outline-holds refl refl ◂ outline-holds refl refl ◂ ∅
