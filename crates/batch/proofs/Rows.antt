@@ -34,7 +34,8 @@ pub rows-unique : {w : Window} {zs xs ys : List ℤ} → RowsOf w zs xs → Rows
 rows-unique p q = p .are ∙ ap (rows 0) (each-unique (p .clipped) (q .clipped)) ∙ sym (q .are)
 
 -- two results of the batch are equal, answer and output
-pub batch-unique : {w : Window} {zs : List ℤ} {a b : Answer} {before after after′ : List ℤ} → Batch w zs a before after → Batch w zs b before after′ → (a ≡ b) × (after ≡ after′)
+pub batch-unique : {w : Window} {zs : List ℤ} {a b : Answer} {before after after′ : List ℤ} → Batch w zs a before after → Batch w zs b before after′
+    → (a ≡ b) × (after ≡ after′)
 batch-unique {w} {zs} p q = call-unique (batchRefusal w zs) (λ xs ys. rows-unique) p q
 
 -- ---- the rows of the computed answers
@@ -66,7 +67,8 @@ module _ (w : Window) (zs : List ℤ) (p : ℕ) where
   rows-none h = rw (strokes-none zs p h)
 
 -- ---- what is to be written from the place p on, by the cut of the stroke there
-module _ {w : Window} {zs : List ℤ} {c : Cut} {s : Stroke} (p : ℕ) (on : WindowOnTable w) (t : StrokesOnTable zs) (h : p + 4 ≤ length zs) (e : s ≡ strokeAt zs p) (k : CutIs w s c) where
+module _ {w : Window} {zs : List ℤ} {c : Cut} {s : Stroke} (p : ℕ) (on : WindowOnTable w) (t : StrokesOnTable zs) (h : p + 4 ≤ length zs) (e : s ≡ strokeAt zs p)
+    (k : CutIs w s c) where
   first-row : {a : StrokeAnswer} → Clipped w (strokeAt zs p) a → rowsFrom w zs p ≡ row (p / 4) a ++ rowsFrom w zs (p + 4)
   first-row q = rows-more w zs p h ∙ ap (λ (a : StrokeAnswer). row (p / 4) a ++ rowsFrom w zs (p + 4)) (clipped-unique (clippedOf-is on (stroke-of-list p t h)) q)
 
@@ -83,7 +85,8 @@ module _ {w : Window} {zs : List ℤ} {c : Cut} {s : Stroke} (p : ℕ) (on : Win
 row-length : (n : ℕ) (a : StrokeAnswer) {k : Bool} → a .kept ≡ k → length (row n a) ≡ length (if k then pos n ∷ a .ax ∷ a .ay ∷ a .bx ∷ a .by ∷ [] else [])
 row-length n a q = ap (λ (k : Bool). length (if k then pos n ∷ a .ax ∷ a .ay ∷ a .bx ∷ a .by ∷ [] else [])) q
 
-module _ {w : Window} {zs : List ℤ} {b : Bool} {s : Stroke} (p : ℕ) (on : WindowOnTable w) (t : StrokesOnTable zs) (h : p + 4 ≤ length zs) (e : s ≡ strokeAt zs p) (k : KeepsAny w s b) where
+module _ {w : Window} {zs : List ℤ} {b : Bool} {s : Stroke} (p : ℕ) (on : WindowOnTable w) (t : StrokesOnTable zs) (h : p + 4 ≤ length zs) (e : s ≡ strokeAt zs p)
+    (k : KeepsAny w s b) where
   abbrev answer : StrokeAnswer
   answer = clippedOf w (strokeAt zs p)
 

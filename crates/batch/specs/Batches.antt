@@ -5,17 +5,16 @@
 --   RowsOf w zs xs    xs are the rows of the strokes of the list zs, each with the answer of the single call
 --   batchRefusal w zs what the batch refuses: 2, 3, 5, then 6
 --   Batch w zs a before after   the batch's answer, and its output before and after
---   Wrote w zs n before after   the rows are written from the front, n numbers in all
+--   WroteRows w zs n before after   the rows are written from the front, n numbers in all
 use mathlib.Core.Path.{_≡_}
 use mathlib.Core.List.{List, [], _∷_, _++_}
 use Prim.Native.Nat.{ℕ, suc}
 use lib.IntN.{ℤ, pos}
-use lib.ListN.{length}
 use Rattle.whole.specs.Choice.{if_then_else_}
 use Rattle.grid.specs.declared.Answer.{Answer}
 use Rattle.grid.specs.declared.Refusal.{Refusal}
 use Rattle.grid.specs.declared.Window.{Window}
-use Rattle.grid.specs.Calls.{Call, written}
+use Rattle.grid.specs.Calls.{Call, GaveNumbers}
 use Rattle.grid.specs.Refusals.{first, windowRefusal, strokesRefusal}
 use Rattle.grid.specs.Table.{strokesOf}
 use Rattle.strokes.specs.Strokes.{Clipped}
@@ -43,8 +42,5 @@ batchRefusal w zs = first (windowRefusal w ∷ strokesRefusal zs ∷ [])
 abbrev pub Batch : Window → List ℤ → Answer → List ℤ → List ℤ → Type 0
 Batch w zs = Call (batchRefusal w zs) (RowsOf w zs)
 
-pub record Wrote (w : Window) (zs : List ℤ) (n : ℕ) (before after : List ℤ) : Type 0 where
-  pub numbers : List ℤ
-  pub are : RowsOf w zs numbers
-  pub count : n ≡ length numbers
-  pub output : after ≡ written numbers before
+abbrev pub WroteRows : Window → List ℤ → ℕ → List ℤ → List ℤ → Type 0
+WroteRows w zs = GaveNumbers (RowsOf w zs)

@@ -9,7 +9,7 @@ ghost use lib.IntN.{ℤ};
 ghost use lib.ListN.{length};
 ghost use lib.Seq.{sets};
 ghost use Rattle.grid.specs.Table.{WindowOnTable, StrokesOnTable};
-ghost use Rattle.batch.specs.Batches.{RowsOf, Batch, Wrote};
+ghost use Rattle.batch.specs.Batches.{RowsOf, Batch, WroteRows};
 
 // Puts a kept stroke's index and points from n on.
 fn put(out: &mut [i32], n: usize, k: i32, c: Cut)
@@ -49,7 +49,7 @@ fn write_rows(w: Window, s: &[i32], out: &mut [i32]) -> usize
     requires { ⌜ WindowOnTable w ⌝ }
     requires { ⌜ StrokesOnTable (now s) ⌝ }
     requires { ⌜ ((xs : List ℤ) → RowsOf w (now s) xs → length xs ≤ length (now out)) ⌝ }
-    ensures { λ r. ⌜ Wrote w (now (s .entry)) r (now (out .entry)) (now (out .exit)) ⌝ }
+    ensures { λ r. ⌜ WroteRows w (now (s .entry)) r (now (out .entry)) (now (out .exit)) ⌝ }
 {
     let mut n = 0;
     let mut k: u32 = 0;
@@ -72,40 +72,19 @@ pub fn batch(w: Window, s: &[i32], out: &mut [i32]) -> Answer
 {
     let a = grid::window_refusal(w);
     if a.number != 0 {
-        return Answer {
-            number: a.number,
-            place: a.place,
-            count: 0,
-        };
+        return grid::refused_by(a);
     }
     let b = grid::strokes_refusal(s);
     if b.number != 0 {
-        return Answer {
-            number: b.number,
-            place: b.place,
-            count: 0,
-        };
+        return grid::refused_by(b);
     }
-    if s.len() / 4 * 5 <= out.len() {
-        let n = write_rows(w, s, out);
-        return Answer {
-            number: 0,
-            place: 0,
-            count: n,
-        };
+    let room = out.len();
+    if s.len() / 4 * 5 <= room {
+        return grid::given(write_rows(w, s, out), room);
     }
     let needed = count_rows(w, s);
-    if out.len() < needed {
-        return Answer {
-            number: grid::NO_ROOM,
-            place: needed,
-            count: 0,
-        };
+    if needed <= room {
+        return grid::given(write_rows(w, s, out), room);
     }
-    let n = write_rows(w, s, out);
-    Answer {
-        number: 0,
-        place: 0,
-        count: n,
-    }
+    grid::given(needed, room)
 }

@@ -19,24 +19,13 @@ ghost use Rattle.crossings.specs.Outlines.{OutlineOnTable};
 ghost use Rattle.crossings.specs.Tags.{strokeFrom, edgeOf, sideStroke, sideTag, Named};
 ghost use Rattle.crossings.specs.Meetings.{Meets, Meeting};
 
-// Of n corners the one that comes after the corner k: after the last the first.
-fn next_of(k: usize, n: usize) -> usize
-    requires { ⌜ k < n ⌝ }
-    ensures { λ r. ⌜ r ≡ next n k ⌝ }
-{
-    if k + 1 == n {
-        return 0;
-    }
-    k + 1
-}
-
 // The outline's edge from its corner k to the next.
 fn edge(outline: &[i32], k: usize) -> Stroke
     requires { ⌜ length (now outline) % 2 ≡ 0 ⌝ }
     requires { ⌜ k < length (now outline) / 2 ⌝ }
     ensures { λ r. ⌜ r ≡ edgeOf (now (outline .entry)) k ⌝ }
 {
-    let next = next_of(k, outline.len() / 2);
+    let next = convex::next_of(k, outline.len() / 2);
     Stroke {
         x1: outline[2 * k],
         y1: outline[2 * k + 1],

@@ -1,23 +1,23 @@
 -- A reading with room for every drawing refuses it, or gives all of its strokes; the batch, with room for all of them, refuses none.
-use mathlib.Core.Path.{_≡_, refl, sym, ap, ap₂, _∙_, subst}
+use mathlib.Core.Path.{_≡_, refl, sym, ap, _∙_, subst}
 use mathlib.Core.Bool.{Bool, true, false}
 use mathlib.Core.List.{List, [], _∷_, _++_}
 use Prim.Native.Nat.{ℕ, suc, _+_, _*_, _/_, _%_, _≤_}
 use native.Mathlib.Omega.{arith}
-use borrow.Author.Tests.{eqb-true, eqb-false, ne-eqb, le-leb}
+use borrow.Author.Tests.{eqb-true, eqb-false, le-leb}
 use lib.Dec.{eqb}
 use lib.IntN.{ℤ, pos}
 use lib.ListN.{length, take, drop}
 use lib.Seq.{take-at}
 use Rattle.whole.specs.Choice.{if_then_else_}
-use Rattle.grid.specs.Calls.{refusedBy, answered, written, Call}
-use Rattle.grid.specs.Refusals.{refuse, first, noArea, windowRefusal, strokesRefusal, mostStrokes}
+use Rattle.grid.specs.Calls.{written, answeredBy, GivenBy}
+use Rattle.grid.specs.Refusals.{refuse, first, noArea, windowRefusal, strokesRefusal, roomRefusal, mostStrokes}
 use Rattle.grid.specs.declared.Answer.{Answer}
 use Rattle.grid.specs.declared.Refusal.{Refusal}
 use Rattle.grid.specs.declared.Stroke.{Stroke}
 use Rattle.grid.specs.declared.Window.{Window}
 use Rattle.grid.proofs.Refusals.{goes-on}
-use Rattle.drawing.specs.Drawings.{Drawing, fault, drawn, Means, numbersOf, numbers, refusal, refused, told, ReadDrawing}
+use Rattle.drawing.specs.Drawings.{Drawing, fault, drawn, Means, numbersOf, refused, told, Reads, ReadDrawing}
 use Rattle.drawing.specs.declared.DrawingAnswer.{DrawingAnswer}
 use Rattle.drawing.proofs.Strokes.{four-each}
 use Rattle.drawing.proofs.Theorems.{few-strokes, on-table}
@@ -27,23 +27,17 @@ use Rattle.batch.proofs.Rows.{rows-of-short}
 use Rattle.cutting.specs.Sheets.{refusedSheet, CutDrawing, faulty, no-area}
 use Rattle.cutting.specs.declared.Sheet.{Sheet}
 
--- a list that is written where it has room stands at the front
-written-front : (xs out : List ℤ) → length xs ≤ length out → take (length xs) (written xs out) ≡ xs
-unfolding written
-written-front xs out h = rw (le-leb (length xs) (length out) h) (take-at xs (drop (length xs) out) (length xs) refl)
+-- a list that is given where it has room: the whole answer, and the list at the front
+module _ {A : Type 0} {blank : Refusal → A} {full : List ℤ → A} {Gives : List ℤ → Type 0} {a : A} {before after : List ℤ} where
+  whole-answer : (g : GivenBy blank full Gives a before after) → length (g .numbers) ≤ length before → a ≡ full (g .numbers)
+  unfolding answeredBy roomRefusal
+  whole-answer g h = g .answer ∙ rw (le-leb _ _ h)
+
+  at-front : (g : GivenBy blank full Gives a before after) → length (g .numbers) ≤ length before → take (length (g .numbers)) after ≡ g .numbers
+  unfolding written
+  at-front g h = rw (g .output, le-leb _ _ h) (take-at (g .numbers) (drop (length (g .numbers)) before) (length (g .numbers)) refl)
 
 -- ---- the reading
-
--- the answer, by the call that is behind it
-abbrev answerBy : Drawing → Answer → DrawingAnswer
-answerBy d c = if eqb (c .number) 0 then told d else refused (refuse (c .number) (c .place))
-
-refused-by : (d : Drawing) {c : Answer} (n p : ℕ) → (n ≡ 0 → ⊥) → c ≡ refusedBy (refuse n p) → answerBy d c ≡ refused (refuse n p)
-refused-by d {c} n p h e = ap (answerBy d) e ∙ rw (ne-eqb n 0 h)
-
-answers : (w : Window) (ss : List Stroke) {room : ℕ} → length (numbersOf ss) ≤ room → answerBy (drawn w ss) (answered (numbersOf ss) room) ≡ told (drawn w ss)
-unfolding answered
-answers w ss h = rw (le-leb _ _ h)
 
 abbrev pub asSheet : DrawingAnswer → Sheet
 asSheet a = record { number = a .number; place = a .place; window = a .window; drawn = 0; kept = 0 }
@@ -62,32 +56,35 @@ pub record Read (bs : List ℕ) (a : DrawingAnswer) (after : List ℤ) : Type 0 
   pub refuses : (a .number ≡ 0 → ⊥) → (rows : List ℤ) → CutDrawing bs (asSheet a) after rows
   pub draws : a .number ≡ 0 → Drawn bs a after
 
-refusing : {bs : List ℕ} {a : DrawingAnswer} {after : List ℤ} (n p : ℕ) → a ≡ refused (refuse n p) → (n ≡ 0 → ⊥) → ((rows : List ℤ) → CutDrawing bs (refusedSheet n p) after rows) → Read bs a after
+refusing : {bs : List ℕ} {a : DrawingAnswer} {after : List ℤ} (n p : ℕ) → a ≡ refused (refuse n p) → (n ≡ 0 → ⊥)
+    → ((rows : List ℤ) → CutDrawing bs (refusedSheet n p) after rows) → Read bs a after
 refusing {bs} {a} {after} n p e h r = record {
   refuses = λ _ rows. subst (λ (x : DrawingAnswer). CutDrawing bs (asSheet x) after rows) (sym e) (r rows);
   draws = λ z. absurd (h (sym (ap (λ (x : DrawingAnswer). x .number) e) ∙ z));
 }
 
-pub read : {bs : List ℕ} {a : DrawingAnswer} {before after : List ℤ} → 16384 ≤ length before → length after ≡ length before → ReadDrawing bs a before after → Read bs a after
-read {bs} {a} {before} {after} room same r = go (r .drawing) (r .means) (r .gives) (r .answer)
+pub read : {bs : List ℕ} {a : DrawingAnswer} {before after : List ℤ} → 16384 ≤ length before → length after ≡ length before → ReadDrawing bs a before after
+    → Read bs a after
+read {bs} {a} {before} {after} room same r = go (r .drawing) (r .means) (r .call)
   where
-    go : (d : Drawing) → Means bs d → Call (refusal d) (λ xs. xs ≡ numbers d) (r .call) before after → a ≡ answerBy d (r .call) → Read bs a after
-    go (fault place) m g e =
+    go : (d : Drawing) → Means bs d → Reads d a before after → Read bs a after
+    go (fault place) m g =
         let n : _≡_ {A = ℕ} 11 0 → ⊥ = λ z. omega arith in
-        refusing 11 0 (e ∙ refused-by (fault place) 11 0 n (g .refused n .answer)) n (λ rows. faulty m)
-    go (drawn w ss) m g e = by (eqb (noArea w .number) 0) refl
+        refusing 11 0 (g .refused n .answer) n (λ rows. faulty m)
+    go (drawn w ss) m g = by (eqb (noArea w .number) 0) refl
       where
         by : (b : Bool) → eqb (noArea w .number) 0 ≡ b → Read bs a after
         by false z =
             let n = eqb-false (noArea w .number) 0 z in
-            refusing (noArea w .number) (noArea w .place) (e ∙ refused-by (drawn w ss) (noArea w .number) (noArea w .place) n (g .refused n .answer)) n (λ rows. no-area m n)
+            refusing (noArea w .number) (noArea w .place) (g .refused n .answer) n (λ rows. no-area m n)
         by true z =
             let n = eqb-true (noArea w .number) 0 z in
-            let t = g .given n in
+            let t = g .done n in
+            let xs = t .numbers in
             let few : length ss ≤ 4096 = few-strokes bs m in
-            let long : length (numbersOf ss) ≡ 4 * length ss = four-each ss in
-            let fits : length (numbersOf ss) ≤ length before = omega arith in
-            let done : a ≡ told (drawn w ss) = e ∙ ap (answerBy (drawn w ss)) (t .answer ∙ ap (λ (xs : List ℤ). answered xs (length before)) (t .gives)) ∙ answers w ss fits in
+            let long : length xs ≡ 4 * length ss = ap length (t .gives) ∙ four-each ss in
+            let fits : length xs ≤ length before = omega arith in
+            let done : a ≡ told (drawn w ss) = whole-answer t fits in
             record {
               refuses = λ h rows. absurd (h (ap (λ (x : DrawingAnswer). x .number) done));
               draws = λ _. subst (λ (x : DrawingAnswer). Drawn bs x after) (sym done) (record {
@@ -97,7 +94,7 @@ read {bs} {a} {before} {after} room same r = go (r .drawing) (r .means) (r .give
                 few = few;
                 count = refl;
                 fits = omega arith;
-                start = ap₂ take {x = length ss * 4} {y = length (numbersOf ss)} (omega arith) (t .output ∙ ap (λ (xs : List ℤ). written xs before) (t .gives)) ∙ written-front (numbersOf ss) before fits;
+                start = ap (λ (k : ℕ). take k after) {x = length ss * 4} {y = length xs} (omega arith) ∙ at-front t fits ∙ t .gives;
               });
             }
 
@@ -120,10 +117,6 @@ pub record Kept (w : Window) (zs : List ℤ) (b : Answer) (after : List ℤ) : T
   pub count : b .count / 5 * 5 ≡ length numbers
   pub start : take (b .count / 5 * 5) after ≡ numbers
 
-answered-all : (xs : List ℤ) {room : ℕ} → length xs ≤ room → answered xs room ≡ record { number = 0; place = 0; count = length xs }
-unfolding answered
-answered-all xs h = rw (le-leb _ _ h)
-
 nothing-refused : (bs : List ℕ) {w : Window} {ss : List Stroke} → Means bs (drawn w ss) → noArea w .number ≡ 0 → batchRefusal w (numbersOf ss) .number ≡ 0
 unfolding batchRefusal first
 nothing-refused bs {w} {ss} m n =
@@ -135,10 +128,10 @@ pub kept : {bs : List ℕ} {a : DrawingAnswer} {out : List ℤ} {b : Answer} {be
     → Batch (a .window) (take (a .count * 4) out) b before after → Kept (a .window) (numbersOf (d .lines)) b after
 kept {bs} {a} {b = b} {before = before} {after = after} d room q =
     let ss = d .lines in
-    let g = subst (λ (zs : List ℤ). Batch (a .window) zs b before after) (d .start) q .given (nothing-refused bs (d .means) (d .area)) in
+    let g = subst (λ (zs : List ℤ). Batch (a .window) zs b before after) (d .start) q .done (nothing-refused bs (d .means) (d .area)) in
     let xs = g .numbers in
     let fits : length xs ≤ length before = omega (arith, d .few, rows-of-short (g .gives), four-each ss) in
-    let done : b ≡ record { number = 0; place = 0; count = length xs } = g .answer ∙ answered-all xs fits in
+    let done : b ≡ record { number = 0; place = 0; count = length xs } = whole-answer g fits in
     let whole : length xs / 5 * 5 ≡ length xs = omega (arith, ap length (g .gives .are), rows-by-five 0 (g .gives .answers)) in
     let count : b .count / 5 * 5 ≡ length xs = ap (λ (x : Answer). x .count / 5 * 5) done ∙ whole in
     record {
@@ -147,5 +140,5 @@ kept {bs} {a} {b = b} {before = before} {after = after} d room q =
       numbers = xs;
       are = g .gives;
       count = count;
-      start = ap₂ take count (g .output) ∙ written-front xs before fits;
+      start = ap (λ (k : ℕ). take k after) count ∙ at-front g fits;
     }

@@ -43,7 +43,9 @@ same-cut : {bs : List ℕ} {a b : Sheet} {s t x y : List ℤ} → Cut bs a s x �
 same-cut {bs} {a} {b} c d =
     let w : a .window ≡ b .window = window-of bs (c .means) (d .means) in
     let l : c .lines ≡ d .lines = lines-of bs (c .means) (d .means) in
-    let r : c .kept-rows ≡ d .kept-rows = rows-unique (c .are) (subst (λ (v : Window). RowsOf v (numbersOf (c .lines)) (d .kept-rows)) (sym w) (subst (λ (ss : List Stroke). RowsOf (b .window) (numbersOf ss) (d .kept-rows)) (sym l) (d .are))) in
+    let r : c .kept-rows ≡ d .kept-rows = rows-unique (c .are)
+    (subst (λ (v : Window). RowsOf v (numbersOf (c .lines)) (d .kept-rows)) (sym w)
+    (subst (λ (ss : List Stroke). RowsOf (b .window) (numbersOf ss) (d .kept-rows)) (sym l) (d .are))) in
     let k : a .kept ≡ b .kept = omega (arith, c .kept-count, d .kept-count, ap length r) in
     let n : a .drawn ≡ b .drawn = c .count ∙ ap length l ∙ sym (d .count) in
     let z : a .number ≡ b .number = c .number ∙ sym (d .number) in

@@ -23,7 +23,8 @@ by-computed e = record { intake = computed; points = λ p. to-point p refl; wind
 -- of two numbers, the place of the first that is refused
 pub point-place : {p : PointMm} {a : PointAnswer} → PointToGrid p a → a .place ≤ 1
 unfolding first pointFault pointAnswer
-point-place r = subst (λ (a : PointAnswer). a .place ≤ 1) (sym (r .answer)) (by-test (eqb (pointFault (r .x) (r .y) .number) 0) (λ (a : PointAnswer). a .place ≤ 1) (λ _. zero-le) (λ _. fault))
+point-place r = subst (λ (a : PointAnswer). a .place ≤ 1) (sym (r .answer))
+    (by-test (eqb (pointFault (r .x) (r .y) .number) 0) (λ (a : PointAnswer). a .place ≤ 1) (λ _. zero-le) (λ _. fault))
   where
     fault : pointFault (r .x) (r .y) .place ≤ 1
     fault =

@@ -1,34 +1,18 @@
--- The head of the bytes: what is known where it has no fault, and that a drawing's head has none.
+-- A drawing's head has no fault: what is known of its records.
 use mathlib.Core.Path.{_≡_}
-use mathlib.Core.Bool.{Bool, true, false, not, _||_}
 use mathlib.Core.List.{List}
-use Prim.Native.Nat.{ℕ, _+_, _≤_}
+use Prim.Native.Nat.{ℕ}
 use native.Mathlib.Omega.{arith}
-use borrow.Author.Tests.{eqb-true, ltb-false}
-use lib.Dec.{eqb, ltb}
-use lib.ListN.{length, getD}
-use Rattle.whole.proofs.Comparisons.{by-test, tt-ff}
+use borrow.Author.Tests.{eqb-true}
+use lib.Dec.{eqb}
+use Rattle.whole.proofs.Comparisons.{by-test}
 use Rattle.grid.specs.declared.Window.{Window}
 use Rattle.grid.specs.declared.Stroke.{Stroke}
+use Rattle.format.specs.Format.{headSize, headFault, windowAt}
 use Rattle.drawing.specs.Intake.{Intake}
-use Rattle.drawing.specs.Format.{numberAt, mostBytes, headSize, headFault, windowAt}
 use Rattle.drawing.specs.Pen.{fresh}
 use Rattle.drawing.specs.Drawings.{Drawing, fault, drawn, meaning}
 use Rattle.drawing.proofs.Walks.{rest}
-
-second : (a b : Bool) → (a || b) ≡ false → b ≡ false
-second true b e = absurd (tt-ff e)
-second false b e = e
-
--- a head without a fault is whole, and the file is not too long
-pub whole-head : (bs : List ℕ) → headFault bs ≡ headSize → (headSize ≤ length bs) × (length bs ≤ mostBytes)
-unfolding headFault
-whole-head bs =
-    let P : ℕ → Type 0 = λ k. k ≡ headSize → (headSize ≤ length bs) × (length bs ≤ mostBytes) in
-    by-test (not (eqb (numberAt bs 0 + 4) (length bs)) || ltb mostBytes (length bs)) P (λ _ e. absurd (omega arith)) λ h.
-    by-test (not (eqb (getD bs 4 0) 1)) P (λ _ e. absurd (omega arith)) λ _.
-    by-test (ltb (length bs) headSize) P (λ _ e. absurd (omega arith)) λ k e.
-    (ltb-false (length bs) headSize k, ltb-false mostBytes (length bs) (second (not (eqb (numberAt bs 0 + 4) (length bs))) (ltb mostBytes (length bs)) h))
 
 module _ (intake : Intake) (bs : List ℕ) where
   -- what the records mean

@@ -1,4 +1,3 @@
-pub mod Patterns
 pub mod Computed
 pub mod Points
 pub mod Turns

@@ -17,13 +17,13 @@ use Rattle.grid.specs.declared.Stroke.{Stroke}
 use Rattle.grid.specs.declared.Window.{Window}
 use Rattle.intake.proofs.Answers.{to-point, to-window}
 use Rattle.intake.proofs.Theorems.{point-on-table, window-on-table}
-use Rattle.drawing.specs.Format.{headSize, windowAt, recordAt}
-use Rattle.drawing.specs.Pen.{same, fresh, after, turn, turnAt, stroke}
+use Rattle.format.specs.Format.{headSize, windowAt, recordAt}
+use Rattle.drawing.specs.Pen.{same, fresh, after, turn, turnAt, drawnStroke}
 use Rattle.drawing.specs.Drawings.{Drawing, fault, drawn, inFront, onward, walk, meaning, numbersOf}
-use Rattle.drawing.specs.declared.format.Step.{Step}
-use Rattle.drawing.specs.declared.format.Step.the-variants as Step
-use Rattle.drawing.specs.declared.format.Found.{Found}
-use Rattle.drawing.specs.declared.format.Found.the-variants as Found
+use Rattle.format.specs.declared.Step.{Step}
+use Rattle.format.specs.declared.Step.the-variants as Step
+use Rattle.format.specs.declared.Found.{Found}
+use Rattle.format.specs.declared.Found.the-variants as Found
 use Rattle.drawing.specs.declared.pen.Point.{Point}
 use Rattle.drawing.specs.declared.pen.Pen.{Pen}
 use Rattle.drawing.specs.declared.pen.Turn.{Turn}
@@ -75,12 +75,13 @@ module _ (at : ℕ) (pen : Pen) (h : PenOn pen) where
 
 -- ---- all turns
 
-stroke-on : (pen to : Pen) → PenOn pen → PenOn to → (d : Drawing) → DrawingOn d → DrawingOn (inFront (stroke pen to) d)
+stroke-on : (pen to : Pen) → PenOn pen → PenOn to → (d : Drawing) → DrawingOn d → DrawingOn (inFront (drawnStroke pen to) d)
 unfolding numbersOf firstOff
 stroke-on pen to p q (fault place) h = tt
 stroke-on pen to p q (drawn w ss) h = simp (p .0 .0, p .0 .1, q .0 .0, q .0 .1, h)
 
-onward-on : (w : Window) (pen : Pen) (r : ℕ → Pen → Drawing) → PenOn pen → ((next : ℕ) (to : Pen) → PenOn to → DrawingOn (r next to)) → (t : Turn) → TurnOn t → DrawingOn (onward w pen r t)
+onward-on : (w : Window) (pen : Pen) (r : ℕ → Pen → Drawing) → PenOn pen → ((next : ℕ) (to : Pen) → PenOn to → DrawingOn (r next to)) → (t : Turn) → TurnOn t
+    → DrawingOn (onward w pen r t)
 unfolding numbersOf firstOff
 onward-on w pen r h k Turn.End u = refl
 onward-on w pen r h k (Turn.Fault place) u = tt
@@ -100,13 +101,19 @@ strokes-taken bs w ss e =
     let on = subst DrawingOn (opened computed bs w ss e .drawing) (walk-on bs v (length bs) headSize fresh ((refl, refl), (refl, refl))) in
     let few = kept computed bs w ss e .1 in
     let l = four-each ss in
-    simp (eq-eqb (length (numbersOf ss) % 4) 0 (omega arith), le-leb (length (numbersOf ss)) (4 * mostStrokes) (omega arith), on, le-ltb (length (numbersOf ss)) (length (numbersOf ss)) (omega arith))
+    simp (
+      eq-eqb (length (numbersOf ss) % 4) 0 (omega arith),
+      le-leb (length (numbersOf ss)) (4 * mostStrokes) (omega arith),
+      on,
+      le-ltb (length (numbersOf ss)) (length (numbersOf ss)) (omega arith),
+    )
 
 -- ---- the window, of which only the area may be refused
 
 on-four : (w : Window) → onTable (w .left) ≡ true → onTable (w .bottom) ≡ true → onTable (w .right) ≡ true → onTable (w .top) ≡ true → windowRefusal w ≡ noArea w
 unfolding windowRefusal offTable firstOff first noArea
-on-four w l b r t = simp (l, b, r, t) (by-test (ltZ (w .left) (w .right) && ltZ (w .bottom) (w .top)) (λ (f : Refusal). (if eqb (f .number) 0 then none else f) ≡ f) (λ _. refl) (λ _. refl))
+on-four w l b r t = simp (l, b, r, t)
+    (by-test (ltZ (w .left) (w .right) && ltZ (w .bottom) (w .top)) (λ (f : Refusal). (if eqb (f .number) 0 then none else f) ≡ f) (λ _. refl) (λ _. refl))
 
 pub area-only : (bs : List ℕ) (w : Window) (ss : List Stroke) → meaning computed bs ≡ drawn w ss → windowRefusal w ≡ noArea w
 area-only bs w ss e =

@@ -10,8 +10,9 @@ use Rattle.grid.specs.Table.{ends}
 use Rattle.grid.specs.Calls.{written}
 use Rattle.grid.specs.declared.Stroke.{Stroke}
 use Rattle.grid.proofs.Fill.{Filled, filled-start, filled-room, filled-put, filled-end}
-use Rattle.drawing.specs.Format.{mostBytes, headSize, windowAt}
-use Rattle.drawing.specs.Pen.{fresh, turnAt, stroke}
+use Rattle.format.specs.Format.{mostBytes, headSize, windowAt}
+use Rattle.format.proofs.Heads.{whole-head}
+use Rattle.drawing.specs.Pen.{fresh, turnAt, drawnStroke}
 use Rattle.drawing.specs.Drawings.{Drawing, fault, drawn, inFront, onward, meaning, numbersOf, numbers, Drawable}
 use Rattle.drawing.specs.declared.pen.Pen.{Pen}
 use Rattle.drawing.specs.declared.pen.Turn.{Turn}
@@ -20,7 +21,7 @@ use Rattle.drawing.proofs.Computed.{computed, is-computed}
 use Rattle.drawing.proofs.Turns.{led}
 use Rattle.drawing.proofs.Walks.{rest, turned}
 use Rattle.drawing.proofs.Strokes.{four-each}
-use Rattle.drawing.proofs.Heads.{whole-head, records, opened}
+use Rattle.drawing.proofs.Heads.{records, opened}
 
 -- no fault is met
 abbrev Drawn : Drawing → Type 0
@@ -62,7 +63,8 @@ module _ (bs : List ℕ) where
     -- what is still to come, as the turn leaves it
     ahead : {t : Turn} → turnAt computed bs at pen ≡ t
         → let d = onward (computed .window (windowAt bs) .window) pen left t in Drawn d × Filled all (numbers d) out out₀ (4 * pen .strokes)
-    ahead e = subst (λ (d : Drawing). Drawn d × Filled all (numbers d) out out₀ (4 * pen .strokes)) (turned computed bs (computed .window (windowAt bs) .window) at pen e) (p .sound, p .filled)
+    ahead e = subst (λ (d : Drawing). Drawn d × Filled all (numbers d) out out₀ (4 * pen .strokes))
+        (turned computed bs (computed .window (windowAt bs) .window) at pen e) (p .sound, p .filled)
 
     pub finishes : turnAt computed bs at pen ≡ Turn.End → out ≡ written (numbers (meaning computed bs)) out₀
     unfolding numbersOf
@@ -75,15 +77,29 @@ module _ (bs : List ℕ) where
     goes {to} {next} e =
         let a = ahead e in
         let n : to .strokes ≡ pen .strokes = led computed bs at pen e .2 in
-        record { small = p .small; means = p .means; room = p .room; sound = a .0; filled = subst (λ (k : ℕ). Filled all (numbers (left next to)) out out₀ (4 * k)) (sym n) (a .1) }
+        record {
+          small = p .small;
+          means = p .means;
+          room = p .room;
+          sound = a .0;
+          filled = subst (λ (k : ℕ). Filled all (numbers (left next to)) out out₀ (4 * k)) (sym n) (a .1);
+        }
 
     pub draws : {to : Pen} {next : ℕ} → turnAt computed bs at pen ≡ Turn.Draws to next
-        → (4 * pen .strokes + 4 ≤ length out) × Progress out₀ (sets out (4 * pen .strokes) (ends (stroke pen to))) next to
+        → (4 * pen .strokes + 4 ≤ length out) × Progress out₀ (sets out (4 * pen .strokes) (ends (drawnStroke pen to))) next to
     draws {to} {next} e =
         let a = ahead e in
-        let m = one-more (stroke pen to) (left next to) (a .0) in
-        let f : Filled all (ends (stroke pen to) ++ numbers (left next to)) out out₀ (4 * pen .strokes) = rw (m .1) at (a .1) in
+        let m = one-more (drawnStroke pen to) (left next to) (a .0) in
+        let f : Filled all (ends (drawnStroke pen to) ++ numbers (left next to)) out out₀ (4 * pen .strokes) = rw (m .1) at (a .1) in
         let n : 4 * pen .strokes + 4 ≡ 4 * to .strokes = omega (arith, led computed bs at pen e .2) in (
           omega (arith, filled-room f, p .room, f .same),
-          record { small = p .small; means = p .means; room = p .room; sound = m .0; filled = subst (Filled all (numbers (left next to)) (sets out (4 * pen .strokes) (ends (stroke pen to))) out₀) n (filled-put (ends (stroke pen to)) f (p .room)) },
+          record {
+            small = p .small;
+            means = p .means;
+            room = p .room;
+            sound = m .0;
+            filled =
+                subst (Filled all (numbers (left next to)) (sets out (4 * pen .strokes) (ends (drawnStroke pen to))) out₀) n
+                (filled-put (ends (drawnStroke pen to)) f (p .room));
+          },
         )

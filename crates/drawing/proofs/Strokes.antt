@@ -8,8 +8,8 @@ use Rattle.grid.specs.Refusals.{mostStrokes}
 use Rattle.grid.specs.declared.Window.{Window}
 use Rattle.grid.specs.declared.Stroke.{Stroke}
 use Rattle.drawing.specs.Intake.{Intake}
-use Rattle.drawing.specs.Format.{headSize, windowAt}
-use Rattle.drawing.specs.Pen.{fresh, turnAt, stroke}
+use Rattle.format.specs.Format.{headSize, windowAt}
+use Rattle.drawing.specs.Pen.{fresh, turnAt, drawnStroke}
 use Rattle.drawing.specs.Drawings.{Drawing, fault, drawn, inFront, onward, walk, meaning, numbersOf}
 use Rattle.drawing.specs.declared.pen.Pen.{Pen}
 use Rattle.drawing.specs.declared.pen.Turn.{Turn}
@@ -31,13 +31,14 @@ one-less : (w : Window) (n : ℕ) (s : Stroke) (d : Drawing) → Keeps w (n + 1)
 one-less w n s (fault place) k = tt
 one-less w n s (drawn v ss) k = (k .0, omega arith)
 
-turn-keeps : (w : Window) (n at : ℕ) (pen : Pen) (r : ℕ → Pen → Drawing) → pen .strokes ≤ mostStrokes → ((next : ℕ) (to : Pen) → to .strokes ≤ mostStrokes → Keeps w (to .strokes) (r next to))
+turn-keeps : (w : Window) (n at : ℕ) (pen : Pen) (r : ℕ → Pen → Drawing) → pen .strokes ≤ mostStrokes
+    → ((next : ℕ) (to : Pen) → to .strokes ≤ mostStrokes → Keeps w (to .strokes) (r next to))
     → (t : Turn) → Leaves n at pen t → Keeps w (pen .strokes) (onward w pen r t)
 turn-keeps w n at pen r h k Turn.End l = (refl, omega arith)
 turn-keeps w n at pen r h k (Turn.Fault place) l = tt
 turn-keeps w n at pen r h k (Turn.Goes to next) l = subst (λ (m : ℕ). Keeps w m (r next to)) (l .2) (k next to (omega arith))
 turn-keeps w n at pen r h k (Turn.Draws to next) l =
-    one-less w (pen .strokes) (stroke pen to) (r next to) (subst (λ (m : ℕ). Keeps w m (r next to)) (l .2) (k next to (omega arith)))
+    one-less w (pen .strokes) (drawnStroke pen to) (r next to) (subst (λ (m : ℕ). Keeps w m (r next to)) (l .2) (k next to (omega arith)))
 
 module _ (intake : Intake) (bs : List ℕ) (w : Window) where
   walk-keeps : (n at : ℕ) (pen : Pen) → pen .strokes ≤ mostStrokes → Keeps w (pen .strokes) (walk intake bs w n at pen)
@@ -45,7 +46,8 @@ module _ (intake : Intake) (bs : List ℕ) (w : Window) where
   walk-keeps zero at pen h = (refl, omega arith)
   walk-keeps (suc n) at pen h = turn-keeps w (length bs) at pen (walk intake bs w n) h (walk-keeps n) (turnAt intake bs at pen) (leaves intake bs at pen)
 
-pub kept : (intake : Intake) (bs : List ℕ) (w : Window) (ss : List Stroke) → meaning intake bs ≡ drawn w ss → (w ≡ intake .window (windowAt bs) .window) × (length ss ≤ mostStrokes)
+pub kept : (intake : Intake) (bs : List ℕ) (w : Window) (ss : List Stroke) → meaning intake bs ≡ drawn w ss
+    → (w ≡ intake .window (windowAt bs) .window) × (length ss ≤ mostStrokes)
 kept intake bs w ss e =
     let v = intake .window (windowAt bs) .window in
     let k = subst (Keeps v 0) (opened intake bs w ss e .drawing) (walk-keeps intake bs v (length bs) headSize fresh (omega arith)) in

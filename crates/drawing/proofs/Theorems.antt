@@ -5,30 +5,31 @@
 --   enough                   a walk of more steps than there are bytes means the same
 --   few-strokes, on-table    a drawing has no more than 4,096 strokes, and its numbers are on the table
 --   example, example-read    the worked example: what its 40 bytes mean, and its reading
-use mathlib.Core.Path.{_≡_, refl, sym, _∙_}
+use mathlib.Core.Path.{_≡_, refl, sym, _∙_, subst}
 use mathlib.Core.List.{List, [], _∷_}
 use Prim.Native.Nat.{ℕ, _≤_}
 use native.Mathlib.Omega.{arith}
 use lib.Ieee.{ofBits}
 use lib.IntN.{ℤ, pos, negsuc}
 use lib.ListN.{length}
-use Rattle.grid.specs.Refusals.{first, noArea, mostStrokes, windowRefusal, strokesRefusal}
-use Rattle.grid.specs.Calls.{answered, written}
+use Rattle.grid.specs.Refusals.{first, noArea, mostStrokes, windowRefusal, strokesRefusal, roomRefusal}
+use Rattle.grid.specs.Calls.{written, answeredBy}
 use Rattle.grid.specs.declared.Stroke.{Stroke}
 use Rattle.grid.specs.declared.Window.{Window}
+use Rattle.grid.proofs.Calls.{lent-done}
 use Rattle.intake.specs.Millimetres.{pointFault, pointAnswer, windowFault, windowAnswer}
 use Rattle.intake.proofs.Outcome.{outcome}
 use Rattle.drawing.specs.Intake.{Intake}
-use Rattle.drawing.specs.Format.{numberAt, floatAt, headFault, recordAt}
+use Rattle.format.specs.Format.{numberAt, floatAt, headFault, recordAt}
 use Rattle.drawing.specs.Pen.{equal, same, after, turnAt}
-use Rattle.drawing.specs.Drawings.{Drawing, fault, drawn, walk, meaning, Means, numbersOf, ReadDrawing}
+use Rattle.drawing.specs.Drawings.{Drawing, fault, drawn, walk, meaning, Means, numbersOf, Reads, ReadDrawing}
 use Rattle.drawing.specs.declared.DrawingAnswer.{DrawingAnswer}
 use Rattle.drawing.specs.declared.pen.Pen.{Pen}
 use Rattle.drawing.proofs.Computed.{computed, is-computed, by-computed}
 use Rattle.drawing.proofs.Walks.{steps-agree}
 use Rattle.drawing.proofs.Strokes.{kept}
 use Rattle.drawing.proofs.OnTable.{area-only, strokes-taken}
-use Rattle.drawing.proofs.Readings.{readAnswer, readOutput, to-reading, reading-is}
+use Rattle.drawing.proofs.Readings.{readAnswer, readOutput, reads, reads-unique, to-reading}
 
 module _ (bs : List ℕ) where
   -- ---- one meaning
@@ -56,10 +57,11 @@ module _ (bs : List ℕ) where
   -- ---- one result
 
   pub read : (out : List ℤ) → ReadDrawing bs (readAnswer (meaning computed bs) (length out)) out (readOutput (meaning computed bs) out)
-  read out = to-reading bs refl refl (refl, refl)
+  read out = to-reading bs refl refl (reads (meaning computed bs) out)
 
   pub read-unique : {a b : DrawingAnswer} {out after after′ : List ℤ} → ReadDrawing bs a out after → ReadDrawing bs b out after′ → (a ≡ b) × (after ≡ after′)
-  read-unique p q = (reading-is bs p .0 ∙ sym (reading-is bs q .0), reading-is bs p .1 ∙ sym (reading-is bs q .1))
+  read-unique {b = b} {out = out} {after′ = after′} p q =
+      reads-unique (p .drawing) (p .call) (subst (λ (d : Drawing). Reads d b out after′) (means-unique (q .means) (p .means)) (q .call))
 
 -- ---- the worked example: window 0 0 0.3125 0.3125, move to (-0.15625, 0.15625), line to (0.46875, 0.15625), close
 
@@ -71,7 +73,8 @@ forty =
 abbrev pub square : Window
 square = record { left = pos 0; bottom = pos 0; right = pos 10; top = pos 10 }
 
-pub example : Means forty (drawn square (record { x1 = negsuc 4; y1 = pos 5; x2 = pos 15; y2 = pos 5 } ∷ record { x1 = pos 15; y1 = pos 5; x2 = negsuc 4; y2 = pos 5 } ∷ []))
+pub example : Means forty (drawn square
+    (record { x1 = negsuc 4; y1 = pos 5; x2 = pos 15; y2 = pos 5 } ∷ record { x1 = pos 15; y1 = pos 5; x2 = negsuc 4; y2 = pos 5 } ∷ []))
 unfolding meaning walk turnAt recordAt after equal same headFault numberAt floatAt ofBits outcome first pointFault pointAnswer windowFault windowAnswer
 example = by-computed refl
 
@@ -79,5 +82,5 @@ example = by-computed refl
 pub example-read : ReadDrawing forty (record { number = 0; place = 0; window = square; count = 2 })
     (pos 7 ∷ pos 7 ∷ pos 7 ∷ pos 7 ∷ pos 7 ∷ pos 7 ∷ pos 7 ∷ pos 7 ∷ pos 7 ∷ [])
     (negsuc 4 ∷ pos 5 ∷ pos 15 ∷ pos 5 ∷ pos 15 ∷ pos 5 ∷ negsuc 4 ∷ pos 5 ∷ pos 7 ∷ [])
-unfolding readAnswer readOutput answered written noArea numbersOf
-example-read = to-reading forty (sym (is-computed example)) refl (refl, refl)
+unfolding answeredBy roomRefusal written noArea numbersOf
+example-read = to-reading forty (sym (is-computed example)) refl (lent-done refl (record { numbers = _; gives = refl; answer = refl; output = refl }))

@@ -1,39 +1,23 @@
--- A record ends past its first byte and within the bytes, and a turn adds to the strokes what it draws: by the tests of the definitions.
+-- A turn leads on to the end of its record and adds to the strokes what it draws: by the tests of the definitions.
 use mathlib.Core.Path.{_≡_, refl, subst}
 use mathlib.Core.List.{List}
 use Prim.Native.Nat.{ℕ, _+_, _≤_, _<_}
-use native.Mathlib.Omega.{arith}
-use borrow.Author.Tests.{leb-false, ltb-true, ltb-false}
-use lib.Dec.{eqb, leb, ltb}
-use lib.ListN.{length, getD}
+use borrow.Author.Tests.{ltb-true}
+use lib.Dec.{eqb, ltb}
+use lib.ListN.{length}
 use Rattle.whole.proofs.Comparisons.{by-test}
 use Rattle.grid.specs.Refusals.{mostStrokes}
 use Rattle.drawing.specs.Intake.{Intake}
-use Rattle.drawing.specs.Format.{recordAt}
+use Rattle.format.specs.Format.{recordAt}
+use Rattle.format.proofs.Records.{EndsWithin, record-ends}
 use Rattle.drawing.specs.Pen.{same, after, turn, turnAt}
-use Rattle.drawing.specs.declared.format.Step.{Step}
-use Rattle.drawing.specs.declared.format.Step.the-variants as Step
-use Rattle.drawing.specs.declared.format.Found.{Found}
-use Rattle.drawing.specs.declared.format.Found.the-variants as Found
+use Rattle.format.specs.declared.Step.{Step}
+use Rattle.format.specs.declared.Step.the-variants as Step
+use Rattle.format.specs.declared.Found.{Found}
+use Rattle.format.specs.declared.Found.the-variants as Found
 use Rattle.drawing.specs.declared.pen.Pen.{Pen}
 use Rattle.drawing.specs.declared.pen.Turn.{Turn}
 use Rattle.drawing.specs.declared.pen.Turn.the-variants as Turn
-
--- n is the length of the bytes
-abbrev pub Ends : ℕ → ℕ → Found → Type 0
-Ends n at (Found.Record s next) = (at < next) × (next ≤ n)
-Ends n at Found.Bad = Unit
-Ends n at Found.End = Unit
-
-pub ends : (bs : List ℕ) (at : ℕ) → Ends (length bs) at (recordAt bs at)
-unfolding recordAt
-ends bs at =
-    by-test (leb (length bs) at) (Ends (length bs) at) (λ _. tt) λ h.
-    by-test (eqb (getD bs at 0) 0x5A) (Ends (length bs) at) (λ _. omega (arith, leb-false (length bs) at h)) λ _.
-    by-test (ltb (length bs) (at + 9)) (Ends (length bs) at) (λ _. tt) λ g.
-    let l = ltb-false (length bs) (at + 9) g in
-    by-test (eqb (getD bs at 0) 0x4D) (Ends (length bs) at) (λ _. omega arith) λ _.
-    by-test (eqb (getD bs at 0) 0x4C) (Ends (length bs) at) (λ _. omega arith) (λ _. tt)
 
 abbrev pub Leaves : ℕ → ℕ → Pen → Turn → Type 0
 Leaves n at pen Turn.End = Unit
@@ -48,22 +32,24 @@ module _ (intake : Intake) (n at : ℕ) (pen : Pen) where
   step-leaves next (Step.Line x y) e =
       by-test (pen .moved) (Leaves n at pen)
       (λ _. by-test (ltb (pen .strokes) mostStrokes) (Leaves n at pen)
-      (λ l. by-test (eqb (intake .point (record { x = x; y = y }) .number) 0) (Leaves n at pen) (λ _. (e .0, e .1, refl, ltb-true (pen .strokes) mostStrokes l)) (λ _. tt))
+      (λ l. by-test (eqb (intake .point (record { x = x; y = y }) .number) 0) (Leaves n at pen) (λ _. (e .0, e .1, refl, ltb-true (pen .strokes) mostStrokes l))
+      (λ _. tt))
       (λ _. tt))
       (λ _. tt)
   step-leaves next Step.Close e =
       by-test (pen .moved) (Leaves n at pen)
-      (λ _. by-test (same (pen .here) (pen .start)) (Leaves n at pen) (λ _. (e .0, e .1, refl)) (λ _. by-test (ltb (pen .strokes) mostStrokes) (Leaves n at pen) (λ l. (e .0, e .1, refl, ltb-true (pen .strokes) mostStrokes l)) (λ _. tt)))
+      (λ _. by-test (same (pen .here) (pen .start)) (Leaves n at pen) (λ _. (e .0, e .1, refl))
+      (λ _. by-test (ltb (pen .strokes) mostStrokes) (Leaves n at pen) (λ l. (e .0, e .1, refl, ltb-true (pen .strokes) mostStrokes l)) (λ _. tt)))
       (λ _. tt)
 
-  found-leaves : (f : Found) → Ends n at f → Leaves n at pen (turn intake at pen f)
+  found-leaves : (f : Found) → EndsWithin n at f → Leaves n at pen (turn intake at pen f)
   found-leaves (Found.Record s next) e = step-leaves next s e
   found-leaves Found.Bad e = tt
   found-leaves Found.End e = tt
 
 pub leaves : (intake : Intake) (bs : List ℕ) (at : ℕ) (pen : Pen) → Leaves (length bs) at pen (turnAt intake bs at pen)
 unfolding turnAt
-leaves intake bs at pen = found-leaves intake (length bs) at pen (recordAt bs at) (ends bs at)
+leaves intake bs at pen = found-leaves intake (length bs) at pen (recordAt bs at) (record-ends bs at)
 
 pub led : (intake : Intake) (bs : List ℕ) (at : ℕ) (pen : Pen) {t : Turn} → turnAt intake bs at pen ≡ t → Leaves (length bs) at pen t
 led intake bs at pen e = subst (Leaves (length bs) at pen) e (leaves intake bs at pen)

@@ -10,8 +10,8 @@ use Rattle.grid.specs.Refusals.{refuse, badDrawing}
 use Rattle.grid.specs.declared.Window.{Window}
 use Rattle.grid.specs.declared.Stroke.{Stroke}
 use Rattle.drawing.specs.Intake.{Intake}
-use Rattle.drawing.specs.Format.{recordAt}
-use Rattle.drawing.specs.Pen.{turnAt, stroke}
+use Rattle.format.specs.Format.{recordAt}
+use Rattle.drawing.specs.Pen.{turnAt, drawnStroke}
 use Rattle.drawing.specs.Drawings.{Drawing, fault, drawn, inFront, onward, walk, refused, told}
 use Rattle.drawing.specs.declared.DrawingAnswer.{DrawingAnswer}
 use Rattle.drawing.specs.declared.pen.Pen.{Pen}
@@ -25,7 +25,7 @@ agree : (w : Window) (n at : ℕ) (pen : Pen) (r s : ℕ → Pen → Drawing) �
 agree w n at pen r s h Turn.End l = refl
 agree w n at pen r s h (Turn.Fault place) l = refl
 agree w n at pen r s h (Turn.Goes to next) l = h next to (l .0)
-agree w n at pen r s h (Turn.Draws to next) l = ap (inFront (stroke pen to)) (h next to (l .0))
+agree w n at pen r s h (Turn.Draws to next) l = ap (inFront (drawnStroke pen to)) (h next to (l .0))
 
 module _ (intake : Intake) (bs : List ℕ) (w : Window) where
   -- past the bytes there is no record
@@ -39,7 +39,8 @@ module _ (intake : Intake) (bs : List ℕ) (w : Window) where
   steps-agree zero (suc m) at pen h k = simp (over at pen (omega arith))
   steps-agree (suc n) zero at pen h k = simp (over at pen (omega arith))
   steps-agree (suc n) (suc m) at pen h k =
-      agree w (length bs) at pen (walk intake bs w n) (walk intake bs w m) (λ next to l. steps-agree n m next to (omega arith) (omega arith)) (turnAt intake bs at pen) (leaves intake bs at pen)
+      agree w (length bs) at pen (walk intake bs w n) (walk intake bs w m) (λ next to l. steps-agree n m next to (omega arith) (omega arith))
+      (turnAt intake bs at pen) (leaves intake bs at pen)
 
   -- what is left of the drawing
   abbrev pub rest : ℕ → Pen → Drawing
@@ -65,14 +66,17 @@ one-before n s (fault place) = refl
 one-before n s (drawn w ss) = ap (λ (k : ℕ). record { number = 0; place = 0; window = w; count = k }) (omega arith)
 
 module _ (intake : Intake) (bs : List ℕ) (w : Window) (at : ℕ) (pen : Pen) where
-  pub count-goes : {to : Pen} {next : ℕ} → turnAt intake bs at pen ≡ Turn.Goes to next → counted (to .strokes) (rest intake bs w next to) ≡ counted (pen .strokes) (rest intake bs w at pen)
+  pub count-goes : {to : Pen} {next : ℕ} → turnAt intake bs at pen ≡ Turn.Goes to next
+      → counted (to .strokes) (rest intake bs w next to) ≡ counted (pen .strokes) (rest intake bs w at pen)
   count-goes e = simp (turned intake bs w at pen e, led intake bs at pen e .2)
 
-  pub count-draws : {to : Pen} {next : ℕ} → turnAt intake bs at pen ≡ Turn.Draws to next → counted (to .strokes) (rest intake bs w next to) ≡ counted (pen .strokes) (rest intake bs w at pen)
+  pub count-draws : {to : Pen} {next : ℕ} → turnAt intake bs at pen ≡ Turn.Draws to next
+      → counted (to .strokes) (rest intake bs w next to) ≡ counted (pen .strokes) (rest intake bs w at pen)
   count-draws {to} {next} e =
-      simp (turned intake bs w at pen e, led intake bs at pen e .2) (one-before (pen .strokes) (stroke pen to) (rest intake bs w next to))
+      simp (turned intake bs w at pen e, led intake bs at pen e .2) (one-before (pen .strokes) (drawnStroke pen to) (rest intake bs w next to))
 
-  pub count-ends : turnAt intake bs at pen ≡ Turn.End → record { number = 0; place = 0; window = w; count = pen .strokes } ≡ counted (pen .strokes) (rest intake bs w at pen)
+  pub count-ends : turnAt intake bs at pen ≡ Turn.End
+      → record { number = 0; place = 0; window = w; count = pen .strokes } ≡ counted (pen .strokes) (rest intake bs w at pen)
   count-ends e = simp (turned intake bs w at pen e, add-zero)
 
   pub count-fails : {place : ℕ} → turnAt intake bs at pen ≡ Turn.Fault place → refused (refuse badDrawing 0) ≡ counted (pen .strokes) (rest intake bs w at pen)

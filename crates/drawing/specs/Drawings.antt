@@ -7,9 +7,10 @@
 --   meaning intake bs    what the bytes mean. They have no more records than bytes
 --   Means bs d           d is what the bytes mean
 --   numbersOf ss, numbers d   the strokes' numbers, four each
---   refusal d            what is refused before the output's room is looked at: 11 is decided first, then 3
+--   drawingRefusal d     what is refused before the output's room is looked at: 11 is decided first, then 3
 --   refused r            the answer that refuses by r: every other field is 0
 --   told d               the answer for d where nothing but a fault is refused
+--   Reads d a before after   the call on bytes that mean d: its answer a, and its output before and after
 --   Drawable bs room     the bytes mean a drawing whose strokes have room in an output of so many numbers
 --   ReadDrawing bs a before after   the call on the bytes bs: its answer a, and its output before and after
 use mathlib.Core.Path.{_≡_}
@@ -21,15 +22,14 @@ use lib.ListN.{length}
 use Rattle.whole.specs.Choice.{if_then_else_}
 use Rattle.grid.specs.Table.{ends}
 use Rattle.grid.specs.Refusals.{refuse, noArea, badDrawing}
-use Rattle.grid.specs.Calls.{Call}
+use Rattle.grid.specs.Calls.{Lent, GivenBy}
 use Rattle.grid.specs.declared.Window.{Window}
 use Rattle.grid.specs.declared.Stroke.{Stroke}
 use Rattle.grid.specs.declared.Refusal.{Refusal}
-use Rattle.grid.specs.declared.Answer.{Answer}
 use Rattle.intake.specs.declared.WindowAnswer.{WindowAnswer}
 use Rattle.drawing.specs.Intake.{Intake, ByIntake}
-use Rattle.drawing.specs.Format.{headSize, headFault, windowAt}
-use Rattle.drawing.specs.Pen.{fresh, turnAt, stroke}
+use Rattle.format.specs.Format.{headSize, headFault, windowAt}
+use Rattle.drawing.specs.Pen.{fresh, turnAt, drawnStroke}
 use Rattle.drawing.specs.declared.pen.Pen.{Pen}
 use Rattle.drawing.specs.declared.pen.Turn.{Turn}
 use Rattle.drawing.specs.declared.pen.Turn.the-variants as Turn
@@ -49,7 +49,7 @@ abbrev pub onward : Window → Pen → (ℕ → Pen → Drawing) → Turn → Dr
 onward w pen rest Turn.End = drawn w []
 onward w pen rest (Turn.Fault place) = fault place
 onward w pen rest (Turn.Goes to next) = rest next to
-onward w pen rest (Turn.Draws to next) = inFront (stroke pen to) (rest next to)
+onward w pen rest (Turn.Draws to next) = inFront (drawnStroke pen to) (rest next to)
 
 unfoldable pub walk : Intake → List ℕ → Window → ℕ → ℕ → Pen → Drawing
 walk intake bs w zero at pen = drawn w []
@@ -76,9 +76,9 @@ abbrev pub numbers : Drawing → List ℤ
 numbers (fault place) = []
 numbers (drawn w ss) = numbersOf ss
 
-abbrev pub refusal : Drawing → Refusal
-refusal (fault place) = refuse badDrawing 0
-refusal (drawn w ss) = noArea w
+abbrev pub drawingRefusal : Drawing → Refusal
+drawingRefusal (fault place) = refuse badDrawing 0
+drawingRefusal (drawn w ss) = noArea w
 
 abbrev pub refused : Refusal → DrawingAnswer
 refused r = record { number = r .number; place = r .place; window = record { left = pos 0; bottom = pos 0; right = pos 0; top = pos 0 }; count = 0 }
@@ -86,6 +86,9 @@ refused r = record { number = r .number; place = r .place; window = record { lef
 abbrev pub told : Drawing → DrawingAnswer
 told (fault place) = refused (refuse badDrawing 0)
 told (drawn w ss) = record { number = 0; place = 0; window = w; count = length ss }
+
+abbrev pub Reads : Drawing → DrawingAnswer → List ℤ → List ℤ → Type 0
+Reads d = Lent refused (drawingRefusal d) (GivenBy refused (λ _. told d) (λ xs. xs ≡ numbers d))
 
 pub record Drawable (bs : List ℕ) (room : ℕ) : Type 0 where
   pub window : Window
@@ -96,6 +99,4 @@ pub record Drawable (bs : List ℕ) (room : ℕ) : Type 0 where
 pub record ReadDrawing (bs : List ℕ) (a : DrawingAnswer) (before after : List ℤ) : Type 0 where
   pub drawing : Drawing
   pub means : Means bs drawing
-  pub call : Answer
-  pub gives : Call (refusal drawing) (λ xs. xs ≡ numbers drawing) call before after
-  pub answer : a ≡ (if eqb (call .number) 0 then told drawing else refused (refuse (call .number) (call .place)))
+  pub call : Reads drawing a before after

@@ -1,4 +1,3 @@
 pub mod Intake
-pub mod Format
 pub mod Pen
 pub mod Drawings

@@ -5,9 +5,9 @@
 --   limited pen at t   t, but a fault at the record's first byte after as many strokes as a drawing may have
 --   landed a at go     go at the point that the intake answered by a; a refused one is a fault at that number's first byte
 --   drawnTo pen p      the pen after a stroke to p
---   after intake at next pen s   what the step s does, whose record goes from `at` to `next`
+--   after intake at next pen s   what the step s does. Its record starts at the byte `at`, and the record after it at the byte `next`
 --   turnAt intake bs at pen      what the record at `at` does
---   stroke pen to      the stroke that takes the pen to where it is as `to`
+--   drawnStroke pen to   the stroke between the places of two pens: the one before it, and `to` after it
 use mathlib.Core.Bool.{Bool, true, false, _&&_}
 use mathlib.Core.List.{List}
 use Prim.Native.Nat.{ℕ, _+_, _*_}
@@ -19,11 +19,11 @@ use Rattle.grid.specs.Refusals.{mostStrokes}
 use Rattle.grid.specs.declared.Stroke.{Stroke}
 use Rattle.intake.specs.declared.PointAnswer.{PointAnswer}
 use Rattle.drawing.specs.Intake.{Intake}
-use Rattle.drawing.specs.Format.{recordAt}
-use Rattle.drawing.specs.declared.format.Step.{Step}
-use Rattle.drawing.specs.declared.format.Step.the-variants as Step
-use Rattle.drawing.specs.declared.format.Found.{Found}
-use Rattle.drawing.specs.declared.format.Found.the-variants as Found
+use Rattle.format.specs.Format.{recordAt}
+use Rattle.format.specs.declared.Step.{Step}
+use Rattle.format.specs.declared.Step.the-variants as Step
+use Rattle.format.specs.declared.Found.{Found}
+use Rattle.format.specs.declared.Found.the-variants as Found
 use Rattle.drawing.specs.declared.pen.Point.{Point}
 use Rattle.drawing.specs.declared.pen.Pen.{Pen}
 use Rattle.drawing.specs.declared.pen.Turn.{Turn}
@@ -70,5 +70,5 @@ turn intake at pen Found.End = Turn.End
 unfoldable pub turnAt : Intake → List ℕ → ℕ → Pen → Turn
 turnAt intake bs at pen = turn intake at pen (recordAt bs at)
 
-abbrev pub stroke : Pen → Pen → Stroke
-stroke pen to = record { x1 = pen .here .x; y1 = pen .here .y; x2 = to .here .x; y2 = to .here .y }
+abbrev pub drawnStroke : Pen → Pen → Stroke
+drawnStroke pen to = record { x1 = pen .here .x; y1 = pen .here .y; x2 = to .here .x; y2 = to .here .y }

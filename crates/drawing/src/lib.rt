@@ -1,23 +1,18 @@
-// The drawing file: the strokes that its bytes draw.
+// The drawing: what its records draw, and the call that reads it.
 ghost use mathlib.Core.Path.{_≡_};
 ghost use Prim.Native.Nat.{_+_, _≤_};
-ghost use lib.Dec.{eqb, leb};
 ghost use lib.ListN.{length};
 ghost use lib.Seq.{sets};
-ghost use Rattle.whole.specs.Choice.{if_then_else_};
 ghost use Rattle.grid.specs.Table.{ends};
-ghost use Rattle.grid.specs.Refusals.{noRoom, refuse, none};
+ghost use Rattle.grid.specs.Refusals.{refuse};
 ghost use Rattle.grid.specs.Calls.{written};
 ghost use Rattle.drawing.specs.Intake.{ByIntake};
-ghost use Rattle.drawing.specs.Format.{mostBytes, headSize};
+ghost use Rattle.format.specs.Format.{mostBytes, headSize};
 ghost use Rattle.drawing.specs.Pen.{fresh};
 ghost use Rattle.drawing.specs.Drawings.{walk, meaning, numbers, refused, told, Drawable, ReadDrawing};
 
-mod format;
 mod pen;
-mod reader;
 
-use grid::Refusal;
 use grid::Stroke;
 use grid::Window;
 use pen::Turn;
@@ -117,7 +112,7 @@ fn write_strokes(bytes: &[u8], out: &mut [i32])
             Turn::End => {
                 return;
             }
-            // The first pass found none.
+            // Not reached: the first pass met no fault in these bytes.
             Turn::Fault(_) => {
                 return;
             }
@@ -126,38 +121,12 @@ fn write_strokes(bytes: &[u8], out: &mut [i32])
                 at = next;
             }
             Turn::Draws(to, next) => {
-                put(out, 4 * pen.strokes, pen::stroke(pen, to));
+                put(out, 4 * pen.strokes, pen::drawn_stroke(pen, to));
                 pen = to;
                 at = next;
             }
         }
     }
-}
-
-// The refusal of an output that is shorter than needed.
-fn no_room(needed: usize, room: usize) -> Refusal
-    ensures { λ r. ⌜ r ≡ (if leb needed room then none else refuse noRoom needed) ⌝ }
-{
-    if room < needed {
-        return Refusal {
-            number: grid::NO_ROOM,
-            place: needed,
-        };
-    }
-    Refusal {
-        number: 0,
-        place: 0,
-    }
-}
-
-// Of two refusals the first that applies.
-fn first_of(a: Refusal, b: Refusal) -> Refusal
-    ensures { λ r. ⌜ r ≡ (if eqb (a .number) 0 then b else a) ⌝ }
-{
-    if a.number != 0 {
-        return a;
-    }
-    b
 }
 
 // Reads a drawing and writes its strokes in order, four numbers each.
@@ -169,8 +138,8 @@ pub fn read_drawing(bytes: &[u8], out: &mut [i32]) -> DrawingAnswer
         return found;
     }
     let area = grid::window_refusal(found.window);
-    let room = no_room(4 * found.count, out.len());
-    let refusal = first_of(area, room);
+    let room = grid::room_refusal(4 * found.count, out.len());
+    let refusal = grid::first_of(area, room);
     if refusal.number != 0 {
         return refused(refusal.number, refusal.place);
     }

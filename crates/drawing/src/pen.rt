@@ -4,11 +4,11 @@ ghost use Prim.Native.Nat.{_<_, _≤_};
 ghost use lib.ListN.{length};
 ghost use Rattle.grid.specs.Refusals.{mostStrokes};
 ghost use Rattle.drawing.specs.Intake.{ByIntake};
-ghost use Rattle.drawing.specs.Format.{mostBytes};
-ghost use Rattle.drawing.specs.Pen.{same, fresh, drawnTo, after, turnAt, stroke};
-use crate::format::Found;
-use crate::format::Step;
-use crate::reader;
+ghost use Rattle.format.specs.Format.{mostBytes};
+ghost use Rattle.drawing.specs.Pen.{same, fresh, drawnTo, after, turnAt, drawnStroke};
+use format::Found;
+use format::Step;
+use format::reader;
 use grid::Stroke;
 use intake::PointMm;
 
@@ -41,7 +41,7 @@ pub enum Turn {
 // The most strokes of a drawing.
 const MOST_STROKES: usize = 4096;
 
-// Whether two points are one.
+// Whether two points are the same.
 fn same(p: Point, q: Point) -> bool
     ensures { λ r. ⌜ r ≡ same p q ⌝ }
 {
@@ -117,7 +117,7 @@ fn line_to(at: usize, next: usize, pen: Pen, x: f32, y: f32) -> Turn
     Turn::Fault(at)
 }
 
-// A close, back to the figure's start.
+// A close: back to the figure's start, by a stroke where the pen is at another point.
 fn close(at: usize, next: usize, pen: Pen) -> Turn
     ensures { λ r. ⌜ ByIntake (λ intake. after intake at next pen Step.Close) r ⌝ }
 {
@@ -133,7 +133,7 @@ fn close(at: usize, next: usize, pen: Pen) -> Turn
     Turn::Fault(at)
 }
 
-// What a step does, whose record goes from at to next.
+// What a step does. Its record starts at the byte `at`, and the record after it at the byte `next`.
 pub fn after(at: usize, next: usize, pen: Pen, step: Step) -> Turn
     requires { ⌜ at ≤ mostBytes ⌝ }
     ensures { λ r. ⌜ ByIntake (λ intake. after intake at next pen step) r ⌝ }
@@ -157,9 +157,9 @@ pub fn turn_at(bytes: &[u8], at: usize, pen: Pen) -> Turn
     }
 }
 
-// The stroke that takes the pen to where it is as to.
-pub fn stroke(pen: Pen, to: Pen) -> Stroke
-    ensures { λ r. ⌜ r ≡ stroke pen to ⌝ }
+// The stroke between the places of two pens: the one before it, and `to` after it.
+pub fn drawn_stroke(pen: Pen, to: Pen) -> Stroke
+    ensures { λ r. ⌜ r ≡ drawnStroke pen to ⌝ }
 {
     Stroke {
         x1: pen.here.x,

@@ -1,49 +1,63 @@
--- A call refuses, has too little room, or gives its list; and two results of a call are equal, answer and output, wherever the list that it gives is the only one.
+-- A call refuses, has too little room, or gives its list; and two results of a call are equal, answer and memory, wherever two results of a done call are.
 use mathlib.Core.Path.{_≡_, refl, sym, ap, _∙_}
 use mathlib.Core.Bool.{Bool, true, false}
 use mathlib.Core.List.{List}
-use Prim.Native.Nat.{_<_, _≤_}
+use Prim.Native.Nat.{ℕ, _<_, _≤_}
 use borrow.Author.Tests.{eqb-true, eqb-false, le-leb, lt-leb}
 use lib.Dec.{eqb}
 use lib.IntN.{ℤ}
 use lib.ListN.{length}
-use Rattle.grid.specs.Calls.{refusedBy, answered, written, Call}
-use Rattle.grid.specs.Refusals.{noRoom}
+use Rattle.grid.specs.Calls.{Lent, written, answeredBy, GivenBy, answered, Given, GaveNumbers}
+use Rattle.grid.specs.Refusals.{noRoom, refuse, roomRefusal}
 use Rattle.grid.specs.declared.Refusal.{Refusal}
 use Rattle.grid.specs.declared.Answer.{Answer}
 
-module _ {r : Refusal} {Gives : List ℤ → Type 0} {before : List ℤ} where
-  pub call-refused : {q : Refusal} → r ≡ q → (q .number ≡ 0 → ⊥) → Call r Gives (refusedBy q) before before
-  call-refused e n = record {
-    refused = λ _. record { answer = ap refusedBy (sym e); untouched = refl };
-    given = λ z. absurd (n (ap (λ (s : Refusal). s .number) (sym e) ∙ z));
+-- ---- a call refuses, or is done
+module _ {A M : Type 0} {blank : Refusal → A} {r : Refusal} {Done : A → M → M → Type 0} where
+  pub lent-refused : {q : Refusal} {before : M} → r ≡ q → (q .number ≡ 0 → ⊥) → Lent blank r Done (blank q) before before
+  lent-refused e n = record {
+    refused = λ _. record { answer = ap blank (sym e); untouched = refl };
+    done = λ z. absurd (n (ap (λ (s : Refusal). s .number) (sym e) ∙ z));
   }
 
-  pub call-short : (xs : List ℤ) → r .number ≡ 0 → Gives xs → length before < length xs → Call r Gives (record { number = noRoom; place = length xs; count = 0 }) before before
-  unfolding answered written
-  call-short xs z g h = record {
-    refused = λ n. absurd (n z);
-    given = λ _. record { numbers = xs; gives = g; answer = simp (lt-leb _ _ h); output = simp (lt-leb _ _ h) };
-  }
+  pub lent-done : {a : A} {before after : M} → r .number ≡ 0 → Done a before after → Lent blank r Done a before after
+  lent-done z d = record { refused = λ n. absurd (n z); done = λ _. d }
 
-  pub call-wrote : (xs : List ℤ) {after : List ℤ} → r .number ≡ 0 → Gives xs → length xs ≤ length before → after ≡ written xs before → Call r Gives (record { number = 0; place = 0; count = length xs }) before after
-  unfolding answered
-  call-wrote xs z g h e = record {
-    refused = λ n. absurd (n z);
-    given = λ _. record { numbers = xs; gives = g; answer = simp (le-leb _ _ h); output = e };
-  }
+  pub lent-unique : {a b : A} {before after after′ : M} → (Done a before after → Done b before after′ → (a ≡ b) × (after ≡ after′))
+      → Lent blank r Done a before after → Lent blank r Done b before after′ → (a ≡ b) × (after ≡ after′)
+  lent-unique {a} {b} {before} {after} {after′} only p q = go (eqb (r .number) 0) refl
+    where
+      go : (t : Bool) → eqb (r .number) 0 ≡ t → (a ≡ b) × (after ≡ after′)
+      go true t = let z = eqb-true (r .number) 0 t in only (p .done z) (q .done z)
+      go false t =
+          let n = eqb-false (r .number) 0 t in
+          (p .refused n .answer ∙ sym (q .refused n .answer), p .refused n .untouched ∙ sym (q .refused n .untouched))
 
-pub call-unique : (r : Refusal) {Gives : List ℤ → Type 0} {a b : Answer} {before after after′ : List ℤ}
-    → ((xs ys : List ℤ) → Gives xs → Gives ys → xs ≡ ys) → Call r Gives a before after → Call r Gives b before after′ → (a ≡ b) × (after ≡ after′)
-call-unique r {Gives} {a} {b} {before} {after} {after′} only p q = go (eqb (r .number) 0) refl
-  where
-    go : (t : Bool) → eqb (r .number) 0 ≡ t → (a ≡ b) × (after ≡ after′)
-    go true t =
-        let x = p .given (eqb-true (r .number) 0 t) in
-        let y = q .given (eqb-true (r .number) 0 t) in
-        let e = only (x .numbers) (y .numbers) (x .gives) (y .gives) in
-        (x .answer ∙ ap (λ (zs : List ℤ). answered zs (length before)) e ∙ sym (y .answer), x .output ∙ ap (λ (zs : List ℤ). written zs before) e ∙ sym (y .output))
-    go false t =
-        let x = p .refused (eqb-false (r .number) 0 t) in
-        let y = q .refused (eqb-false (r .number) 0 t) in
-        (x .answer ∙ sym (y .answer), x .untouched ∙ sym (y .untouched))
+-- ---- a list is given
+module _ {A : Type 0} {blank : Refusal → A} {full : List ℤ → A} {Gives : List ℤ → Type 0} {before : List ℤ} where
+  pub given-short : (xs : List ℤ) → Gives xs → length before < length xs → GivenBy blank full Gives (blank (refuse noRoom (length xs))) before before
+  unfolding answeredBy roomRefusal written
+  given-short xs g h = record { numbers = xs; gives = g; answer = simp (lt-leb _ _ h); output = simp (lt-leb _ _ h) }
+
+  pub given-whole : (xs : List ℤ) {after : List ℤ} → Gives xs → length xs ≤ length before → after ≡ written xs before → GivenBy blank full Gives (full xs) before after
+  unfolding answeredBy roomRefusal
+  given-whole xs g h e = record { numbers = xs; gives = g; answer = simp (le-leb _ _ h); output = e }
+
+  pub given-unique : {a b : A} {after after′ : List ℤ} → ((xs ys : List ℤ) → Gives xs → Gives ys → xs ≡ ys)
+      → GivenBy blank full Gives a before after → GivenBy blank full Gives b before after′ → (a ≡ b) × (after ≡ after′)
+  given-unique only x y =
+      let e = only (x .numbers) (y .numbers) (x .gives) (y .gives) in (
+        x .answer ∙ ap (λ (zs : List ℤ). answeredBy blank full zs (length before)) e ∙ sym (y .answer),
+        x .output ∙ ap (λ (zs : List ℤ). written zs before) e ∙ sym (y .output),
+      )
+
+-- two results of a call that gives a list are equal wherever the list is the only one
+pub call-unique : {A : Type 0} {blank : Refusal → A} {full : List ℤ → A} (r : Refusal) {Gives : List ℤ → Type 0} {a b : A} {before after after′ : List ℤ}
+    → ((xs ys : List ℤ) → Gives xs → Gives ys → xs ≡ ys)
+    → Lent blank r (GivenBy blank full Gives) a before after → Lent blank r (GivenBy blank full Gives) b before after′ → (a ≡ b) × (after ≡ after′)
+call-unique r only = lent-unique (given-unique only)
+
+-- ---- the numbers are counted: the answer of so many numbers is that of the ones given
+pub answer-given : {Gives : List ℤ → Type 0} {n : ℕ} {a : Answer} {before after : List ℤ}
+    → ((xs : List ℤ) → n ≡ length xs → a ≡ answered xs (length before)) → GaveNumbers Gives n before after → Given Gives a before after
+answer-given e g = record { numbers = g .numbers; gives = g .gives; answer = e (g .numbers) (g .count); output = g .output }

@@ -21,7 +21,8 @@ filled-start K out = record { front = refl; tail = refl; same = refl; fits = zer
 pub filled-room : {K rest out out₀ : List ℤ} {n : ℕ} → Filled K rest out out₀ n → n + length rest ≡ length K
 filled-room {K} {rest} {out} {out₀} {n} f = omega (arith, ap length (f .front), length-append (take n out) rest, length-take-le n out (f .fits))
 
-pub filled-put : {K rest out out₀ : List ℤ} {n : ℕ} (vs : List ℤ) → Filled K (vs ++ rest) out out₀ n → length K ≤ length out₀ → Filled K rest (sets out n vs) out₀ (n + length vs)
+pub filled-put : {K rest out out₀ : List ℤ} {n : ℕ} (vs : List ℤ)
+    → Filled K (vs ++ rest) out out₀ n → length K ≤ length out₀ → Filled K rest (sets out n vs) out₀ (n + length vs)
 filled-put {K} {rest} {out} {out₀} {n} vs f h =
     let room : n + length vs ≤ length out = omega (arith, filled-room f, length-append vs rest, f .same) in
     let long : length (take n out ++ vs) ≡ n + length vs = length-append (take n out) vs ∙ ap (λ (k : ℕ). k + length vs) (length-take-le n out (f .fits)) in

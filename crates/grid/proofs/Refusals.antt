@@ -14,7 +14,8 @@ use Rattle.whole.specs.Within.{Within}
 use Rattle.whole.proofs.Comparisons.{true-T}
 use Rattle.whole.specs.Choice.{if_then_else_}
 use Rattle.grid.specs.Table.{farthest, firstOff, sides, ends, WindowOnTable, StrokeOnTable, StrokesOnTable, NumbersOnTable}
-use Rattle.grid.specs.Refusals.{windowOff, noWindow, wrongLength, numberOff, refuse, none, first, offTable, noArea, badStrokes, windowRefusal, strokeRefusal, strokesRefusal}
+use Rattle.grid.specs.Refusals.{windowOff, noWindow, wrongLength, numberOff, refuse, none, first}
+use Rattle.grid.specs.Refusals.{offTable, noArea, badStrokes, windowRefusal, strokeRefusal, strokesRefusal}
 use Rattle.grid.specs.declared.Window.{Window}
 use Rattle.grid.specs.declared.Stroke.{Stroke}
 use Rattle.grid.specs.declared.Refusal.{Refusal}
@@ -66,11 +67,15 @@ window-on-table w e =
     let area = has-area w (all-done (noArea w) [] (p .1) .0) in
     record { left = on 0 (omega arith); bottom = on 1 (omega arith); right = on 2 (omega arith); top = on 3 (omega arith); wide = area .0; tall = area .1 }
 
--- and the other way: nothing is refused in a window on the table
+-- ---- and the other way: what is on the table is not refused
+none-off : {a b c d : ℤ} → Within farthest a → Within farthest b → Within farthest c → Within farthest d → firstOff (a ∷ b ∷ c ∷ d ∷ []) ≡ 4
+none-off a b c d =
+    sym (off-later _ _ (within-on _ a) (off-later _ _ (within-on _ b) (off-later _ _ (within-on _ c) (off-later _ _ (within-on _ d) off-none))))
+
 pub window-fine : (w : Window) → WindowOnTable w → none ≡ windowRefusal w
 unfolding windowRefusal first offTable noArea
 window-fine w h =
-    let off : firstOff (sides w) ≡ 4 = sym (off-later _ _ (within-on _ (h .left)) (off-later _ _ (within-on _ (h .bottom)) (off-later _ _ (within-on _ (h .right)) (off-later _ _ (within-on _ (h .top)) off-none)))) in
+    let off : firstOff (sides w) ≡ 4 = none-off (h .left) (h .bottom) (h .right) (h .top) in
     simp (off, is-true (ltZ (w .left) (w .right)) (h .wide .lt), is-true (ltZ (w .bottom) (w .top)) (h .tall .lt))
 
 -- all numbers of a bad window are on the table: its area is bad
@@ -82,7 +87,14 @@ bad-area w on bad = go (ltZ (w .left) (w .right)) (ltZ (w .bottom) (w .top)) ref
     at k h = before-off (sides w) k (omega arith) h
 
     go : (a b : Bool) → ltZ (w .left) (w .right) ≡ a → ltZ (w .bottom) (w .top) ≡ b → (if a && b then none else refuse noWindow 0) ≡ refuse noWindow 0
-    go true true p q = absurd (bad (record { left = at 0 (omega arith); bottom = at 1 (omega arith); right = at 2 (omega arith); top = at 3 (omega arith); wide = ltZ-yes (true-T p); tall = ltZ-yes (true-T q) }))
+    go true true p q = absurd (bad (record {
+      left = at 0 (omega arith);
+      bottom = at 1 (omega arith);
+      right = at 2 (omega arith);
+      top = at 3 (omega arith);
+      wide = ltZ-yes (true-T p);
+      tall = ltZ-yes (true-T q);
+    }))
     go true false p q = refl
     go false b p q = refl
 
@@ -95,7 +107,7 @@ stroke-on-table s e =
 pub stroke-fine : (s : Stroke) → StrokeOnTable s → none ≡ strokeRefusal s
 unfolding strokeRefusal offTable
 stroke-fine s h =
-    let off : firstOff (ends s) ≡ 4 = sym (off-later _ _ (within-on _ (h .x1)) (off-later _ _ (within-on _ (h .y1)) (off-later _ _ (within-on _ (h .x2)) (off-later _ _ (within-on _ (h .y2)) off-none)))) in
+    let off : firstOff (ends s) ≡ 4 = none-off (h .x1) (h .y1) (h .x2) (h .y2) in
     simp off
 
 pub strokes-on-table : (zs : List ℤ) → strokesRefusal zs .number ≡ 0 → StrokesOnTable zs
@@ -106,6 +118,10 @@ strokes-on-table zs e = go (eqb (length zs % 4) 0) refl (leb (length zs) 16384) 
     p = all-done (badStrokes zs) (offTable numberOff zs ∷ []) e
 
     go : (a : Bool) → eqb (length zs % 4) 0 ≡ a → (b : Bool) → leb (length zs) 16384 ≡ b → (if a && b then none else refuse wrongLength 0) .number ≡ 0 → StrokesOnTable zs
-    go true t true u q = record { by-four = eqb-true (length zs % 4) 0 t; few = leb-true (length zs) 16384 u; on = nothing-off numberOff zs (omega arith) (all-done (offTable numberOff zs) [] (p .1) .0) }
+    go true t true u q = record {
+      by-four = eqb-true (length zs % 4) 0 t;
+      few = leb-true (length zs) 16384 u;
+      on = nothing-off numberOff zs (omega arith) (all-done (offTable numberOff zs) [] (p .1) .0);
+    }
     go true t false u q = absurd (omega arith)
     go false t b u q = absurd (omega arith)

@@ -6,6 +6,7 @@
 --   noArea w       3 where left >= right or bottom >= top
 --   badStrokes zs  5 where a list is not a multiple of four numbers or has more than 4,096 strokes
 --   windowRefusal, strokeRefusal, strokesRefusal   what a call refuses in a window, a stroke, a list of strokes
+--   roomRefusal need room   8 with the numbers needed, where an output of `room` numbers is too short
 use mathlib.Core.Bool.{_&&_}
 use mathlib.Core.List.{List, [], _∷_}
 use Prim.Native.Nat.{ℕ, _*_, _%_}
@@ -82,3 +83,6 @@ strokeRefusal s = offTable numberOff (ends s)
 
 unfoldable pub strokesRefusal : List ℤ → Refusal
 strokesRefusal zs = first (badStrokes zs ∷ offTable numberOff zs ∷ [])
+
+unfoldable pub roomRefusal : ℕ → ℕ → Refusal
+roomRefusal need room = if leb need room then none else refuse noRoom need

@@ -1,12 +1,15 @@
-// The table: its range, windows and strokes, the refusals that every call shares, and numbers given into a lent output.
+// The table: its range, windows and strokes, the refusals that every call shares, and the answers of calls that give numbers into a lent output.
 ghost use mathlib.Core.Path.{_≡_};
 ghost use mathlib.Core.Bool.{true};
-ghost use mathlib.Core.List.{[], _∷_};
+ghost use mathlib.Core.List.{List, [], _∷_};
 ghost use Prim.Native.Nat.{_+_, _≤_};
+ghost use lib.Dec.{eqb};
+ghost use lib.IntN.{ℤ};
 ghost use lib.ListN.{length};
+ghost use Rattle.whole.specs.Choice.{if_then_else_};
 ghost use Rattle.grid.specs.Table.{onTable, firstOff, strokeAt, WindowOnTable};
-ghost use Rattle.grid.specs.Refusals.{windowRefusal, strokeRefusal, strokesRefusal};
-ghost use Rattle.grid.specs.Calls.{answered, written};
+ghost use Rattle.grid.specs.Refusals.{windowRefusal, strokeRefusal, strokesRefusal, roomRefusal};
+ghost use Rattle.grid.specs.Calls.{refusedBy, answered};
 
 // The numbers of the refusals, as specs/Refusals.antt defines them.
 pub const WINDOW_OFF: u8 = 2;
@@ -227,35 +230,54 @@ pub fn stroke_at(s: &[i32], p: usize) -> Stroke
     }
 }
 
-// Puts the numbers xs from the front of out.
-fn copy(xs: &[i32], out: &mut [i32])
-    requires { ⌜ length (now xs) ≤ length (now out) ⌝ }
-    ensures { λ _. ⌜ now (out .exit) ≡ written (now (xs .entry)) (now (out .entry)) ⌝ }
+// The refusal of an output that is shorter than needed.
+pub fn room_refusal(need: usize, room: usize) -> Refusal
+    ensures { λ r. ⌜ r ≡ roomRefusal need room ⌝ }
 {
-    let mut i = 0;
-    while i < xs.len() {
-        out[i] = xs[i];
-        i += 1;
+    if room < need {
+        return Refusal {
+            number: NO_ROOM,
+            place: need,
+        };
+    }
+    Refusal {
+        number: 0,
+        place: 0,
     }
 }
 
-// Gives the numbers xs into a lent output, or refuses where they have no room there.
-pub fn give(xs: &[i32], out: &mut [i32]) -> Answer
-    ensures { λ r. ⌜ r ≡ answered (now (xs .entry)) (length (now (out .entry))) ⌝ }
-    ensures { λ _. ⌜ now (out .exit) ≡ written (now (xs .entry)) (now (out .entry)) ⌝ }
+// Of two refusals the first that applies.
+pub fn first_of(a: Refusal, b: Refusal) -> Refusal
+    ensures { λ r. ⌜ r ≡ (if eqb (a .number) 0 then b else a) ⌝ }
 {
-    let n = xs.len();
-    if out.len() < n {
-        return Answer {
-            number: NO_ROOM,
-            place: n,
-            count: 0,
-        };
+    if a.number != 0 {
+        return a;
     }
-    copy(xs, out);
+    b
+}
+
+// The answer of a call that refuses.
+pub fn refused_by(r: Refusal) -> Answer
+    ensures { λ a. ⌜ a ≡ refusedBy r ⌝ }
+{
+    Answer {
+        number: r.number,
+        place: r.place,
+        count: 0,
+    }
+}
+
+// The answer of a call that gives so many numbers into an output of some room.
+pub fn given(need: usize, room: usize) -> Answer
+    ensures { λ r. ⌜ ((xs : List ℤ) → need ≡ length xs → r ≡ answered xs room) ⌝ }
+{
+    let short = room_refusal(need, room);
+    if short.number != 0 {
+        return refused_by(short);
+    }
     Answer {
         number: 0,
         place: 0,
-        count: n,
+        count: need,
     }
 }

@@ -17,7 +17,7 @@ use Rattle.grid.specs.Calls.{refusedBy, answered, written}
 use Rattle.grid.specs.declared.Answer.{Answer}
 use Rattle.grid.specs.declared.Refusal.{Refusal}
 use Rattle.grid.specs.declared.Window.{Window}
-use Rattle.grid.proofs.Calls.{call-refused}
+use Rattle.grid.proofs.Calls.{lent-refused}
 use Rattle.rings.specs.Lists.{All, ∅, _◂_, Turned}
 use Rattle.rings.specs.Points.{Point, Line, value, In, Over, Out, Proper, Before, lower, level}
 use Rattle.rings.specs.Rings.{Ring, Starts}
@@ -217,9 +217,9 @@ answer-is w o zs before = go (eqb (outlineRefusal w o zs .number) 0) refl
         let z = eqb-true (r .number) 0 e in
         let k = nothing-refused w o zs z in record {
           refused = λ n. absurd (n z);
-          given = λ _. record { numbers = outlineOf w o zs; gives = outline-of w o zs (k .order) (k .ring); answer = refl; output = refl };
+          done = λ _. record { numbers = outlineOf w o zs; gives = outline-of w o zs (k .order) (k .ring); answer = refl; output = refl };
         }
-    go false e = call-refused refl (eqb-false (r .number) 0 e)
+    go false e = lent-refused refl (eqb-false (r .number) 0 e)
 
 pub computed : {w : Window} {o : ℕ} {zs : List ℤ} {a : Answer} {before after : List ℤ} → Outline w o zs a before after
     → (a ≡ answerOf w o zs (length before)) × (after ≡ outputOf w o zs before)

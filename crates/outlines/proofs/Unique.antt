@@ -49,7 +49,7 @@ Only w o zs = Call (outlineRefusal w o zs) (OutlineGives w zs)
 only : {w : Window} {o : ℕ} {zs : List ℤ} {a : Answer} {before after : List ℤ} → Outline w o zs a before after → Only w o zs a before after
 only c = record {
   refused = c .refused;
-  given = λ z. let g = c .given z in record { numbers = g .numbers; gives = g .gives .gives; answer = g .answer; output = g .output };
+  done = λ z. let g = c .done z in record { numbers = g .numbers; gives = g .gives .gives; answer = g .answer; output = g .output };
 }
 
 pub outline-unique : {w : Window} {o : ℕ} {zs : List ℤ} {a b : Answer} {before after after′ : List ℤ}

@@ -9,7 +9,7 @@ ghost use Prim.Native.Nat.{_+_, _*_, _≤_};
 ghost use lib.IntN.{ℤ};
 ghost use lib.ListN.{length};
 ghost use Rattle.whole.specs.Choice.{Decides};
-ghost use Rattle.grid.specs.Calls.{answered, Given};
+ghost use Rattle.grid.specs.Calls.{Given};
 ghost use Rattle.grid.specs.Table.{WindowOnTable, NumbersOnTable};
 ghost use Rattle.limits.specs.Sides.{windowOf};
 ghost use Rattle.crossings.specs.Outlines.{OutlineOnTable};
@@ -125,24 +125,6 @@ fn cut_by_passes(
     cut_in(numbers, cuts, order, outline, &mut most, out)
 }
 
-// The answer of a call that gives so many numbers into an output of some room.
-fn given(need: usize, room: usize) -> Answer
-    ensures { λ r. ⌜ ((xs : List ℤ) → need ≡ length xs → r ≡ answered xs room) ⌝ }
-{
-    if room < need {
-        return Answer {
-            number: grid::NO_ROOM,
-            place: need,
-            count: 0,
-        };
-    }
-    Answer {
-        number: 0,
-        place: 0,
-        count: need,
-    }
-}
-
 // The answer for an outline in which nothing is refused. The plain cases come first: they need no pass. The passes are given the sides' numbers, and
 // which of them cut, by the sides' places.
 fn clipped(w: Window, order: u32, outline: &[i32], reach: Window, out: &mut [i32]) -> Answer
@@ -154,10 +136,10 @@ fn clipped(w: Window, order: u32, outline: &[i32], reach: Window, out: &mut [i32
 {
     let room = out.len();
     if reach::inside(w, reach) {
-        return given(uncut::give_whole(outline, out), room);
+        return grid::given(uncut::give_whole(outline, out), room);
     }
     if reach::apart(w, reach) {
-        return given(0, room);
+        return grid::given(0, room);
     }
     let numbers = [w.left, w.right, w.bottom, w.top];
     let cuts = [
@@ -166,7 +148,7 @@ fn clipped(w: Window, order: u32, outline: &[i32], reach: Window, out: &mut [i32
         reach.bottom < w.bottom,
         w.top < reach.top,
     ];
-    given(cut_by_passes(&numbers, &cuts, order, outline, out), room)
+    grid::given(cut_by_passes(&numbers, &cuts, order, outline, out), room)
 }
 
 // What a window keeps of a strictly convex outline, cut along the window's sides in one of the 24 orders. The outline is x y x y ..,

@@ -16,8 +16,8 @@ use Rattle.fraction.proofs.Computed.{euclid, lowestOf, roundedAt}
 use Rattle.whole.specs.Rounding.{towards}
 use Rattle.grid.specs.declared.Answer.{Answer}
 use Rattle.grid.specs.declared.Stroke.{Stroke}
-use Rattle.grid.specs.Calls.{answered, written}
-use Rattle.grid.specs.Refusals.{first, offTable, noArea, windowRefusal, strokeRefusal}
+use Rattle.grid.specs.Calls.{written, answeredBy}
+use Rattle.grid.specs.Refusals.{first, offTable, noArea, windowRefusal, strokeRefusal, roomRefusal}
 use Rattle.grid.specs.Table.{onTable, firstOff}
 use Rattle.outlines.specs.Outlines.{badOrder, outlineRefusal, Outline}
 use Rattle.outlines.proofs.Computed.{keptOf, addedOf, passOf, cutOf, cutsOf, isBefore, leastOf, startOf, ringOf, outlineOf, answerOf, outputOf}
@@ -49,7 +49,7 @@ outline-holds {zs} p q = record { in-order = λ o l a after h. let k = any-order
 pub worked : All Holds table
 unfolding table countedOf countOf stepOf meetingOf code decision trailingZeros
     strokeCallRefusal strokeRefusal strokeAnswerOf clippedOf spanOf acrossOf cutBy lessThan roundedAt towards euclid lowestOf
-    answerOf outputOf answered written outlineOf ringOf cutsOf cutOf passOf keptOf addedOf meet isBefore leastOf startOf numbersOf
+    answerOf outputOf answeredBy roomRefusal written outlineOf ringOf cutsOf cutOf passOf keptOf addedOf meet isBefore leastOf startOf numbersOf
     outlineRefusal first windowRefusal noArea badOrder countRefusal rightCount offTable firstOff onTable
     convexRefusal strictlyConvex every next joins isLeft cornersOf value through sidesIn linesIn left-side right-side bottom-side top-side
 worked =

@@ -56,7 +56,12 @@ returns : tie.Need-returns Inv-loop μ-loop
 returns c xs r =
     let a = c .before .before in
     let l = c .before .loop in
-    omega (arith, l .inv .3, ap length (rows-none (a .args .w) (now (a .args .s)) (l .at) (c .loop-test .left)), ap length (rows-unique (computed-rows (a .pre .0) (a .pre .1)) r))
+    omega (
+      arith,
+      l .inv .3,
+      ap length (rows-none (a .args .w) (now (a .args .s)) (l .at) (c .loop-test .left)),
+      ap length (rows-unique (computed-rows (a .pre .0) (a .pre .1)) r),
+    )
 
 pub count-rows-spec : {M : Type 1} → statement M
 count-rows-spec = tie.close (tie.spec Inv-loop μ-loop loop-holds stroke-at-requires keeps-any-requires add-needed add-at loop-less loop-again returns)

@@ -58,7 +58,13 @@ returns : tie.Need-returns
 returns c =
     let a = c .before .before .before .before in
     let g = c .before .before .before .struct-told .given .1 in
-    simp (toZ-ofZ (a .fits .k), back w32 (a .args .c .ax) (g .0 .1), back w32 (a .args .c .ay) (g .1 .0 .1), back w32 (a .args .c .bx) (g .1 .1 .0 .1), back w32 (a .args .c .by) (g .1 .1 .1 .0 .1))
+    simp (
+      toZ-ofZ (a .fits .k),
+      back w32 (a .args .c .ax) (g .0 .1),
+      back w32 (a .args .c .ay) (g .1 .0 .1),
+      back w32 (a .args .c .bx) (g .1 .1 .0 .1),
+      back w32 (a .args .c .by) (g .1 .1 .1 .0 .1),
+    )
     (simp towards-suc)
 
 pub put-spec : {M : Type 1} → statement M

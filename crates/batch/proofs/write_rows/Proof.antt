@@ -1,4 +1,4 @@
--- `batch::write_rows` meets its contract: n numbers of the computed rows stand at the front of the output, those of the strokes from p on are still to come. Assumes nothing.
+-- `batch::write_rows` meets its contract: n numbers of the computed rows stand in the output, those of the strokes from p on are to come. Assumes nothing.
 use Prim.Native.Nat.{ℕ, _<_, _≤_, _-_, _+_, _*_, _/_, _^_}
 use mathlib.Core.Path.{_≡_, sym, ap, _∙_, subst}
 use mathlib.Core.Logic.{⊎-elim}
@@ -34,7 +34,8 @@ five k c = pos k ∷ c .ax ∷ c .ay ∷ c .bx ∷ c .by ∷ []
 
 -- where the stroke at p is kept: what is still to be written starts with its row, so that there is room for it
 due : (c : tie.Then1 Inv-loop μ-loop) → let l = c .before .before .before .before in let a = l .before .args in
-    Filled (rowsFrom (a .w) (now (a .s)) 0) (five (l .loop .p / 4) (c .before .cut-stroke .result) ++ rowsFrom (a .w) (now (a .s)) (l .loop .p + 4)) (l .loop .out) (now (a .out)) (l .loop .n)
+    Filled (rowsFrom (a .w) (now (a .s)) 0) (five (l .loop .p / 4) (c .before .cut-stroke .result) ++ rowsFrom (a .w) (now (a .s)) (l .loop .p + 4)) (l .loop .out)
+    (now (a .out)) (l .loop .n)
 due c =
     let k = c .before in
     let b = k .before .before in
@@ -86,7 +87,8 @@ loop-again c =
     let i : l .k < 2 ^ 31 = omega (arith, a .pre .1 .0 .few) in
     let e : l .k ≡ l .p / 4 = omega arith in
     let r = k .cut-stroke .result in
-    let wrote : c .if1 .out ≡ sets (l .out) (l .n) (five (l .p / 4) r) = o .4 ∙ o .2 .ensures ∙ ap (λ (z : ℤ). sets (l .out) (l .n) (z ∷ r .ax ∷ r .ay ∷ r .bx ∷ r .by ∷ [])) (toZ-pos w32 i ∙ ap pos e) in
+    let wrote : c .if1 .out ≡ sets (l .out) (l .n) (five (l .p / 4) r) = o .4 ∙ o .2 .ensures
+    ∙ ap (λ (z : ℤ). sets (l .out) (l .n) (z ∷ r .ax ∷ r .ay ∷ r .bx ∷ r .by ∷ [])) (toZ-pos w32 i ∙ ap pos e) in
     (omega arith, whole b, l .inv .2, rw (wrote, o .5) (filled-put (five (l .p / 4) r) (due t) (l .inv .2))))
     (λ o. (
       omega arith,
@@ -104,7 +106,28 @@ returns c =
     let a = c .before .before in
     let l = c .before .loop in
     let f = rw (rows-none (a .args .w) (now (a .args .s)) (l .p) (c .loop-test .left)) at (l .inv .3) in
-    record { numbers = rowsFrom (a .args .w) (now (a .args .s)) 0; are = computed-rows (a .pre .0) (a .pre .1 .0); count = omega (arith, filled-room f); output = filled-end f }
+    record {
+      numbers = rowsFrom (a .args .w) (now (a .args .s)) 0;
+      gives = computed-rows (a .pre .0) (a .pre .1 .0);
+      count = omega (arith, filled-room f);
+      output = filled-end f;
+    }
 
 pub write-rows-spec : {M : Type 1} → statement M
-write-rows-spec = tie.close (tie.spec Inv-loop μ-loop loop-holds stroke-at-requires cut-stroke-requires cast-put put-requires add-n add-k add-p loop-less loop-again same-length returns)
+write-rows-spec =
+    tie.close
+    (tie.spec
+    Inv-loop
+    μ-loop
+    loop-holds
+    stroke-at-requires
+    cut-stroke-requires
+    cast-put
+    put-requires
+    add-n
+    add-k
+    add-p
+    loop-less
+    loop-again
+    same-length
+    returns)

@@ -20,11 +20,12 @@ seen : (c : tie.After-strokes) → Read (now (c .before .before .before .before 
 seen c = read (c .before .before .before .before .pre .0) (c .strokes .given) (c .before .read-drawing .ensures)
 
 returns : tie.Need-returns
-returns c = seen (c .before .before .before) .refuses (c .if1 .taken) _
+returns c = seen (c .before .before .before) .refuses (λ z. omega (arith, c .if1 .taken)) _
 
 -- nothing was refused
-drawn-of : (c : tie.Else1) → Drawn (now (c .before .before .before .before .before .before .before .args .bytes)) (c .before .before .before .before .read-drawing .result) (c .before .before .before .before .read-drawing .last .1 .0)
-drawn-of c = seen (c .before .before .before) .draws (c .if1 .left)
+drawn-of : (c : tie.Else1) → let r = c .before .before .before .before in
+    Drawn (now (r .before .before .before .args .bytes)) (r .read-drawing .result) (r .read-drawing .last .1 .0)
+drawn-of c = seen (c .before .before .before) .draws (omega (arith, c .if1 .left))
 
 mul-numbers : tie.Need-mul-numbers
 mul-numbers c = omega (arith, drawn-of (c .before) .few, drawn-of (c .before) .count)
@@ -44,7 +45,9 @@ same-length-2 c = search needs
 same-length-3 : tie.Need-same-length-3
 same-length-3 c = search needs
 
-kept-of : (c : tie.After-batch) → let d = drawn-of (c .before .before .before .before) in Kept (c .before .before .before .before .before .before .before .before .read-drawing .result .window) (numbersOf (d .lines)) (c .batch .result) (c .batch .last .1 .1 .0)
+kept-of : (c : tie.After-batch) → let d = drawn-of (c .before .before .before .before) in
+    Kept (c .before .before .before .before .before .before .before .before .read-drawing .result .window) (numbersOf (d .lines)) (c .batch .result)
+    (c .batch .last .1 .1 .0)
 kept-of c =
     let d = drawn-of (c .before .before .before .before) in
     kept d (c .before .before .before .before .before .before .before .before .before .before .before .pre .1) (c .batch .ensures)

@@ -7,7 +7,7 @@ use borrow.Author.Needs.{needs}
 use denote.Ref.{now}
 use lib.ListN.{length}
 use Rattle.grid.specs.declared.Window.{Window}
-use Rattle.drawing.specs.Format.{mostBytes, headSize}
+use Rattle.format.specs.Format.{mostBytes, headSize}
 use Rattle.drawing.specs.Pen.{fresh, turnAt}
 use Rattle.drawing.specs.Drawings.{told}
 use Rattle.drawing.proofs.Computed.{computed, is-computed, by-computed}
@@ -17,7 +17,8 @@ use Rattle.drawing.proofs.count_strokes.Statement.{statement}
 use Rattle.drawing.proofs.count_strokes.Tie as tie
 
 abbrev Inv-loop : tie.InvT-loop
-Inv-loop bytes window pen₀ at₀ pen at = (length bytes ≤ mostBytes) × (counted (pen .strokes) (rest computed bytes window at pen) ≡ told (rest computed bytes window headSize fresh))
+Inv-loop bytes window pen₀ at₀ pen at =
+    (length bytes ≤ mostBytes) × (counted (pen .strokes) (rest computed bytes window at pen) ≡ told (rest computed bytes window headSize fresh))
 
 abbrev μ-loop : tie.MeasureT-loop
 μ-loop bytes window pen₀ at₀ pen at = length bytes - at
@@ -37,7 +38,10 @@ fresh-requires : tie.Need-fresh-requires Inv-loop μ-loop
 fresh-requires c κs = search needs
 
 loop-holds : tie.Need-loop-holds Inv-loop μ-loop
-loop-holds c = (c .before .before .pre, simp (c .fresh .ensures) (none-before (rest computed (now (c .before .before .args .bytes)) (c .before .before .args .window) headSize fresh)))
+loop-holds c = (
+  c .before .before .pre,
+  simp (c .fresh .ensures) (none-before (rest computed (now (c .before .before .args .bytes)) (c .before .before .args .window) headSize fresh)),
+)
 
 turn-at-requires : tie.Need-turn-at-requires Inv-loop μ-loop
 turn-at-requires c κs = search needs
@@ -59,7 +63,8 @@ refused-requires c κs = search needs
 returns-2 : tie.Need-returns-2 Inv-loop μ-loop
 returns-2 c =
     let l = c .before .before .before .before in
-    by-computed (c .refused .ensures ∙ count-fails computed (bytes l) (window l) (l .loop .at) (l .loop .pen) (turn (c .before .before .before) ∙ c .before .enum-told2 .given .1) ∙ l .loop .inv .1)
+    by-computed (c .refused .ensures
+    ∙ count-fails computed (bytes l) (window l) (l .loop .at) (l .loop .pen) (turn (c .before .before .before) ∙ c .before .enum-told2 .given .1) ∙ l .loop .inv .1)
 
 enum-known-to : tie.Need-enum-known-to Inv-loop μ-loop
 enum-known-to c = search needs
@@ -74,8 +79,11 @@ loop-less c =
 
 loop-again : tie.Need-loop-again Inv-loop μ-loop
 loop-again c =
-    let l = c .before .before .before .before in
-    (l .loop .inv .0, count-goes computed (bytes l) (window l) (l .loop .at) (l .loop .pen) (turn (c .before .before .before) ∙ c .before .to .given .1) ∙ l .loop .inv .1)
+    let l = c .before .before .before .before in (
+      l .loop .inv .0,
+      count-goes computed (bytes l) (window l) (l .loop .at) (l .loop .pen) (turn (c .before .before .before) ∙ c .before .to .given .1)
+          ∙ l .loop .inv .1,
+    )
 
 loop-less-2 : tie.Need-loop-less-2 Inv-loop μ-loop
 loop-less-2 c =
@@ -84,8 +92,11 @@ loop-less-2 c =
 
 loop-again-2 : tie.Need-loop-again-2 Inv-loop μ-loop
 loop-again-2 c =
-    let l = c .before .before .before .before in
-    (l .loop .inv .0, count-draws computed (bytes l) (window l) (l .loop .at) (l .loop .pen) (turn (c .before .before .before) ∙ c .before .to2 .given .1) ∙ l .loop .inv .1)
+    let l = c .before .before .before .before in (
+      l .loop .inv .0,
+      count-draws computed (bytes l) (window l) (l .loop .at) (l .loop .pen) (turn (c .before .before .before) ∙ c .before .to2 .given .1)
+          ∙ l .loop .inv .1,
+    )
 
 pub count-strokes-spec : {M : Type 1} → statement M
 count-strokes-spec =

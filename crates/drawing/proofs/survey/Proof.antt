@@ -4,10 +4,10 @@ use mathlib.Core.Path.{_≡_, sym, ap, _∙_}
 use borrow.Author.Tests.{eq-eqb, ne-eqb}
 use denote.Ref.{now}
 use Rattle.intake.proofs.Answers.{windowOf, window-is}
-use Rattle.drawing.specs.Format.{headSize, headFault, windowAt}
+use Rattle.format.specs.Format.{headSize, headFault, windowAt}
+use Rattle.format.proofs.Heads.{whole-head}
 use Rattle.drawing.specs.Drawings.{meaning}
 use Rattle.drawing.proofs.Computed.{is-computed, by-computed}
-use Rattle.drawing.proofs.Heads.{whole-head}
 use Rattle.drawing.proofs.survey.Statement.{statement}
 use Rattle.drawing.proofs.survey.Tie as tie
 

@@ -28,7 +28,8 @@ bytes c = now (c .before .before .before .args .bytes)
 turn : (c : tie.After-turn-at Inv-loop μ-loop) → turnAt computed (bytes (c .before)) (c .before .loop .at) (c .before .loop .pen) ≡ c .turn-at .result
 turn c = sym (is-computed (c .turn-at .ensures))
 
-drawn : (c : tie.After-to2 Inv-loop μ-loop) → let l = c .before .before .before in turnAt computed (bytes l) (l .loop .at) (l .loop .pen) ≡ Turn.Draws (c .to2 .given .0 .0) (c .to2 .given .0 .1 .0)
+drawn : (c : tie.After-to2 Inv-loop μ-loop) → let l = c .before .before .before in
+    turnAt computed (bytes l) (l .loop .at) (l .loop .pen) ≡ Turn.Draws (c .to2 .given .0 .0) (c .to2 .given .0 .1 .0)
 drawn c = turn (c .before .before) ∙ c .to2 .given .1
 
 -- the four numbers have room
@@ -79,8 +80,8 @@ enum-known-to-2 c = search needs
 mul-put : tie.Need-mul-put Inv-loop μ-loop
 mul-put c = let d = c .before .before .before in omega (arith, room d, d .before .before .before .loop .inv .filled .same)
 
-stroke-requires : tie.Need-stroke-requires Inv-loop μ-loop
-stroke-requires c κs = search needs
+drawn-stroke-requires : tie.Need-drawn-stroke-requires Inv-loop μ-loop
+drawn-stroke-requires c κs = search needs
 
 put-requires : tie.Need-put-requires Inv-loop μ-loop
 put-requires c κs = room (c .before .before .before .before)
@@ -95,7 +96,7 @@ loop-again-2 : tie.Need-loop-again-2 Inv-loop μ-loop
 loop-again-2 c =
     let d = c .before .before .before .before .before .before in
     let l = d .before .before .before in
-    rw (c .before .put .ensures, c .before .before .stroke .ensures) (draws _ _ _ _ _ (l .loop .inv) (drawn d) .1)
+    rw (c .before .put .ensures, c .before .before .drawn-stroke .ensures) (draws _ _ _ _ _ (l .loop .inv) (drawn d) .1)
 
 pub write-strokes-spec : {M : Type 1} → statement M
 write-strokes-spec =
@@ -117,7 +118,7 @@ write-strokes-spec =
     loop-again
     enum-known-to-2
     mul-put
-    stroke-requires
+    drawn-stroke-requires
     put-requires
     loop-less-2
     loop-again-2)

@@ -24,7 +24,8 @@ abbrev μ-loop : tie.MeasureT-loop
 μ-loop s on₀ i₀ on i = length s - i
 
 -- the answer of `on_table` is about the number in the list
-tested : (c : tie.After-on-table Inv-loop μ-loop) → c .on-table .result ≡ onTable (getD (now (c .before .before .before .before .args .s)) (c .before .before .before .loop .i) (pos 0))
+tested : (c : tie.After-on-table Inv-loop μ-loop) → let l = c .before .before .before in
+    c .on-table .result ≡ onTable (getD (now (l .before .args .s)) (l .loop .i) (pos 0))
 tested c = c .on-table .ensures ∙ ap onTable (toZ-ofZ {w = w32} (record { sfits = c .before .on-table-arg .given }))
 
 loop-holds : tie.Need-loop-holds Inv-loop μ-loop

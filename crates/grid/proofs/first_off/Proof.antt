@@ -1,4 +1,4 @@
--- `grid::first_off` meets its contract: where not all are on, the loop has passed i numbers on the table, and the first that is off is i further than the first of the rest. Assumes nothing.
+-- `grid::first_off` meets its contract: the loop has passed i numbers on the table, and the first that is off is i further than the first of the rest. Assumes nothing.
 use borrow.Author.Needs.{needs}
 use Prim.Native.Nat.{_≤_, _-_, _+_}
 use mathlib.Core.Path.{_≡_, sym, ap, _∙_}
@@ -21,7 +21,8 @@ abbrev μ-loop : tie.MeasureT-loop
 μ-loop s i₀ i = length s - i
 
 -- the answer of `on_table` is about the number in the list
-tested : (c : tie.After-on-table Inv-loop μ-loop) → c .on-table .result ≡ onTable (getD (now (c .before .before .before .before .before .before .args .s)) (c .before .before .before .loop .i) (pos 0))
+tested : (c : tie.After-on-table Inv-loop μ-loop) → let l = c .before .before .before in
+    c .on-table .result ≡ onTable (getD (now (l .before .before .before .args .s)) (l .loop .i) (pos 0))
 tested c = c .on-table .ensures ∙ ap onTable (toZ-ofZ {w = w32} (record { sfits = c .before .on-table-arg .given }))
 
 all-on-requires : tie.Need-all-on-requires Inv-loop μ-loop

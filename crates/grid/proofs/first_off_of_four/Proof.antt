@@ -62,7 +62,8 @@ returns-4 c =
     let e3 = c .before .before in
     let e2 = e3 .before .before in
     let e1 = e2 .before .before in
-    off-later _ _ (a-on e1) (off-later _ _ (b-on e2) (off-later _ _ (c-on e3) (off-here _ _ (off (e1 .before .before .fits .d) (c .before .on-table4 .ensures) (c .if4 .taken)))))
+    let d = off-here _ _ (off (e1 .before .before .fits .d) (c .before .on-table4 .ensures) (c .if4 .taken)) in
+    off-later _ _ (a-on e1) (off-later _ _ (b-on e2) (off-later _ _ (c-on e3) d))
 
 returns-5 : tie.Need-returns-5
 returns-5 c =

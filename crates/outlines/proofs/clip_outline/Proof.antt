@@ -8,7 +8,7 @@ use denote.Ref.{now}
 use lib.ListN.{length}
 use Rattle.whole.proofs.Comparisons.{ff-tt}
 use Rattle.grid.specs.declared.Refusal.{Refusal}
-use Rattle.grid.proofs.Calls.{call-refused}
+use Rattle.grid.proofs.Calls.{lent-refused}
 use Rattle.convex.specs.Corners.{mostCorners, rightCount}
 use Rattle.outlines.specs.Outlines.{outlineRefusal}
 use Rattle.convex.proofs.Refusals.{right-three}
@@ -50,7 +50,7 @@ same-length : tie.Need-same-length
 same-length c = search needs
 
 returns : tie.Need-returns
-returns c = record { refused = λ n. absurd (n (taken (c .before .before .before))); given = λ _. c .before .clipped .ensures }
+returns c = record { refused = λ n. absurd (n (taken (c .before .before .before))); done = λ _. c .before .clipped .ensures }
 
 -- something is refused
 refused : (c : tie.Joined1) → let a = c .before .before .args in outlineRefusal (a .w) (a .order) (now (a .outline)) .number ≡ 0 → ⊥
@@ -64,7 +64,7 @@ refusal-requires : tie.Need-refusal-requires
 refusal-requires c κs = refused c
 
 returns-2 : tie.Need-returns-2
-returns-2 c = call-refused (sym (c .refusal .ensures)) (subst (λ (r : Refusal). r .number ≡ 0 → ⊥) (sym (c .refusal .ensures)) (refused (c .before)))
+returns-2 c = lent-refused (sym (c .refusal .ensures)) (subst (λ (r : Refusal). r .number ≡ 0 → ⊥) (sym (c .refusal .ensures)) (refused (c .before)))
 
 pub clip-outline-spec : {M : Type 1} → statement M
 clip-outline-spec =

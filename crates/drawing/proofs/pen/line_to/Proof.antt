@@ -36,7 +36,12 @@ returns-2 : tie.Need-returns-2
 unfolding after
 returns-2 c =
     let d = c .before .before .before .before in
-    by-computed (simp (begun (d .before .before), lt-ltb _ _ (d .if2 .taken), ← point-is (c .before .before .before .point-to-grid .ensures), ne-eqb _ _ (c .before .if3 .taken)))
+    by-computed (simp (
+      begun (d .before .before),
+      lt-ltb _ _ (d .if2 .taken),
+      ← point-is (c .before .before .before .point-to-grid .ensures),
+      ne-eqb _ _ (c .before .if3 .taken),
+    ))
 
 drawn-to-requires : tie.Need-drawn-to-requires
 drawn-to-requires c κs = search needs
@@ -48,7 +53,15 @@ returns-3 c =
     let a = c .before .before .before .before .point-to-grid in
     let g = c .before .struct-told .given in
     by-computed
-    (simp (begun (d .before .before), lt-ltb _ _ (d .if2 .taken), ← point-is (a .ensures), eq-eqb _ _ (c .before .before .if3 .left), c .drawn-to .ensures, back w32 (a .result .x) (g .1 .1 .0 .1), back w32 (a .result .y) (g .1 .1 .1 .0 .1)))
+    (simp (
+      begun (d .before .before),
+      lt-ltb _ _ (d .if2 .taken),
+      ← point-is (a .ensures),
+      eq-eqb _ _ (c .before .before .if3 .left),
+      c .drawn-to .ensures,
+      back w32 (a .result .x) (g .1 .1 .0 .1),
+      back w32 (a .result .y) (g .1 .1 .1 .0 .1),
+    ))
 
 returns-4 : tie.Need-returns-4
 unfolding after

@@ -10,7 +10,11 @@ unfolding same
 returns c =
     let x = c .before .before .before .before in
     let a = x .before .before .before .before .before .args in
-    simp (← equal-bits (a .p .x) (a .q .x) (x .before .before .before .struct-told .given .0 .1) (x .before .struct-told2 .given .0 .1), eq-eqb _ _ (x .if1 .taken), equal-bits (a .p .y) (a .q .y) (c .before .before .struct-told3 .given .1 .0 .1) (c .struct-told4 .given .1 .0 .1))
+    simp (
+      ← equal-bits (a .p .x) (a .q .x) (x .before .before .before .struct-told .given .0 .1) (x .before .struct-told2 .given .0 .1),
+      eq-eqb _ _ (x .if1 .taken),
+      equal-bits (a .p .y) (a .q .y) (c .before .before .struct-told3 .given .1 .0 .1) (c .struct-told4 .given .1 .0 .1),
+    )
 
 returns-2 : tie.Need-returns-2
 unfolding same

@@ -4,16 +4,17 @@ use mathlib.Core.Path.{_≡_, sym, _∙_, subst}
 use native.Mathlib.Omega.{arith}
 use denote.Ref.{now}
 use lib.ListN.{length}
-use Rattle.drawing.specs.Format.{recordAt}
+use Rattle.format.specs.Format.{recordAt}
+use Rattle.format.proofs.Records.{EndsWithin, record-ends}
 use Rattle.drawing.specs.Pen.{turnAt}
-use Rattle.drawing.specs.declared.format.Found.the-variants as Found
+use Rattle.format.specs.declared.Found.the-variants as Found
 use Rattle.drawing.proofs.Computed.{is-computed, by-computed}
-use Rattle.drawing.proofs.Turns.{Ends, ends}
 use Rattle.drawing.proofs.pen.turn_at.Statement.{statement}
 use Rattle.drawing.proofs.pen.turn_at.Tie as tie
 
 -- the record that was found
-stands : (c : tie.After-step) → let a = c .before .before .before .before .args in recordAt (now (a .bytes)) (a .at) ≡ Found.Record (c .step .given .0 .0) (c .step .given .0 .1 .0)
+stands : (c : tie.After-step) → let a = c .before .before .before .before .args in
+    recordAt (now (a .bytes)) (a .at) ≡ Found.Record (c .step .given .0 .0) (c .step .given .0 .1 .0)
 stands c = sym (c .before .before .record-from .ensures) ∙ c .step .given .1
 
 record-from-requires : tie.Need-record-from-requires
@@ -23,7 +24,8 @@ enum-known-step : tie.Need-enum-known-step
 enum-known-step c = search needs
 
 after-requires : tie.Need-after-requires
-after-requires c κs = let a = c .before .before .before .before .before .args in omega (arith, subst (Ends (length (now (a .bytes))) (a .at)) (stands (c .before)) (ends (now (a .bytes)) (a .at)))
+after-requires c κs = let a = c .before .before .before .before .before .args in
+    omega (arith, subst (EndsWithin (length (now (a .bytes))) (a .at)) (stands (c .before)) (record-ends (now (a .bytes)) (a .at)))
 
 enum-told : tie.Need-enum-told
 enum-told c = search needs
