@@ -1,6 +1,6 @@
 -- The strokes of length 1 on the sides' lines: the values of an upright one are those of the right side's line, of a level one those of the bottom side's.
 use mathlib.Core.Path.{_≡_, sym, ap, _∙_, subst}
-use mathlib.Core.List.{List, [], _∷_}
+use mathlib.Core.List.{[], _∷_}
 use lib.IntN.{ℤ, pos, negsuc, negℤ}
 use lib.Signed.{_<ℤ_}
 use Rattle.whole.proofs.Expressions.{Expr, var, con, _⊕_, _⊖_, _⊗_, neg}

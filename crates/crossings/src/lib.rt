@@ -11,7 +11,6 @@ ghost use Rattle.whole.specs.Within.{Within};
 ghost use Rattle.grid.specs.Sides.{sideAt};
 ghost use Rattle.grid.specs.Table.{farthest, WindowOnTable, StrokeOnTable};
 ghost use Rattle.rings.specs.Windows.{«left-side»};
-ghost use Rattle.convex.specs.Corners.{next};
 ghost use Rattle.memory.specs.Memory.{pointOf};
 ghost use Rattle.limits.specs.Sides.{windowOf};
 ghost use Rattle.limits.specs.Limits.{LimitOnTable, limitLine};

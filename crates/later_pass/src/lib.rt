@@ -72,8 +72,8 @@ fn leave(
     i + 2
 }
 
-// A run outside takes the places from a to last, and up to two crossings come in its stead. Where it is one corner only, all from it on moves up by one
-// place to make room for the second. Answered is by how many places it moved.
+// The corners from the place a to the place last lie outside, and up to two crossings are to be put in their places. Where there is one such corner only,
+// everything from it on moves up by one place, so that both crossings have room. The answer is by how many places it moved, 0 or 1.
 fn make_room(m: &mut [i32], a: usize, last: usize, to: usize) -> usize
     requires { ⌜ (a ≤ last) × (last < to) ⌝ }
     requires { ⌜ 4 * to + 4 ≤ length (now m) ⌝ }

@@ -47,7 +47,7 @@ pub fn lies_on(l: Limit, m: &[i32], i: usize) -> bool
     m[at + l.axis] == l.c * m[at + 2]
 }
 
-// The end of a run for a low limit. A loop for each kind compares without a sign, which is two instructions less a corner.
+// The end of a run for a low limit. Each kind of limit has its own loop: one loop for both would have to turn a sign at every corner.
 fn end_low(l: Limit, m: &[i32], from: usize, to: usize, outside: bool) -> usize
     requires { ⌜ l .low ≡ true ⌝ }
     requires { ⌜ LimitOnTable l ⌝ }

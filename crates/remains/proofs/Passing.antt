@@ -21,7 +21,7 @@ use Rattle.crossings.specs.Outlines.{OutlineOnTable}
 use Rattle.memory.specs.Tagged.{Tagged, cornerIn, cornersFrom, pointsOf}
 use Rattle.remains.specs.Runs.{Traced, Goes, Comes, more}
 use Rattle.remains.specs.Remains.{Held, Passed}
-use Rattle.memory.proofs.Memories.{corners-points, corners-split, corners-same, tagged-all, corners-final, ring-split, ring-all}
+use Rattle.memory.proofs.Memories.{corners-points, corners-split, tagged-all, corners-final, ring-split, ring-all}
 use Rattle.remains.proofs.Pieces.{next-of, cut-nothing, keep-none, cut-middle, keep-middle}
 
 -- ---- a run that stays, and its last corner

@@ -6,7 +6,6 @@ use borrow.Author.Needs.{needs}
 use denote.Ref.{now}
 use lib.IntN.{pos}
 use lib.ListN.{length, getD}
-use Rattle.convex.specs.Corners.{next}
 use Rattle.crossings.specs.Tags.{strokeFrom, edgeOf}
 use Rattle.crossings.proofs.Outlines.{read-stroke, next-below}
 use Rattle.crossings.proofs.edge.Statement.{statement}

@@ -10,7 +10,6 @@ use Rattle.memory.specs.Tagged.{cornerIn}
 use Rattle.memory.proofs.Memories.{copied}
 use Rattle.memory.proofs.move_down.Statement.{statement}
 use Rattle.memory.proofs.move_down.Tie as tie
-use Rattle.memory.proofs.copy.Reads as copy-reads
 
 below-of : {at from i k : ℕ} → at ≤ from → at ≢ from → k + from ≡ i + at → k < i
 below-of l n e = ⊎-elim (λ q. absurd (n q)) (λ b. omega arith) (eq-or-lt-of-le l)

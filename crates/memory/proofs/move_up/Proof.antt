@@ -10,7 +10,6 @@ use Rattle.memory.specs.Tagged.{cornerIn}
 use Rattle.memory.proofs.Memories.{copied}
 use Rattle.memory.proofs.move_up.Statement.{statement}
 use Rattle.memory.proofs.move_up.Tie as tie
-use Rattle.memory.proofs.copy.Reads as copy-reads
 
 first-or-later : {from : ℕ} (k i : ℕ) → i - 1 ≤ k → from < i → (k + 1 ≡ i) ⊎ (i ≤ k)
 first-or-later k i l h = ⊎-elim (λ e. inl (omega arith)) (λ b. inr (omega arith)) (eq-or-lt-of-le l)
