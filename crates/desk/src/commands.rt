@@ -28,14 +28,16 @@ const MM4: u64 = 0x1_6d_6d_34;
 
 const BACK: u64 = 0x1_62_61_63_6b;
 
-// The reply to a line.
-pub fn reply(line: &[u8], lent: &mut [i32]) -> Reply
+// The reply to the line that the first `have` bytes are.
+pub fn reply(line: &[u8], have: usize, lent: &mut [i32]) -> Reply
+    requires { ⌜ have ≤ length (now line) ⌝ }
     requires { ⌜ 40960 ≤ length (now lent) ⌝ }
     ensures { λ r. ⌜ r .count ≤ 16 ⌝ }
 {
-    if LONGEST < line.len() {
+    if LONGEST < have {
         return replies::unknown();
     }
+    let line = &line[0..have];
     let end = text::find(line, 0, b' ');
     let rest = &line[end..];
     match arguments::word_number(&line[0..end]) {
