@@ -1,20 +1,9 @@
 // The desk: each line of standard input is one call, and each gets one line back, in order.
 mod commands;
 
-ghost use Prim.Native.Nat.{_≤_};
-ghost use lib.ListN.{length};
 use input::Chunk;
 use input::Line;
 use output::Page;
-
-// Answers a line of `have` bytes.
-fn answer(line: &[u8], have: usize, lent: &mut [i32], page: &mut Page, used: usize) -> usize
-    requires { ⌜ have ≤ length (now line) ⌝ }
-    requires { ⌜ 40960 ≤ length (now lent) ⌝ }
-{
-    let reply = commands::reply(&line[0..have], lent);
-    output::put_reply(page, used, reply, lent)
-}
 
 // Answers every line, and writes out what is left of the page. A proved loop has to end, so it counts its turns, to a number that no run reaches.
 fn run(chunk: &mut Chunk, line: &mut Line, lent: &mut [i32; 40960], page: &mut Page) {
@@ -23,13 +12,11 @@ fn run(chunk: &mut Chunk, line: &mut Line, lent: &mut [i32; 40960], page: &mut P
     let mut turns: u64 = 0;
     while turns < 0x4000_0000_0000_0000 {
         source = input::next_line(chunk, line, source);
-        let have = source.have;
-        if !source.open {
-            if have == 0 {
-                break;
-            }
+        if input::ended(source) {
+            break;
         }
-        used = answer(line, have, lent, page, used);
+        let reply = commands::reply(line, source.have, lent);
+        used = output::put_reply(page, used, reply, lent);
         turns += 1;
     }
     output::write_out(page, used);

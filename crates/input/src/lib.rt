@@ -42,6 +42,14 @@ fn end() -> Source
     }
 }
 
+// Whether there is no line any more: what stands at the end without a newline is one, unless it is nothing.
+pub fn ended(source: Source) -> bool {
+    if source.open {
+        return false;
+    }
+    source.have == 0
+}
+
 // Where the line ends that has come as far as `from`, or the end of the chunk.
 fn line_end(chunk: &[u8], from: usize, to: usize) -> usize
     requires { ⌜ from ≤ to ⌝ }

@@ -7,6 +7,13 @@ use replies::Reply;
 use words::Integer;
 use words::Single;
 
+// The words, as `arguments::word_number` has them: a 1, and then the codes of the letters.
+pub const MM2: u64 = 0x1_6d_6d_32;
+
+pub const MM4: u64 = 0x1_6d_6d_34;
+
+pub const BACK: u64 = 0x1_62_61_63_6b;
+
 // The f32 after the space at p.
 fn single_at(rest: &[u8], p: usize) -> Single
     requires { ⌜ p + 9 ≤ length (now rest) ⌝ }
@@ -18,7 +25,7 @@ fn single_at(rest: &[u8], p: usize) -> Single
 }
 
 // mm2 H H: N P x y
-pub fn mm2(rest: &[u8]) -> Reply
+fn mm2(rest: &[u8]) -> Reply
     ensures { λ r. ⌜ r .count ≤ 16 ⌝ }
 {
     if rest.len() != 18 {
@@ -35,7 +42,7 @@ pub fn mm2(rest: &[u8]) -> Reply
 }
 
 // mm4 H H H H: N P l b r t
-pub fn mm4(rest: &[u8]) -> Reply
+fn mm4(rest: &[u8]) -> Reply
     ensures { λ r. ⌜ r .count ≤ 16 ⌝ }
 {
     if rest.len() != 36 {
@@ -71,7 +78,7 @@ fn millimetres(g: i32) -> Reply
 }
 
 // back g: N P H
-pub fn back(rest: &[u8]) -> Reply
+fn back(rest: &[u8]) -> Reply
     ensures { λ r. ⌜ r .count ≤ 16 ⌝ }
 {
     if rest.len() == 0 {
@@ -80,5 +87,17 @@ pub fn back(rest: &[u8]) -> Reply
     match words::read_integer(&rest[1..]) {
         Integer::Is(g) => millimetres(g),
         Integer::Bad => replies::unknown(),
+    }
+}
+
+// The reply to a command of this family, by its word and the text after it.
+pub fn reply(word: u64, rest: &[u8]) -> Reply
+    ensures { λ r. ⌜ r .count ≤ 16 ⌝ }
+{
+    match word {
+        MM2 => mm2(rest),
+        MM4 => mm4(rest),
+        BACK => back(rest),
+        _ => replies::unknown(),
     }
 }

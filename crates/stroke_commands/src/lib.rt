@@ -5,6 +5,13 @@ use fraction::Fraction;
 use replies::Reply;
 use strokes::StrokeAnswer;
 
+// The words, as `arguments::word_number` has them: a 1, and then the codes of the letters.
+pub const LB: u64 = 0x1_6c_62;
+
+pub const CS: u64 = 0x1_63_73;
+
+pub const CB: u64 = 0x1_63_62;
+
 // K n0 d0 n1 d1: whether a stroke is kept, and its two fractions.
 fn part(reply: Reply, kept: bool, t0: Fraction, t1: Fraction) -> Reply
     requires { ⌜ reply .count + 5 ≤ 16 ⌝ }
@@ -31,7 +38,7 @@ fn answered(a: StrokeAnswer) -> Reply
 }
 
 // lb l b r t x1 y1 x2 y2: N P K n0 d0 n1 d1 ax ay bx by
-pub fn lb(rest: &[u8]) -> Reply
+fn lb(rest: &[u8]) -> Reply
     ensures { λ r. ⌜ r .count ≤ 16 ⌝ }
 {
     let pair = arguments::read_pair(rest);
@@ -42,7 +49,7 @@ pub fn lb(rest: &[u8]) -> Reply
 }
 
 // cs l b r t x1 y1 x2 y2: N P K n0 d0 n1 d1 ax ay bx by S
-pub fn cs(rest: &[u8]) -> Reply
+fn cs(rest: &[u8]) -> Reply
     ensures { λ r. ⌜ r .count ≤ 16 ⌝ }
 {
     let pair = arguments::read_pair(rest);
@@ -54,7 +61,7 @@ pub fn cs(rest: &[u8]) -> Reply
 }
 
 // cb M c1 .. cM x1 y1 x2 y2: N P K n0 d0 n1 d1, M at most 64
-pub fn cb(rest: &[u8]) -> Reply
+fn cb(rest: &[u8]) -> Reply
     ensures { λ r. ⌜ r .count ≤ 16 ⌝ }
 {
     let mut numbers = [0i32; 69];
@@ -71,4 +78,16 @@ pub fn cb(rest: &[u8]) -> Reply
     let t0 = a.t0;
     let t1 = a.t1;
     part(replies::begin(a.number, a.place), a.kept, t0, t1)
+}
+
+// The reply to a command of this family, by its word and the text after it.
+pub fn reply(word: u64, rest: &[u8]) -> Reply
+    ensures { λ r. ⌜ r .count ≤ 16 ⌝ }
+{
+    match word {
+        LB => lb(rest),
+        CS => cs(rest),
+        CB => cb(rest),
+        _ => replies::unknown(),
+    }
 }

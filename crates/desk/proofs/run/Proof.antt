@@ -19,8 +19,14 @@ loop-holds c = search needs
 next-line-requires : tie.Need-next-line-requires Inv-loop μ-loop
 next-line-requires c κs = search needs
 
-answer-requires : tie.Need-answer-requires Inv-loop μ-loop
-answer-requires c κs = search needs
+ended-requires : tie.Need-ended-requires Inv-loop μ-loop
+ended-requires c κs = search needs
+
+reply-requires : tie.Need-reply-requires Inv-loop μ-loop
+reply-requires c κs = search needs
+
+put-reply-requires : tie.Need-put-reply-requires Inv-loop μ-loop
+put-reply-requires c κs = search needs
 
 add-turns : tie.Need-add-turns Inv-loop μ-loop
 add-turns c = search needs
@@ -46,7 +52,9 @@ run-spec =
     start-requires
     loop-holds
     next-line-requires
-    answer-requires
+    ended-requires
+    reply-requires
+    put-reply-requires
     add-turns
     loop-less
     loop-again
