@@ -105,7 +105,7 @@ returns : tie.Need-returns Inv-loop μ-loop
 returns c =
     let a = c .before .before in
     let l = c .before .loop in
-    let f = rw (rows-none (a .args .w) (now (a .args .s)) (l .p) (c .loop-test .left)) at (l .inv .3) in
+    let f = rw (rows-none (a .args .w) (now (a .args .s)) (l .p) (omega (arith, c .loop-test .left))) at (l .inv .3) in
     record {
       numbers = rowsFrom (a .args .w) (now (a .args .s)) 0;
       gives = computed-rows (a .pre .0) (a .pre .1 .0);
