@@ -23,6 +23,7 @@ fn put_row(page: &mut [u8], at: usize, rows: &[i32], i: usize) -> usize
     ensures { λ r. ⌜ Put (now (page .entry)) (now (page .exit)) at r (rowAt (now (rows .entry)) i) ⌝ }
     ensures { λ r. ⌜ r ≤ at + 60 ⌝ }
 {
+    // Read before the first is put, as in `paths`.
     let index = rows[i];
     let ax = rows[i + 1];
     let ay = rows[i + 2];

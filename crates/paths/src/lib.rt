@@ -13,7 +13,7 @@ fn put_stroke(page: &mut [u8], at: usize, xs: &[i32], i: usize) -> usize
     ensures { λ r. ⌜ Put (now (page .entry)) (now (page .exit)) at r (strokePath (now (xs .entry)) i) ⌝ }
     ensures { λ r. ⌜ r ≤ at + 49 ⌝ }
 {
-    // Read first, so that the page is not lent between two reads.
+    // All numbers are read before the first is put: what is known of the list then does not have to be carried past the puts.
     let ax = xs[i];
     let ay = xs[i + 1];
     let bx = xs[i + 2];

@@ -11,7 +11,7 @@ use Rattle.io.specs.Counts.{Counts}
 use Rattle.text.specs.Pages.{Put}
 use Rattle.cutting.specs.Sheets as Sheets
 use Rattle.cutting.specs.declared.Sheet.{Sheet}
-use Rattle.reports.specs.Reports.{Report, faulty, no-area, whole}
+use Rattle.reports.specs.Reports.{Report, faulty, no-area, sound}
 
 module _ {refused : ℕ → ℕ → List ℕ} {cut : Window → List ℤ → ℕ → List ℤ → ℕ → List ℕ} {bytes before after : List ℕ} {end : ℕ} where
   front : {text : List ℕ} → Put before after 0 end text → Report refused cut bytes text → Report refused cut bytes (take end after) × Counts end after
@@ -30,4 +30,4 @@ module _ {refused : ℕ → ℕ → List ℕ} {cut : Window → List ℤ → ℕ
       let k : length (c .kept-rows) / 5 ≡ sheet .kept = omega (arith, c .kept-count) in
       front p
       (subst (Report refused cut bytes) (λ i. cut (sheet .window) (sym (c .strokes-start) i) (sym (c .count) i) (sym (c .rows-start) i) (k i))
-      (whole (c .means) (c .area) (c .are)))
+      (sound (c .means) (c .area) (c .are)))

@@ -17,5 +17,5 @@ pub data Report (refused : ℕ → ℕ → List ℕ) (cut : Window → List ℤ 
   faulty : {place : ℕ} → Means bytes (fault place) → Report refused cut bytes (refused badDrawing 0)
   no-area : {w : Window} {ss : List Stroke} → Means bytes (drawn w ss) → (noArea w .number ≡ 0 → ⊥)
       → Report refused cut bytes (refused (noArea w .number) (noArea w .place))
-  whole : {w : Window} {ss : List Stroke} {xs : List ℤ} → Means bytes (drawn w ss) → noArea w .number ≡ 0 → RowsOf w (numbersOf ss) xs
+  sound : {w : Window} {ss : List Stroke} {xs : List ℤ} → Means bytes (drawn w ss) → noArea w .number ≡ 0 → RowsOf w (numbersOf ss) xs
       → Report refused cut bytes (cut w (numbersOf ss) (length ss) xs (length xs / 5))
