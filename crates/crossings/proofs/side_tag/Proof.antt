@@ -21,7 +21,7 @@ cast-result : tie.Need-cast-result
 cast-result c = search needs
 
 add-result : tie.Need-add-result
-add-result c = sum-fits c
+add-result c = let side = c .pre in rw (toZ-pos w32 {n = c .args .side} (omega arith)) (record { sfits = omega arith })
 
 returns : tie.Need-returns
 returns c = toZ-ofZ (sum-fits c) ∙ sum c ∙ ap (λ (n : ℕ). pos (64 + n)) (sym (place-side (c .args .side) (c .pre)))

@@ -205,7 +205,11 @@ sub-enter : tie.Need-sub-enter
 sub-enter c = omega (arith, after-a (found (loaded (c .before))))
 
 enter-requires : tie.Need-enter-requires
-enter-requires c κs = let l = c .before .before in let s = s₂ l in (s .pre .0, (s .pre .1 .0 .1, (last-out l, enter-fits l)))
+enter-requires c κs =
+    let l = c .before .before in
+    let s = s₂ l in
+    let f = found (loaded l) in
+    (s .pre .0, (s .pre .1 .0 .1, (omega (arith, after-a f, to-end f), enter-fits l)))
 
 module _ (c : tie.After-enter) where
   abbrev gone-out : tie.After-leave
