@@ -7,8 +7,7 @@ use native.Mathlib.Omega.{arith}
 use borrow.Author.Tests.{le-leb}
 use lib.IntN.{ℤ}
 use lib.ListN.{length}
-use Rattle.grid.specs.Calls.{answered, written, Given}
-use Rattle.grid.specs.declared.Answer.{Answer}
+use Rattle.grid.specs.Calls.{written, GaveNumbers}
 use Rattle.grid.specs.declared.Window.{Window}
 use Rattle.rings.specs.Points.{Point}
 use Rattle.rings.specs.Rings.{Ring}
@@ -22,7 +21,7 @@ use Rattle.passes.specs.Passes as passes
 use Rattle.memory.specs.declared.Places.{Places}
 use Rattle.crossings.proofs.Outlines.{outline-ring}
 use Rattle.outlines.specs.Outlines.{OutlineClipped}
-use Rattle.writing.specs.Writing.{GaveNumbers, GaveRing}
+use Rattle.writing.specs.Writing.{GaveRing}
 use Rattle.outlines.proofs.Passes.{cuts-ring, ring-passed, none-passed}
 
 -- the passes left a ring at the places p of the memory m
@@ -34,11 +33,6 @@ pub record LeftRing (w : Window) (o : ℕ) (zs m : List ℤ) (p : Places) : Type
 pub in-order : {w : Window} {o : ℕ} {zs m : List ℤ} {p : Places} → Ran w o zs m p → p .from ≤ p .to
 in-order (passes.no-area z c) = omega arith
 in-order (passes.area l r three few c small) = l
-
--- the answer of so many numbers is that of the ones given
-pub answer-given : {Gives : List ℤ → Type 0} {n : ℕ} {a : Answer} {before after : List ℤ}
-    → ((xs : List ℤ) → n ≡ length xs → a ≡ answered xs (length before)) → GaveNumbers Gives n before after → Given Gives a before after
-answer-given e g = record { numbers = g .numbers; gives = g .gives; answer = e (g .numbers) (g .count); output = g .output }
 
 module _ {w : Window} {o : ℕ} {zs : List ℤ} (h : o ≤ 23) (t : OutlineOnTable zs) where
   pub left-ring : {m : List ℤ} {p : Places} → Ran w o zs m p → (p .to - p .from ≡ 0 → ⊥) → LeftRing w o zs m p

@@ -40,7 +40,7 @@ unfoldable pub badOrder : ℕ → Refusal
 badOrder o = if leb o lastOrder then grid.none else refuse noOrder 0
 
 unfoldable pub outlineRefusal : Window → ℕ → List ℤ → Refusal
-outlineRefusal w o zs = 
+outlineRefusal w o zs =
     first (windowRefusal w ∷ badOrder o ∷ countRefusal mostCorners wrongLength zs ∷ offTable numberOff zs ∷ convexRefusal notConvex zs ∷ [])
 
 -- ---- the points in common

@@ -9,13 +9,12 @@ ghost use Prim.Native.Nat.{_+_, _*_, _≤_};
 ghost use lib.IntN.{ℤ};
 ghost use lib.ListN.{length};
 ghost use Rattle.whole.specs.Choice.{Decides};
-ghost use Rattle.grid.specs.Calls.{Given};
+ghost use Rattle.grid.specs.Calls.{Given, GaveNumbers};
 ghost use Rattle.grid.specs.Table.{WindowOnTable, NumbersOnTable};
 ghost use Rattle.limits.specs.Sides.{windowOf};
 ghost use Rattle.crossings.specs.Outlines.{OutlineOnTable};
 ghost use Rattle.passes.specs.Passes.{Cutting};
 ghost use Rattle.reach.specs.Reach.{Reaches, ReachOnTable};
-ghost use Rattle.writing.specs.Writing.{GaveNumbers};
 ghost use Rattle.convex.specs.Corners.{mostCorners, rightCount};
 ghost use Rattle.outlines.specs.Outlines.{outlineRefusal, OutlineClipped, Outline};
 

@@ -2,8 +2,7 @@
 --   WroteFraction n d k before after   n/d in lowest terms is written at place k, the numerator before the denominator
 --   Wrote r before after               the numbers of the corners r are written from the front, and the rest is as it was
 --   StartedNumbers r xs                xs are the numbers of the ring r, started
---   GaveNumbers Gives n before after   n numbers of which Gives holds are given into an output: they are written where they have room
---   GaveRing r n before after          the n numbers of the ring r, started, are given so
+--   GaveRing r n before after          the n numbers of the ring r, started, are given into an output
 use mathlib.Core.Path.{_≡_}
 use mathlib.Core.List.{List, [], _∷_}
 use Prim.Native.Nat.{ℕ}
@@ -12,7 +11,7 @@ use lib.ListN.{length}
 use lib.Seq.{sets}
 use Rattle.fraction.specs.Fraction.{LowestOf}
 use Rattle.fraction.specs.declared.Fraction.{Fraction}
-use Rattle.grid.specs.Calls.{written}
+use Rattle.grid.specs.Calls.{written, GaveNumbers}
 use Rattle.rings.specs.Lists.{Turned}
 use Rattle.rings.specs.Points.{Point}
 use Rattle.rings.specs.Rings.{Starts}
@@ -33,12 +32,6 @@ pub record StartedNumbers (r : List Point) (xs : List ℤ) : Type 0 where
   pub turned : Turned r corners
   pub starts : Starts corners
   pub are : RingNumbers corners xs
-
-pub record GaveNumbers (Gives : List ℤ → Type 0) (n : ℕ) (before after : List ℤ) : Type 0 where
-  pub numbers : List ℤ
-  pub gives : Gives numbers
-  pub count : n ≡ length numbers
-  pub output : after ≡ written numbers before
 
 abbrev pub GaveRing : List Point → ℕ → List ℤ → List ℤ → Type 0
 GaveRing r = GaveNumbers (StartedNumbers r)

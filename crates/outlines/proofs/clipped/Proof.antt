@@ -8,9 +8,10 @@ use Rattle.grid.specs.declared.Window.{Window}
 use Rattle.passes.specs.Passes.{Cutting}
 use Rattle.crossings.proofs.Outlines.{outline-ring}
 use Rattle.outlines.specs.Outlines.{OutlineClipped}
-use Rattle.writing.specs.Writing.{GaveNumbers}
+use Rattle.grid.specs.Calls.{GaveNumbers}
+use Rattle.grid.proofs.Calls.{answer-given}
 use Rattle.outlines.proofs.Clear.{cutting, cutting-is}
-use Rattle.outlines.proofs.Giving.{answer-given, give-ring, give-nothing}
+use Rattle.outlines.proofs.Giving.{give-ring, give-nothing}
 use Rattle.outlines.proofs.PlainCases.{whole-left, nothing-left}
 use Rattle.reach.proofs.Reaching.{reading, is-reading}
 use Rattle.outlines.proofs.clipped.Statement.{statement}
