@@ -14,7 +14,7 @@ use lib.Signed.{_≤ℤ_, _<ℤ_, ltZ}
 use lib.Ieee.{nearest}
 use lib.Ieee.Nearest.{closest}
 use Rattle.whole.specs.Choice.{if_then_else_}
-use Rattle.whole.specs.Rounding.{Rule, Nearest, Rounds, towards, toEven}
+use Rattle.whole.specs.Rounding.{Rule, Rounds, towards, toEven}
 use Rattle.whole.proofs.Naturals.{neg-plus, neg-minus, add-is, abs-is}
 use Rattle.whole.proofs.Expressions.{Expr, var, con, _⊕_, _⊖_, _⊗_, neg, x0, x1, x2, x3}
 use Rattle.whole.proofs.Polynomials.{ring}

@@ -1,9 +1,9 @@
--- A fraction x/d, d positive, to the nearest whole number, with a rule for halves.
+-- A fraction x/d, d positive, to the nearest whole number. Only n and a half lies as near to two, n and n + 1; there a rule decides.
 --   Nearest x d r     r is a whole number nearest to x/d
---   Rule              says of n whether n and a half goes up, to n + 1, or else down, to n
+--   Rule              says of each n whether n and a half goes up; else it goes down
 --   Rounds up x d r   r is x/d rounded to the nearest whole number, halves by the rule `up`
---   towards a         the rule by which a half falls towards a
---   toEven            the rule by which a half goes to the even one of the two whole numbers
+--   towards a         the rule that a half falls towards a: up where a is above n
+--   toEven            the rule that a half goes to the even one of its two whole numbers: up where n is odd
 use mathlib.Core.Path.{_≡_}
 use mathlib.Core.Bool.{Bool, true, false}
 use Prim.Native.Nat.{_%_}

@@ -1,7 +1,5 @@
 -- `pen::run` meets its contract: what is written is within the page. Assumes nothing.
 use mathlib.Core.Path.{sym}
-use Prim.Native.Nat.{_≤_}
-use lib.ListN.{length}
 use lib.Seq.{length-take-le}
 use borrow.Author.Needs.{needs}
 use Rattle.pen.proofs.Drawings.{drawn-within}
