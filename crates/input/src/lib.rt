@@ -1,6 +1,5 @@
 // The input's lines, one after another; the last may lack its newline.
-ghost use mathlib.Core.Path.{_≡_};
-ghost use Prim.Native.Nat.{_≤_, _+_};
+ghost use Prim.Native.Nat.{_≤_};
 ghost use lib.ListN.{length};
 use libc::STDIN_FILENO;
 
@@ -10,8 +9,8 @@ pub type Chunk = [u8; 65536];
 // A line without its newline: a byte more than the longest that is taken, so that a longer one is known.
 pub type Line = [u8; 400001];
 
-// How far the reading has come: the chunk's bytes that are not taken yet go from `from` to `to`, the line has `have` bytes, and after the end
-// nothing is open.
+// How far the reading has come: the chunk's bytes that are not taken yet go from `from` to `to`, the line has `have` bytes, and `open` says whether
+// the input may go on.
 pub struct Source {
     pub from: usize,
     pub to: usize,

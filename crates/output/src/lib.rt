@@ -104,6 +104,7 @@ pub fn put_reply(page: &mut Page, used: usize, reply: Reply, lent: &[i32]) -> us
     }
     let room = reply.room;
     let used = put_fields(page, used, reply);
+    // No command says more than is lent; to prove it would cost each of them more than this test.
     if lent.len() < room {
         return put_byte(page, used, b'\n');
     }

@@ -3,9 +3,6 @@ ghost use mathlib.Core.Path.{_≡_};
 ghost use Prim.Native.Nat.{_+_, _≤_, _<_};
 use grid::Window;
 
-// The most fields of a reply.
-pub const MOST_FIELDS: usize = 16;
-
 // How a field is written: a number, a number with a minus, or the eight hexadecimal digits of an f32's bits.
 pub const PLAIN: u8 = 0;
 
@@ -13,7 +10,7 @@ pub const MINUS: u8 = 1;
 
 pub const BITS: u8 = 2;
 
-// Its first `count` fields, each a form and a size; behind them come the first `room` numbers of the output that was lent.
+// Its first `count` fields, each with its form and its size; behind them come the first `room` numbers of the output that was lent.
 // A reply of no fields is the answer to a line that is no call.
 pub struct Reply {
     pub count: usize,
@@ -42,6 +39,7 @@ pub fn begin(number: u8, place: usize) -> Reply
 }
 
 impl Reply {
+    // One field more. A reply has places for sixteen, so a command that says more is refused.
     fn field(mut self, form: u8, size: u64) -> Self
         requires { ⌜ self .count < 16 ⌝ }
         ensures { λ r. ⌜ r .count ≡ self .count + 1 ⌝ }

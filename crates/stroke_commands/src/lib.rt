@@ -31,7 +31,9 @@ fn answered(a: StrokeAnswer) -> Reply
 {
     let t0 = a.t0;
     let t1 = a.t1;
-    part(replies::begin(a.number, a.place), a.kept, t0, t1).integer(a.ax)
+    let reply = part(replies::begin(a.number, a.place), a.kept, t0, t1);
+    reply
+        .integer(a.ax)
         .integer(a.ay)
         .integer(a.bx)
         .integer(a.by)
