@@ -24,7 +24,7 @@ abbrev μ-loop : tie.MeasureT-loop
 μ-loop order cuts rest₀ k₀ rest k = 3 - k
 
 sides-of-requires : tie.Need-sides-of-requires Inv-loop μ-loop
-sides-of-requires c κs = c .pre
+sides-of-requires c κs = omega (arith, c .pre)
 
 loop-holds : tie.Need-loop-holds Inv-loop μ-loop
 loop-holds c = (omega arith, c .sides-of .ensures, λ j h. absurd (omega arith))

@@ -76,6 +76,9 @@ module _ (c : tie.In-loop Inv-loop μ-loop) where
   sides : Cutting (windowOf (now (start at .args .numbers))) (now (start at .args .outline)) (now (start at .args .cuts))
   sides = start at .pre .1 .1 .0
 
+  below : at .loop .k < 4
+  below = omega (arith, c .loop-test .taken)
+
   abbrev Left-by : Places → List ℤ → Type 0
   Left-by p m =
       Followed (windowOf (now (start at .args .numbers))) (now (start at .args .outline)) (now (start at .args .m)) (start at .args .q)
@@ -87,9 +90,8 @@ module _ (c : tie.In-loop Inv-loop μ-loop) where
       → Left-by p m
   left p m d h o ho e₀ r₀ =
       let f = at .loop .inv .2 o ho e₀ r₀ in (
-        sides-after o ho (at .loop .k) (c .loop-test .taken) (f .0),
-        run-more ho (c .loop-test .taken)
-            (next-side o ho (at .loop .k) (c .loop-test .taken) (f .0)) d (f .1) h,
+        sides-after o ho (at .loop .k) below (f .0),
+        run-more ho below (next-side o ho (at .loop .k) below (f .0)) d (f .1) h,
       )
 
 cast-side : tie.Need-cast-side Inv-loop μ-loop
@@ -135,8 +137,8 @@ module _ (c : tie.After-pass Inv-loop μ-loop) where
       → Cuts (linesIn (order (at within)) (windowOf (now (start (at within) .args .numbers)))) (cornersOf (now (start (at within) .args .outline))) none
   none-left h =
       let f = so-far (at within) in
-      run-gone (is-order (at within)) (within .loop-test .taken) (next-side (order (at within)) (is-order (at within)) (at within .loop .k)
-      (within .loop-test .taken) (f .0)) (c .pass .ensures) (f .1) h
+      let o = is-order (at within) in
+      run-gone o (below within) (next-side (order (at within)) o (at within .loop .k) (below within) (f .0)) (c .pass .ensures) (f .1) h
 
 -- ---- after a side that cuts nothing off
 over : (c : tie.In-loop Inv-loop μ-loop) → getD (now (start (at c) .args .cuts)) (side c) false ≡ false → Left-by c (at c .loop .p) (at c .loop .m)
@@ -155,7 +157,7 @@ same-length : tie.Need-same-length Inv-loop μ-loop
 same-length c = let p = c .before .before .before in p .pass .kept .1 .1 .1 .1 .0 ∙ at (within p) .loop .inv .1
 
 returns : tie.Need-returns Inv-loop μ-loop
-returns c = no-area refl (none-left (c .before .before .before) (c .if2 .taken))
+returns c = no-area refl (none-left (c .before .before .before) (omega (arith, c .if2 .taken)))
 
 add-k-2 : tie.Need-add-k-2 Inv-loop μ-loop
 add-k-2 c = omega arith
