@@ -19,6 +19,7 @@ use Rattle.rings.specs.Lists.{All, ∅, _◂_}
 use Rattle.rings.specs.Points.{Point, through, Real, Proper}
 use Rattle.rings.specs.Rings.{at, Edge, along, closing, Ring}
 use Rattle.convex.specs.Corners.{gridPoint, cornersOf, next}
+use Rattle.convex.proofs.Places.{count, point-at}
 use Rattle.crossings.specs.Outlines.{OutlineOnTable}
 use Rattle.crossings.specs.Tags.{strokeFrom, lineOf, edgeOf, Names, edge, side}
 use Rattle.crossings.proofs.SideStrokes.{side-real}
@@ -41,21 +42,8 @@ pub next-below : (n k : ℕ) → k < n → next n k < n
 next-below n k h = ⊎-elim (λ e. rw (next-round n k e) (omega arith)) (λ l. rw (next-on n k l) l) (eq-or-lt-of-le h)
 
 -- ---- the corners
-pub corner-count : (zs : List ℤ) → length (cornersOf zs) ≡ length zs / 2
-unfolding cornersOf
-corner-count [] = refl
-corner-count (x ∷ []) = refl
-corner-count (x ∷ y ∷ zs) = let e = corner-count zs in omega arith
-
 pub corner-at : (zs : List ℤ) (k : ℕ) → k < length zs / 2 → at (cornersOf zs) k ≡ gridPoint (getD zs (2 * k) (pos 0)) (getD zs (2 * k + 1) (pos 0))
-unfolding cornersOf
-corner-at [] k h = absurd (omega arith)
-corner-at (x ∷ []) k h = absurd (omega arith)
-corner-at (x ∷ y ∷ zs) zero h = refl
-corner-at (x ∷ y ∷ zs) (suc k) h =
-    let e : 2 * suc k ≡ suc (suc (2 * k)) = omega arith in
-    let f : 2 * suc k + 1 ≡ suc (suc (2 * k + 1)) = omega arith in
-    corner-at zs k (omega arith) ∙ sym (λ i. gridPoint (getD (x ∷ y ∷ zs) (e i) (pos 0)) (getD (x ∷ y ∷ zs) (f i) (pos 0)))
+corner-at zs k h = point-at zs k (omega (arith, count zs))
 
 pub corners-all : {P : Point → Type 0} (zs : List ℤ) → ((k : ℕ) → k < length zs / 2 → P (gridPoint (getD zs (2 * k) (pos 0)) (getD zs (2 * k + 1) (pos 0))))
     → All P (cornersOf zs)
@@ -113,12 +101,12 @@ edge-line zs {k} {j} e =
 
 module _ {zs : List ℤ} (o : OutlineOnTable zs) where
   pub outline-ring : Ring (cornersOf zs)
-  outline-ring = record { three = omega (arith, corner-count zs, o .corners .three); proper = corners-proper zs; convex = o .convex }
+  outline-ring = record { three = omega (arith, count zs, o .corners .three); proper = corners-proper zs; convex = o .convex }
 
   edge-real : (k : ℕ) → k < length zs / 2 → Real (lineOf (edgeOf zs k))
   edge-real k h =
       let j = next (length zs / 2) k in
-      let e = subst (λ (n : ℕ). Edge n k j) (sym (corner-count zs)) (next-edge h) in
+      let e = subst (λ (n : ℕ). Edge n k j) (sym (count zs)) (next-edge h) in
       let m = third (outline-ring .three) e in
       subst Real (sym (edge-line zs (next-edge h))) (at (cornersOf zs) (m .place), o .convex .left-of k j (m .place) e (m .fits) (m .first) (m .second) .left)
 

@@ -17,7 +17,7 @@ use Rattle.grid.specs.declared.Refusal.{Refusal}
 use Rattle.grid.specs.declared.Stroke.{Stroke}
 use Rattle.grid.specs.declared.Window.{Window}
 use Rattle.grid.proofs.Refusals.{goes-on}
-use Rattle.drawing.specs.Drawings.{Drawing, fault, drawn, Means, numbersOf, refused, told, Reads, ReadDrawing}
+use Rattle.drawing.specs.Drawings.{Drawing, fault, drawn, Means, numbersOf, refused, told, ReadsAs, ReadDrawing}
 use Rattle.drawing.specs.declared.DrawingAnswer.{DrawingAnswer}
 use Rattle.drawing.proofs.Strokes.{four-each}
 use Rattle.drawing.proofs.Theorems.{few-strokes, on-table}
@@ -67,7 +67,7 @@ pub read : {bs : List ℕ} {a : DrawingAnswer} {before after : List ℤ} → 163
     → Read bs a after
 read {bs} {a} {before} {after} room same r = go (r .drawing) (r .means) (r .call)
   where
-    go : (d : Drawing) → Means bs d → Reads d a before after → Read bs a after
+    go : (d : Drawing) → Means bs d → ReadsAs d a before after → Read bs a after
     go (fault place) m g =
         let n : _≡_ {A = ℕ} 11 0 → ⊥ = λ z. omega arith in
         refusing 11 0 (g .refused n .answer) n (λ rows. faulty m)

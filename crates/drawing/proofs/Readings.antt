@@ -15,7 +15,7 @@ use Rattle.grid.specs.declared.Refusal.{Refusal}
 use Rattle.grid.specs.declared.Stroke.{Stroke}
 use Rattle.grid.specs.declared.Window.{Window}
 use Rattle.grid.proofs.Calls.{lent-refused, lent-done, given-short, given-whole, call-unique}
-use Rattle.drawing.specs.Drawings.{Drawing, fault, drawn, meaning, numbersOf, numbers, drawingRefusal, refused, told, Reads, ReadDrawing}
+use Rattle.drawing.specs.Drawings.{Drawing, fault, drawn, meaning, numbersOf, numbers, drawingRefusal, refused, told, ReadsAs, ReadDrawing}
 use Rattle.drawing.specs.declared.DrawingAnswer.{DrawingAnswer}
 use Rattle.drawing.proofs.Computed.{computed, by-computed}
 use Rattle.drawing.proofs.Strokes.{four-each}
@@ -26,23 +26,23 @@ readAnswer d room = if eqb (drawingRefusal d .number) 0 then answeredBy refused 
 unfoldable pub readOutput : Drawing → List ℤ → List ℤ
 readOutput d out = if eqb (drawingRefusal d .number) 0 then written (numbers d) out else out
 
-pub reads : (d : Drawing) (out : List ℤ) → Reads d (readAnswer d (length out)) out (readOutput d out)
+pub reads : (d : Drawing) (out : List ℤ) → ReadsAs d (readAnswer d (length out)) out (readOutput d out)
 unfolding readAnswer readOutput
 reads d out = record {
   refused = λ h. record { answer = simp (ne-eqb _ _ h); untouched = simp (ne-eqb _ _ h) };
   done = λ h. record { numbers = numbers d; gives = refl; answer = simp (eq-eqb _ _ h); output = simp (eq-eqb _ _ h) };
 }
 
-pub reads-unique : (d : Drawing) {a b : DrawingAnswer} {out after after′ : List ℤ} → Reads d a out after → Reads d b out after′ → (a ≡ b) × (after ≡ after′)
+pub reads-unique : (d : Drawing) {a b : DrawingAnswer} {out after after′ : List ℤ} → ReadsAs d a out after → ReadsAs d b out after′ → (a ≡ b) × (after ≡ after′)
 reads-unique d p q = call-unique (drawingRefusal d) (λ xs ys x y. x ∙ sym y) p q
 
-pub to-reading : (bs : List ℕ) {d : Drawing} {a b : DrawingAnswer} {out after : List ℤ} → meaning computed bs ≡ d → a ≡ b → Reads d b out after
+pub to-reading : (bs : List ℕ) {d : Drawing} {a b : DrawingAnswer} {out after : List ℤ} → meaning computed bs ≡ d → a ≡ b → ReadsAs d b out after
     → ReadDrawing bs a out after
 to-reading bs {d} e f r = record { drawing = d; means = by-computed (sym e); call = rw f r }
 
 -- ---- the ways of a reading
 
-pub faulty : (d : Drawing) {out : List ℤ} → (told d .number ≡ 0 → ⊥) → Reads d (told d) out out
+pub faulty : (d : Drawing) {out : List ℤ} → (told d .number ≡ 0 → ⊥) → ReadsAs d (told d) out out
 faulty (fault place) h = lent-refused refl h
 faulty (drawn w ss) h = absurd (h refl)
 
@@ -63,7 +63,7 @@ decision w needed room = if eqb (noArea w .number) 0 then roomRefusal needed roo
 
 module _ (w : Window) (ss : List Stroke) (out : List ℤ) where
   abbrev Refuses : Refusal → Type 0
-  Refuses r = (r .number ≡ 0 → ⊥) → Reads (drawn w ss) (refused r) out out
+  Refuses r = (r .number ≡ 0 → ⊥) → ReadsAs (drawn w ss) (refused r) out out
 
   pub refuses : Refuses (decision w (4 * length ss) (length out))
   unfolding roomRefusal
@@ -76,7 +76,7 @@ module _ (w : Window) (ss : List Stroke) (out : List ℤ) where
   -- nothing is refused: there is room, and the strokes' numbers are all that is left to write
   pub record Free : Type 0 where
     pub has-room : 4 * length ss ≤ length out
-    pub reads : (after : List ℤ) → after ≡ written (numbersOf ss) out → Reads (drawn w ss) (told (drawn w ss)) out after
+    pub reads : (after : List ℤ) → after ≡ written (numbersOf ss) out → ReadsAs (drawn w ss) (told (drawn w ss)) out after
 
   pub free : decision w (4 * length ss) (length out) .number ≡ 0 → Free
   unfolding roomRefusal

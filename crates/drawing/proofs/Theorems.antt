@@ -22,7 +22,7 @@ use Rattle.intake.proofs.Outcome.{outcome}
 use Rattle.drawing.specs.Intake.{Intake}
 use Rattle.format.specs.Format.{numberAt, floatAt, headFault, recordAt}
 use Rattle.drawing.specs.Pen.{equal, same, after, turnAt}
-use Rattle.drawing.specs.Drawings.{Drawing, fault, drawn, walk, meaning, Means, numbersOf, Reads, ReadDrawing}
+use Rattle.drawing.specs.Drawings.{Drawing, fault, drawn, walk, meaning, Means, numbersOf, ReadsAs, ReadDrawing}
 use Rattle.drawing.specs.declared.DrawingAnswer.{DrawingAnswer}
 use Rattle.drawing.specs.declared.pen.Pen.{Pen}
 use Rattle.drawing.proofs.Computed.{computed, is-computed, by-computed}
@@ -61,7 +61,7 @@ module _ (bs : List ℕ) where
 
   pub read-unique : {a b : DrawingAnswer} {out after after′ : List ℤ} → ReadDrawing bs a out after → ReadDrawing bs b out after′ → (a ≡ b) × (after ≡ after′)
   read-unique {b = b} {out = out} {after′ = after′} p q =
-      reads-unique (p .drawing) (p .call) (subst (λ (d : Drawing). Reads d b out after′) (means-unique (q .means) (p .means)) (q .call))
+      reads-unique (p .drawing) (p .call) (subst (λ (d : Drawing). ReadsAs d b out after′) (means-unique (q .means) (p .means)) (q .call))
 
 -- ---- the worked example: window 0 0 0.3125 0.3125, move to (-0.15625, 0.15625), line to (0.46875, 0.15625), close
 

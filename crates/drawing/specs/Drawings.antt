@@ -10,7 +10,7 @@
 --   drawingRefusal d     what is refused before the output's room is looked at: 11 is decided first, then 3
 --   refused r            the answer that refuses by r: every other field is 0
 --   told d               the answer for d where nothing but a fault is refused
---   Reads d a before after   the call on bytes that mean d: its answer a, and its output before and after
+--   ReadsAs d a before after   the call on bytes that mean d: its answer a, and its output before and after
 --   Drawable bs room     the bytes mean a drawing whose strokes have room in an output of so many numbers
 --   ReadDrawing bs a before after   the call on the bytes bs: its answer a, and its output before and after
 use mathlib.Core.Path.{_≡_}
@@ -87,8 +87,8 @@ abbrev pub told : Drawing → DrawingAnswer
 told (fault place) = refused (refuse badDrawing 0)
 told (drawn w ss) = record { number = 0; place = 0; window = w; count = length ss }
 
-abbrev pub Reads : Drawing → DrawingAnswer → List ℤ → List ℤ → Type 0
-Reads d = Lent refused (drawingRefusal d) (GivenBy refused (λ _. told d) (λ xs. xs ≡ numbers d))
+abbrev pub ReadsAs : Drawing → DrawingAnswer → List ℤ → List ℤ → Type 0
+ReadsAs d = Lent refused (drawingRefusal d) (GivenBy refused (λ _. told d) (λ xs. xs ≡ numbers d))
 
 pub record Drawable (bs : List ℕ) (room : ℕ) : Type 0 where
   pub window : Window
@@ -99,4 +99,4 @@ pub record Drawable (bs : List ℕ) (room : ℕ) : Type 0 where
 pub record ReadDrawing (bs : List ℕ) (a : DrawingAnswer) (before after : List ℤ) : Type 0 where
   pub drawing : Drawing
   pub means : Means bs drawing
-  pub call : Reads drawing a before after
+  pub call : ReadsAs drawing a before after

@@ -26,7 +26,7 @@ use Rattle.limits.specs.Sides.{sideLine}
 use Rattle.limits.proofs.Sides.{side-line-real}
 use Rattle.limits.proofs.Owned.{Loaded, loaded-of}
 use Rattle.crossings.specs.Outlines.{OutlineOnTable}
-use Rattle.crossings.proofs.Outlines.{corner-count}
+use Rattle.convex.proofs.Places.{count as corner-count}
 use Rattle.remains.specs.Remains.{Held, Passed}
 use Rattle.remains.proofs.Pieces.{cut-nothing}
 use Rattle.remains.proofs.Held.{small-in}

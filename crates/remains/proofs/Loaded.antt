@@ -22,7 +22,8 @@ use Rattle.memory.proofs.Memories.{ring-length, ring-at, tagged-all}
 use Rattle.limits.proofs.Owned.{Loaded}
 use Rattle.crossings.specs.Outlines.{OutlineOnTable}
 use Rattle.crossings.specs.Tags.{edgeOf, Names, edge, Lies}
-use Rattle.crossings.proofs.Outlines.{corner-count, corner-at, edge-from, edge-below, edge-line, outline-ring}
+use Rattle.convex.proofs.Places.{count}
+use Rattle.crossings.proofs.Outlines.{corner-at, edge-from, edge-below, edge-line, outline-ring}
 use Rattle.remains.specs.Remains.{Held}
 
 -- ---- a line holds the two points that it joins
@@ -56,7 +57,7 @@ module _ {zs m : List ℤ} (o : OutlineOnTable zs) (l : Loaded zs m (length zs /
 
   pub ring-loaded : ringFrom m 0 (length zs / 2 - 0) ≡ cornersOf zs
   ring-loaded =
-      ap (ringFrom m 0) (sub-zero (length zs / 2)) ∙ ext-getD nowhere _ _ (ring-length m 0 (length zs / 2) ∙ sym (corner-count zs))
+      ap (ringFrom m 0) (sub-zero (length zs / 2)) ∙ ext-getD nowhere _ _ (ring-length m 0 (length zs / 2) ∙ sym (count zs))
       (λ k h. let j : k < length zs / 2 = omega (arith, ring-length m 0 (length zs / 2)) in
       ring-at m 0 (length zs / 2) k j ∙ ap (pointIn m) (zero-add k) ∙ corner-in k j)
 

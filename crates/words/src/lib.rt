@@ -1,14 +1,12 @@
-// Words of a line: the numbers that they are, and the word of an f32.
+// Words of a line: the numbers that they are.
 ghost use mathlib.Core.Path.{_≡_};
-ghost use mathlib.Core.Bool.{false, not};
+ghost use mathlib.Core.Bool.{false};
 ghost use Prim.Native.Nat.{_+_, _≤_, _<_, _^_};
 ghost use lib.IntN.{pos, negℤ};
-ghost use lib.Dec.{T};
-ghost use lib.Ieee.{binary32, ofBits, isNan};
+ghost use lib.Ieee.{binary32, ofBits};
 ghost use lib.ListN.{length};
-ghost use Rattle.text.specs.Pages.{Put};
 ghost use Rattle.words.specs.Digits.{digitOf, wordValue};
-ghost use Rattle.words.specs.Words.{upTo, hasMinus, numeral, unsigned, asInteger, single, pattern, arguments, integers, pairs, bytes, Into};
+ghost use Rattle.words.specs.Words.{upTo, hasMinus, numeral, unsigned, asInteger, single, arguments, integers, pairs, bytes, Into};
 
 // The number that a word is, or that it is none of those asked for.
 pub enum Natural {
@@ -221,16 +219,4 @@ fn read_pairs(text: &[u8], out: &mut [u8]) -> Read
         whole: true,
         count: n,
     }
-}
-
-// Puts the bits of x from the place `at` on, and says where they end.
-pub fn put_single(out: &mut [u8], at: usize, x: f32) -> usize
-    requires { ⌜ at + 8 ≤ length (now out) ⌝ }
-    requires { ⌜ T (not (isNan x)) ⌝ }
-    ensures { λ r. ⌜ Put (now (out .entry)) (now (out .exit)) at r (pattern x) ⌝ }
-    ensures { λ r. ⌜ r ≡ at + 8 ⌝ }
-{
-    let mut digits = [0u8; 16];
-    let k = io::hex(f32::to_bits(x) as u64, 8, &mut digits);
-    text::put(out, at, &digits[..k])
 }
