@@ -11,11 +11,11 @@ match($0, /^rt: must-fail [a-z_]+\/[A-Za-z_0-9]+: .*[0-9]+ s\)/) {
 function note(crate) { if (!(crate in seen)) { seen[crate] = 1; name[++crates] = crate } }
 function seconds(line) { sub(/ s\).*$/, "", line); sub(/^.*[^0-9]/, "", line); return line + 0 }
 END {
-    printf "%-12s %6s %6s %8s %9s\n", "crate", "check", "edits", "seconds", "together"
+    printf "%-20s %6s %6s %8s %9s\n", "crate", "check", "edits", "seconds", "together"
     for (k = 1; k <= crates; k++) {
         crate = name[k]
-        printf "%-12s %6d %6d %8d %9d\n", crate, check[crate], edits[crate], tried[crate], check[crate] + tried[crate]
+        printf "%-20s %6d %6d %8d %9d\n", crate, check[crate], edits[crate], tried[crate], check[crate] + tried[crate]
         allChecks += check[crate]; allEdits += edits[crate]; allTried += tried[crate]
     }
-    printf "%-12s %6d %6d %8d %9d\n", "all", allChecks, allEdits, allTried, allChecks + allTried
+    printf "%-20s %6d %6d %8d %9d\n", "all", allChecks, allEdits, allTried, allChecks + allTried
 }
