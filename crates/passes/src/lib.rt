@@ -9,8 +9,8 @@ ghost use Rattle.grid.specs.Table.{WindowOnTable};
 ghost use Rattle.limits.specs.Sides.{windowOf};
 ghost use Rattle.crossings.specs.Outlines.{OutlineOnTable};
 ghost use Rattle.passes.specs.Orders.{sidesIn, sideIn, packed};
-ghost use Rattle.passes.specs.Turns.{InOrder};
-ghost use Rattle.passes.specs.Passes.{Cutting, Running, Ran};
+ghost use Rattle.passes.specs.Turns.{InOrder, Underway, Completed};
+ghost use Rattle.passes.specs.Passes.{Cutting, Ran};
 
 // The sides in each of the 24 orders, the first in the lowest two bits: 0 left, 1 right, 2 bottom, 3 top.
 const SIDES: [u8; 24] = [
@@ -50,7 +50,6 @@ fn sides_of(order: u32) -> u8
 
 // A place in an order of the sides: the side that is the k-th, and those after it, are packed in rest.
 struct Turn {
-    order: u32,
     k: usize,
     rest: u8,
 }
@@ -58,7 +57,7 @@ struct Turn {
 // The first side of an order that cuts, or else its last side; cuts has whether a side cuts, at the side's place.
 fn first_turn(order: u32, cuts: &[bool; 4]) -> Turn
     requires { ⌜ order ≤ 23 ⌝ }
-    ensures { λ r. ⌜ (r .order ≡ order) × InOrder r ⌝ }
+    ensures { λ r. ⌜ InOrder order r ⌝ }
     ensures { λ r. ⌜ ((j : ℕ) → j < r .k → getD (now (cuts .entry)) (placeOf (sideIn order j)) false ≡ false) ⌝ }
 {
     let mut rest = sides_of(order);
@@ -67,10 +66,10 @@ fn first_turn(order: u32, cuts: &[bool; 4]) -> Turn
         rest /= 4;
         k += 1;
     }
-    Turn { order, k, rest }
+    Turn { k, rest }
 }
 
-// The passes after that of a turn, which left the ring at the places q, each along a side that cuts.
+// The passes after that of a turn, which left the ring at the places q, each along a side that cuts. Which order it is, the packed sides tell.
 fn go_on(
     numbers: &[i32; 4],
     t: Turn,
@@ -80,12 +79,11 @@ fn go_on(
     q: Places,
 ) -> Places
     requires { ⌜ WindowOnTable (windowOf (now numbers)) ⌝ }
-    requires { ⌜ InOrder t ⌝ }
     requires { ⌜ Cutting (windowOf (now numbers)) (now outline) (now cuts) ⌝ }
     requires { ⌜ OutlineOnTable (now outline) ⌝ }
     requires { ⌜ 2 * length (now outline) + 16 ≤ length (now m) ⌝ }
-    requires { ⌜ Running (windowOf (now numbers)) (t .order) (now outline) (now m) q (t .k + 1) ⌝ }
-    ensures { λ r. ⌜ Ran (windowOf (now (numbers .entry))) (t .order) (now (outline .entry)) (now (m .exit)) r ⌝ }
+    requires { ⌜ ((o : ℕ) × Underway (windowOf (now numbers)) o (now outline) t (now m) q) ⌝ }
+    ensures { λ r. ⌜ Completed (windowOf (now (numbers .entry))) (now (outline .entry)) t (now (m .entry)) q (now (m .exit)) r ⌝ }
 {
     let mut p = q;
     let mut rest = t.rest / 4;

@@ -2,34 +2,12 @@
 ghost use mathlib.Core.Path.{_≡_};
 ghost use mathlib.Core.Bool.{true};
 ghost use Prim.Native.Nat.{_≤_};
-ghost use lib.IntN.{ℤ};
 ghost use lib.ListN.{length};
-ghost use lib.Signed.{_≤ℤ_};
 ghost use Rattle.whole.specs.Choice.{Decides};
 ghost use Rattle.grid.specs.Sides.{Side, Clear, Beyond};
 ghost use Rattle.grid.specs.Table.{NumbersOnTable};
 ghost use Rattle.reach.specs.Reach.{Round, Reaches, ReachOnTable};
 use grid::Window;
-
-fn lesser(a: i32, b: i32) -> i32
-    ensures { λ r. ⌜ (r ≤ℤ a) × (r ≤ℤ b) ⌝ }
-    ensures { λ r. ⌜ ((c : ℤ) → c ≤ℤ a → c ≤ℤ b → c ≤ℤ r) ⌝ }
-{
-    if b < a {
-        return b;
-    }
-    a
-}
-
-fn greater(a: i32, b: i32) -> i32
-    ensures { λ r. ⌜ (a ≤ℤ r) × (b ≤ℤ r) ⌝ }
-    ensures { λ r. ⌜ ((c : ℤ) → a ≤ℤ c → b ≤ℤ c → r ≤ℤ c) ⌝ }
-{
-    if a < b {
-        return b;
-    }
-    a
-}
 
 // A rectangle widened so that it reaches every corner from one on, where it holds all before that.
 fn widened(outline: &[i32], from: usize, b: Window) -> Window
@@ -46,10 +24,10 @@ fn widened(outline: &[i32], from: usize, b: Window) -> Window
     while k < n {
         let x = outline[2 * k];
         let y = outline[2 * k + 1];
-        left = lesser(left, x);
-        bottom = lesser(bottom, y);
-        right = greater(right, x);
-        top = greater(top, y);
+        left = whole::lesser(left, x);
+        bottom = whole::lesser(bottom, y);
+        right = whole::greater(right, x);
+        top = whole::greater(top, y);
         k += 1;
     }
     Window {

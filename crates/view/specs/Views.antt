@@ -1,5 +1,4 @@
 -- What a picture must show.
---   lesser a b, greater a b  the lesser and the greater of two numbers
 --   around r x y             the least rectangle that holds r and the point x y
 --   reach w xs n             the least rectangle that holds the strip w and the first n points of the list xs, two numbers each
 --   apart a b                how far two numbers are apart
@@ -10,15 +9,9 @@ use Prim.Native.Nat.{ℕ, zero, suc, _+_, _*_}
 use lib.Dec.{ltb}
 use lib.IntN.{ℤ, pos, natAbs, _-ℤ_}
 use lib.ListN.{getD}
-use lib.Signed.{ltZ}
 use Rattle.whole.specs.Choice.{if_then_else_}
+use Rattle.whole.specs.Extremes.{lesser, greater}
 use Rattle.grid.specs.declared.Window.{Window}
-
-unfoldable pub lesser : ℤ → ℤ → ℤ
-lesser a b = if ltZ b a then b else a
-
-unfoldable pub greater : ℤ → ℤ → ℤ
-greater a b = if ltZ a b then b else a
 
 abbrev pub around : Window → ℤ → ℤ → Window
 around r x y = record { left = lesser (r .left) x; bottom = lesser (r .bottom) y; right = greater (r .right) x; top = greater (r .top) y }

@@ -2,36 +2,18 @@
 ghost use mathlib.Core.Path.{_≡_};
 ghost use Prim.Native.Nat.{_*_, _≤_, _/_};
 ghost use lib.ListN.{length};
-ghost use Rattle.view.specs.Views.{lesser, greater, around, reach, apart, width, height, extent};
+ghost use Rattle.view.specs.Views.{around, reach, apart, width, height, extent};
 use grid::Window;
-
-fn lesser(a: i32, b: i32) -> i32
-    ensures { λ r. ⌜ r ≡ lesser a b ⌝ }
-{
-    if b < a {
-        return b;
-    }
-    a
-}
-
-fn greater(a: i32, b: i32) -> i32
-    ensures { λ r. ⌜ r ≡ greater a b ⌝ }
-{
-    if a < b {
-        return b;
-    }
-    a
-}
 
 // The least rectangle that holds r and a point.
 fn around(r: Window, x: i32, y: i32) -> Window
     ensures { λ s. ⌜ s ≡ around r x y ⌝ }
 {
     Window {
-        left: lesser(r.left, x),
-        bottom: lesser(r.bottom, y),
-        right: greater(r.right, x),
-        top: greater(r.top, y),
+        left: whole::lesser(r.left, x),
+        bottom: whole::lesser(r.bottom, y),
+        right: whole::greater(r.right, x),
+        top: whole::greater(r.top, y),
     }
 }
 

@@ -1,5 +1,5 @@
 -- `passes::first_turn` meets its contract: no side before the k-th cuts, and those from it on are packed in the rest. Assumes nothing.
-use mathlib.Core.Path.{_≡_, refl, subst}
+use mathlib.Core.Path.{_≡_, subst}
 use mathlib.Core.Bool.{Bool, false}
 use mathlib.Core.List.{List}
 use Prim.Native.Nat.{ℕ, _-_, _<_, _≤_}
@@ -58,12 +58,12 @@ loop-again c =
 returns : tie.Need-returns Inv-loop μ-loop
 returns c =
     let l = c .before .before .before .loop in
-    ((refl, record { order = c .before .before .before .before .before .pre; place = l .inv .0; sides = l .inv .1 }), l .inv .2)
+    (record { order = c .before .before .before .before .before .pre; place = l .inv .0; sides = l .inv .1 }, l .inv .2)
 
 returns-2 : tie.Need-returns-2 Inv-loop μ-loop
 returns-2 c =
     let l = c .before .loop in
-    ((refl, record { order = c .before .before .before .pre; place = l .inv .0; sides = l .inv .1 }), l .inv .2)
+    (record { order = c .before .before .before .pre; place = l .inv .0; sides = l .inv .1 }, l .inv .2)
 
 pub first-turn-spec : {M : Type 1} → statement M
 first-turn-spec =

@@ -20,6 +20,7 @@ use Rattle.convex.specs.Corners.{cornersOf}
 use Rattle.limits.specs.Sides.{windowOf}
 use Rattle.passes.specs.Orders.{linesIn, sidesIn, packed}
 use Rattle.passes.specs.Passes.{Cutting, Running, no-area}
+use Rattle.passes.specs.Turns.{Underway}
 use Rattle.later_pass.specs.Later.{Job}
 use Rattle.grid.specs.Sides.{placeOf, sideAt, numberOf}
 use Rattle.remains.specs.Remains.{Passed}
@@ -46,24 +47,25 @@ add-k : tie.Need-add-k Inv-loop μ-loop
 add-k c = omega arith
 
 loop-holds : tie.Need-loop-holds Inv-loop μ-loop
-loop-holds c = (omega (arith, c .before .before .pre .1 .0 .place), refl, λ o h e r. (e, r))
+loop-holds c = (omega (arith, c .before .before .pre .1 .1 .1 .1 .1 .in-order .place), refl, λ o h e r. (e, r))
 
--- ---- the order of the turn
+-- ---- in an order of which the turn is a place
 module _ (c : tie.At-loop Inv-loop μ-loop) where
   abbrev start : tie.Start Inv-loop μ-loop
   start = c .before .before .before
 
-  abbrev order : ℕ
-  order = start .args .t .order
+  abbrev Begun : ℕ → Type 0
+  Begun o = Underway (windowOf (now (start .args .numbers))) o (now (start .args .outline)) (start .args .t) (now (start .args .m)) (start .args .q)
 
-  is-order : order ≤ 23
-  is-order = start .pre .1 .0 .order
+  so-far : (o : ℕ) → Begun o → (c .loop .rest ≡ packed (drop (c .loop .k) (sidesIn o))) × Running (windowOf (now (start .args .numbers))) o
+      (now (start .args .outline)) (c .loop .m) (c .loop .p) (c .loop .k)
+  so-far o b =
+      let t = b .in-order in
+      c .loop .inv .2 o (t .order) (sides-after o (t .order) (start .args .t .k) (omega (arith, t .place)) (t .sides)) (b .left)
 
-  so-far : (c .loop .rest ≡ packed (drop (c .loop .k) (sidesIn order))) × Running (windowOf (now (start .args .numbers))) order (now (start .args .outline))
-      (c .loop .m) (c .loop .p) (c .loop .k)
-  so-far =
-      let t = start .pre .1 .0 in
-      c .loop .inv .2 order is-order (sides-after order is-order (start .args .t .k) (omega (arith, t .place)) (t .sides)) (start .pre .1 .1 .1 .1 .1)
+  -- there is one
+  some-order : Running (windowOf (now (start .args .numbers))) (start .pre .1 .1 .1 .1 .0) (now (start .args .outline)) (c .loop .m) (c .loop .p) (c .loop .k)
+  some-order = so-far (start .pre .1 .1 .1 .1 .0) (start .pre .1 .1 .1 .1 .1) .1
 
 -- ---- the side that comes next
 module _ (c : tie.In-loop Inv-loop μ-loop) where
@@ -74,7 +76,7 @@ module _ (c : tie.In-loop Inv-loop μ-loop) where
   side = at .loop .rest % 4
 
   sides : Cutting (windowOf (now (start at .args .numbers))) (now (start at .args .outline)) (now (start at .args .cuts))
-  sides = start at .pre .1 .1 .0
+  sides = start at .pre .1 .0
 
   below : at .loop .k < 4
   below = omega (arith, c .loop-test .taken)
@@ -122,8 +124,8 @@ pass-requires c κs =
     let n = c .before .before in
     let i = n .before .before .before in
     let s = start (at i) in
-    let p = s .pre .1 .1 .1 in
-    let r = so-far (at i) .1 in
+    let p = s .pre .1 .1 in
+    let r = some-order (at i) in
     let job : Job (windowOf (now (s .args .numbers))) (now (s .args .outline)) (side i) = record { window = s .pre .0; outline = p .0; side = omega arith } in
     let l = c .before .limit-of .ensures in
     (job, ((l .0 (windowOf (now (s .args .numbers))) (is-number n), l .1), (omega (arith, r .room, p .1 .0, at i .loop .inv .1, i .loop-test .taken), r .held)))
@@ -133,18 +135,18 @@ module _ (c : tie.After-pass Inv-loop μ-loop) where
   abbrev within : tie.In-loop Inv-loop μ-loop
   within = c .before .before .before .before .before .before
 
-  none-left : c .pass .result .to - c .pass .result .from < 3
-      → Cuts (linesIn (order (at within)) (windowOf (now (start (at within) .args .numbers)))) (cornersOf (now (start (at within) .args .outline))) none
-  none-left h =
-      let f = so-far (at within) in
-      let o = is-order (at within) in
-      run-gone o (below within) (next-side (order (at within)) o (at within .loop .k) (below within) (f .0)) (c .pass .ensures) (f .1) h
+  none-left : (o : ℕ) → Begun (at within) o → c .pass .result .to - c .pass .result .from < 3
+      → Cuts (linesIn o (windowOf (now (start (at within) .args .numbers)))) (cornersOf (now (start (at within) .args .outline))) none
+  none-left o b h =
+      let f = so-far (at within) o b in
+      let l = b .in-order .order in
+      run-gone l (below within) (next-side o l (at within .loop .k) (below within) (f .0)) (c .pass .ensures) (f .1) h
 
 -- ---- after a side that cuts nothing off
 over : (c : tie.In-loop Inv-loop μ-loop) → getD (now (start (at c) .args .cuts)) (side c) false ≡ false → Left-by c (at c .loop .p) (at c .loop .m)
 over c e =
     let l = at c .loop in
-    let r = so-far (at c) .1 in
+    let r = some-order (at c) in
     let place : getD (now (start (at c) .args .cuts)) (placeOf (sideAt (side c))) false ≡ false =
     subst (λ (i : ℕ). getD (now (start (at c) .args .cuts)) i false ≡ false) (sym (place-side (side c) (omega arith))) e in
     left c (l .p) (l .m) (passed-over (sideAt (side c)) (sides c (sideAt (side c)) place) r)
@@ -157,7 +159,7 @@ same-length : tie.Need-same-length Inv-loop μ-loop
 same-length c = let p = c .before .before .before in p .pass .kept .1 .1 .1 .1 .0 ∙ at (within p) .loop .inv .1
 
 returns : tie.Need-returns Inv-loop μ-loop
-returns c = no-area refl (none-left (c .before .before .before) (omega (arith, c .if2 .taken)))
+returns c o b = no-area refl (none-left (c .before .before .before) o b (omega (arith, c .if2 .taken)))
 
 add-k-2 : tie.Need-add-k-2 Inv-loop μ-loop
 add-k-2 c = omega arith
@@ -178,12 +180,12 @@ same-length-2 : tie.Need-same-length-2 Inv-loop μ-loop
 same-length-2 c = c .before .loop .inv .1
 
 returns-2 : tie.Need-returns-2 Inv-loop μ-loop
-returns-2 c =
+returns-2 c o b =
     let a = c .before in
     let s = start a in
     let e : a .loop .k ≡ 4 = omega arith in
-    run-ended (is-order a) (omega (arith, s .pre .1 .1 .1 .1 .0, a .loop .inv .1))
-    (subst (Running (windowOf (now (s .args .numbers))) (order a) (now (s .args .outline)) (a .loop .m) (a .loop .p)) e (so-far a .1))
+    run-ended (b .in-order .order) (omega (arith, s .pre .1 .1 .1 .0, a .loop .inv .1))
+    (subst (Running (windowOf (now (s .args .numbers))) o (now (s .args .outline)) (a .loop .m) (a .loop .p)) e (so-far a o b .1))
 
 pub go-on-spec : {M : Type 1} → statement M
 go-on-spec =

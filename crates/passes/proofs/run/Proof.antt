@@ -2,7 +2,6 @@
 use mathlib.Core.Path.{_≡_, refl, sym, _∙_, subst}
 use mathlib.Core.Bool.{false}
 use mathlib.Core.List.{List}
-use mathlib.Core.Option.{none}
 use Prim.Native.Nat.{ℕ, _/_, _%_, _≤_}
 use native.Mathlib.Omega.{arith}
 use denote.Ref.{now}
@@ -13,11 +12,10 @@ use mir.Val.{toZ, ofZ}
 use Rattle.whole.specs.Within.{Within}
 use Rattle.whole.proofs.Comparisons.{back}
 use Rattle.grid.specs.Table.{farthest}
-use Rattle.rings.specs.Cuts.{Cuts}
-use Rattle.convex.specs.Corners.{cornersOf}
 use Rattle.limits.specs.Sides.{windowOf}
-use Rattle.passes.specs.Orders.{linesIn, sideIn}
-use Rattle.passes.specs.Passes.{Cutting, Running, Ran, no-area}
+use Rattle.passes.specs.Orders.{sideIn}
+use Rattle.passes.specs.Passes.{Cutting, Running, no-area}
+use Rattle.passes.specs.Turns.{Underway}
 use Rattle.remains.specs.Remains.{Passed}
 use Rattle.grid.specs.Sides.{placeOf, sideAt, numberOf}
 use Rattle.memory.specs.Tagged.{loadedOf}
@@ -46,23 +44,19 @@ module _ (c : tie.After-first-turn) where
   sides : Cutting (windowOf (now (start .args .numbers))) zs (now (start .args .cuts))
   sides = start .pre .1 .1 .0
 
-  is-order : t .order ≡ start .args .order
-  is-order = c .first-turn .ensures .0 .0
-
   place : t .k ≤ 3
-  place = c .first-turn .ensures .0 .1 .place
+  place = c .first-turn .ensures .0 .place
 
-  order : t .order ≤ 23
-  order = c .first-turn .ensures .0 .1 .order
+  order : start .args .order ≤ 23
+  order = c .first-turn .ensures .0 .order
 
-  is-next : sideAt side ≡ sideIn (t .order) (t .k)
-  is-next = next-side (t .order) order (t .k) (omega (arith, place)) (c .first-turn .ensures .0 .1 .sides)
+  is-next : sideAt side ≡ sideIn (start .args .order) (t .k)
+  is-next = next-side (start .args .order) order (t .k) (omega (arith, place)) (c .first-turn .ensures .0 .sides)
 
-  skipped : Running (windowOf (now (start .args .numbers))) (t .order) zs (loadedOf zs) (places 0 (length zs / 2)) (t .k)
+  skipped : Running (windowOf (now (start .args .numbers))) (start .args .order) zs (loadedOf zs) (places 0 (length zs / 2)) (t .k)
   skipped =
       run-skipped (start .pre .1 .1 .1 .0) order (t .k) (omega (arith, place))
-      (λ j l. sides (sideIn (t .order) j) (subst (λ (o : ℕ). getD (now (start .args .cuts)) (placeOf (sideIn o j)) false ≡ false) (sym is-order)
-      (c .first-turn .ensures .1 j l)))
+      (λ j l. sides (sideIn (start .args .order) j) (c .first-turn .ensures .1 j l))
 
 first-turn-requires : tie.Need-first-turn-requires
 first-turn-requires c κs = c .pre .1 .0
@@ -115,29 +109,26 @@ returns : tie.Need-returns
 returns c =
     let p = c .before .before .before in
     let f = turn p in
-    no-area refl (subst (λ (o : ℕ). Cuts (linesIn o (windowOf (now (start f .args .numbers)))) (cornersOf (zs f)) none) (is-order f)
-    (run-gone (order f) (omega (arith, place f)) (is-next f) (passed p) (skipped f) (c .if1 .taken)))
+    no-area refl (run-gone (order f) (omega (arith, place f)) (is-next f) (passed p) (skipped f) (c .if1 .taken))
+
+-- what the others go on from
+left : (c : tie.Else1) → let p = c .before .before .before in
+    let f = turn p in
+    Underway (windowOf (now (start f .args .numbers))) (start f .args .order) (zs f) (t f) (p .pass .last .1 .1 .1 .0) (p .pass .result)
+left c =
+    let p = c .before .before .before in
+    let f = turn p in
+    record {
+      in-order = f .first-turn .ensures .0;
+      left = run-more (order f) (omega (arith, place f)) (is-next f) (passed p) (skipped f) (c .if1 .left);
+    }
 
 go-on-requires : tie.Need-go-on-requires
 go-on-requires c κs =
     let p = c .before .before .before .before in
     let f = turn p in
-    let s = start f in (
-      s .pre .0,
-      (
-        f .first-turn .ensures .0 .1,
-        (
-          sides f,
-          (
-            s .pre .1 .1 .1 .0,
-            (
-              omega (arith, s .pre .1 .1 .1 .1, size p),
-              run-more (order f) (omega (arith, place f)) (is-next f) (passed p) (skipped f) (c .before .if1 .left),
-            ),
-          ),
-        ),
-      ),
-    )
+    let s = start f in
+    (s .pre .0, (sides f, (s .pre .1 .1 .1 .0, (omega (arith, s .pre .1 .1 .1 .1, size p), (s .args .order, left (c .before))))))
 
 same-length-2 : tie.Need-same-length-2
 same-length-2 c = c .before .go-on .kept .1 .1 .1 .1 .0 ∙ size (c .before .before .before .before .before .before)
@@ -145,8 +136,7 @@ same-length-2 c = c .before .go-on .kept .1 .1 .1 .1 .0 ∙ size (c .before .bef
 returns-2 : tie.Need-returns-2
 returns-2 c =
     let f = turn (c .before .before .before .before .before .before) in
-    subst (λ (o : ℕ). Ran (windowOf (now (start f .args .numbers))) o (zs f) (c .before .go-on .last .1 .1 .1 .1 .0) (c .before .go-on .result)) (is-order f)
-    (c .before .go-on .ensures)
+    c .before .go-on .ensures (start f .args .order) (left (c .before .before .before))
 
 pub run-spec : {M : Type 1} → statement M
 run-spec =

@@ -10,6 +10,7 @@ use mir.Syntax.{w32}
 use mir.Val.{toZ, ofZ}
 use Rattle.grid.specs.Table.{NumbersOnTable}
 use Rattle.whole.proofs.Comparisons.{back}
+use Rattle.whole.proofs.Extremes.{lesser-below, lesser-least, greater-above, greater-least}
 use Rattle.whole.proofs.Order.{zarith}
 use Rattle.reach.specs.Reach.{Round, ReachOnTable}
 use Rattle.reach.proofs.Reaching.{held, reading, is-reading, round-more, round-all}
@@ -93,20 +94,20 @@ loop-again c =
     let x = y .before in
     let i = x .before .before .loop .inv in (
       round-more (i .0)
-          (lower (l .result) _ (l .ok) (x .x .given) (l .ensures .0))
-          (upper (r .result) _ (r .ok) (x .x .given) (r .ensures .0))
-          (lower (b .result) _ (b .ok) (y .y .given) (b .ensures .0))
-          (upper (t .result) _ (t .ok) (y .y .given) (t .ensures .0)),
+          (lower (l .result) _ (l .ok) (x .x .given) (lesser-below (l .ensures)))
+          (upper (r .result) _ (r .ok) (x .x .given) (greater-above (r .ensures)))
+          (lower (b .result) _ (b .ok) (y .y .given) (lesser-below (b .ensures)))
+          (upper (t .result) _ (t .ok) (y .y .given) (greater-above (t .ensures))),
       λ on given.
           let before = i .1 on given in
           let h = x .before .loop-test .taken in
           let u = on (2 * x .before .before .loop .k) (omega arith) in
           let v = on (2 * x .before .before .loop .k + 1) (omega arith) in
           record {
-            left = lower-least (l .result) _ (l .ok) (x .x .given) (l .ensures .1) (before .left) (u .low);
-            right = upper-most (r .result) _ (r .ok) (x .x .given) (r .ensures .1) (before .right) (u .high);
-            bottom = lower-least (b .result) _ (b .ok) (y .y .given) (b .ensures .1) (before .bottom) (v .low);
-            top = upper-most (t .result) _ (t .ok) (y .y .given) (t .ensures .1) (before .top) (v .high);
+            left = lower-least (l .result) _ (l .ok) (x .x .given) (lesser-least (l .ensures)) (before .left) (u .low);
+            right = upper-most (r .result) _ (r .ok) (x .x .given) (greater-least (r .ensures)) (before .right) (u .high);
+            bottom = lower-least (b .result) _ (b .ok) (y .y .given) (lesser-least (b .ensures)) (before .bottom) (v .low);
+            top = upper-most (t .result) _ (t .ok) (y .y .given) (greater-least (t .ensures)) (before .top) (v .high);
           },
     )
 

@@ -1,6 +1,6 @@
 -- Each side is the lesser or the greater of the old one and the point.
 use mathlib.Core.Path.{_≡_, _∙_}
-use Rattle.view.specs.Views.{lesser, greater}
+use Rattle.whole.specs.Extremes.{lesser, greater}
 use borrow.Author.Needs.{needs}
 use mir.Facts.{toZ-ofZ}
 use mir.Syntax.{w32}

@@ -1,8 +1,8 @@
--- The test says which of the two it is.
+-- `whole::greater` meets its contract: the test says which of the two it is. Assumes nothing.
 use mir.Facts.{toZ-ofZ}
-use Rattle.view.specs.Views.{greater}
-use Rattle.view.proofs.greater.Statement.{statement}
-use Rattle.view.proofs.greater.Tie as tie
+use Rattle.whole.specs.Extremes.{greater}
+use Rattle.whole.proofs.greater.Statement.{statement}
+use Rattle.whole.proofs.greater.Tie as tie
 
 returns : tie.Need-returns
 unfolding greater

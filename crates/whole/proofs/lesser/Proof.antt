@@ -1,8 +1,8 @@
--- The test says which of the two it is.
+-- `whole::lesser` meets its contract: the test says which of the two it is. Assumes nothing.
 use mir.Facts.{toZ-ofZ}
-use Rattle.view.specs.Views.{lesser}
-use Rattle.view.proofs.lesser.Statement.{statement}
-use Rattle.view.proofs.lesser.Tie as tie
+use Rattle.whole.specs.Extremes.{lesser}
+use Rattle.whole.proofs.lesser.Statement.{statement}
+use Rattle.whole.proofs.lesser.Tie as tie
 
 returns : tie.Need-returns
 unfolding lesser
