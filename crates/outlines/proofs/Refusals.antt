@@ -59,7 +59,8 @@ module _ (w : Window) (o : ℕ) (zs : List ℤ) (hw : windowRefusal w .number �
   last : outlineRefusal w o zs ≡ first (convexRefusal notConvex zs ∷ [])
   unfolding outlineRefusal first badOrder countRefusal offTable
   last =
-      goes-on (windowRefusal w) (badOrder o ∷ countRefusal mostCorners wrongLength zs ∷ offTable numberOff zs ∷ convexRefusal notConvex zs ∷ []) hw ∙ simp (le-leb _ _ ho, hc, le-ltb _ _ on)
+      goes-on (windowRefusal w) (badOrder o ∷ countRefusal mostCorners wrongLength zs ∷ offTable numberOff zs ∷ convexRefusal notConvex zs ∷ []) hw
+      ∙ simp (le-leb _ _ ho, hc, le-ltb _ _ on)
 
   pub convex-taken : strictlyConvex (cornersOf zs) ≡ true → outlineRefusal w o zs .number ≡ 0
   unfolding first convexRefusal

@@ -47,7 +47,13 @@ loop-less : tie.Need-loop-less Inv-loop μ-loop
 loop-less c = search needs
 
 loop-again : tie.Need-loop-again Inv-loop μ-loop
-loop-again c = let l = c .before .loop in (simp length-set (omega arith), simp length-set (omega arith), below-more _ _ (λ k h. getD-set-other (l .lent) (l .i) k _ (pos 0) (λ e. omega arith) ∙ l .inv .2 k h) (getD-set-same (l .lent) (l .i) _ (pos 0) (c .loop-test .taken) ∙ toZ-ofZ (small c) ∙ ap (λ z. pos 7000000 +ℤ z) (plain c)))
+loop-again c =
+    let l = c .before .loop in (
+      simp length-set (omega arith),
+      simp length-set (omega arith),
+      below-more _ _ (λ k h. getD-set-other (l .lent) (l .i) k _ (pos 0) (λ e. omega arith) ∙ l .inv .2 k h)
+          (getD-set-same (l .lent) (l .i) _ (pos 0) (c .loop-test .taken) ∙ toZ-ofZ (small c) ∙ ap (λ z. pos 7000000 +ℤ z) (plain c)),
+    )
 
 same-length : tie.Need-same-length Inv-loop μ-loop
 same-length c = search needs

@@ -19,7 +19,8 @@ good-window : (c : tie.Else1) → windowRefusal (c .before .before .before .args
 good-window c = ap (λ (r : Refusal). r .number) (sym (c .before .before .window-refusal .ensures)) ∙ c .if1 .left
 
 past-window : (c : tie.Else1) {r : Refusal} → let a = c .before .before .before .args in let zs = now (a .outline) in
-    r ≡ first (badOrder (a .order) ∷ countRefusal mostCorners wrongLength zs ∷ offTable numberOff zs ∷ convexRefusal notConvex zs ∷ []) → r ≡ outlineRefusal (a .w) (a .order) zs
+    r ≡ first (badOrder (a .order) ∷ countRefusal mostCorners wrongLength zs ∷ offTable numberOff zs ∷ convexRefusal notConvex zs ∷ [])
+    → r ≡ outlineRefusal (a .w) (a .order) zs
 unfolding outlineRefusal
 past-window c h = h ∙ sym (goes-on _ _ (good-window c))
 
