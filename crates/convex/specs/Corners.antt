@@ -12,7 +12,7 @@
 --   convexRefusal n zs       n where its corners are not strictly convex counterclockwise
 --   CornersOnTable zs        zs are 3 to 64 corners, two numbers each, all on the table
 use mathlib.Core.Path.{_≡_}
-use mathlib.Core.Bool.{Bool, true, false, _&&_, _||_}
+use mathlib.Core.Bool.{Bool, true, _&&_, _||_}
 use mathlib.Core.List.{List, [], _∷_}
 use Prim.Native.Nat.{ℕ, zero, suc, _*_, _%_, _≤_}
 use lib.Dec.{eqb, leb}

@@ -1,5 +1,5 @@
 -- The corners of an outline and its edges, by their places in its list of numbers.
-use mathlib.Core.Path.{_≡_, refl, sym, ap, _∙_, subst, transport}
+use mathlib.Core.Path.{_≡_, sym, ap, _∙_, subst, transport}
 use mathlib.Core.List.{List, [], _∷_}
 use mathlib.Core.Logic.{⊎-elim, _≢_}
 use Prim.Native.Nat.{ℕ, zero, suc, _+_, _*_, _/_, _^_, _<_, _≤_}

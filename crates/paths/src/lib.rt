@@ -1,5 +1,4 @@
 // The paths of a picture: the strip, what was drawn, and what is kept of it.
-ghost use mathlib.Core.List.{[], _∷_};
 ghost use Prim.Native.Nat.{_+_, _*_, _≤_};
 ghost use lib.ListN.{length};
 ghost use Rattle.text.specs.Pages.{Put};

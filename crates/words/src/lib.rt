@@ -4,7 +4,6 @@ ghost use mathlib.Core.Bool.{false};
 ghost use Prim.Native.Nat.{_+_, _≤_, _<_, _^_};
 ghost use lib.IntN.{pos, negℤ};
 ghost use lib.Ieee.{binary32, ofBits};
-ghost use lib.ListN.{length};
 ghost use Rattle.words.specs.Digits.{digitOf, wordValue};
 ghost use Rattle.words.specs.Words.{upTo, hasMinus, numeral, unsigned, asInteger, single, arguments, integers, pairs, bytes, Into};
 

@@ -1,11 +1,9 @@
 -- The one theorem over the table: each statement has one answer, the computed one, and that is looked at; an outline's is the same in every order.
 use mathlib.Core.Path.{_≡_, refl, sym, ap, _∙_}
-use mathlib.Core.List.{List, [], _∷_}
-use Prim.Native.Nat.{ℕ, _≤_}
+use mathlib.Core.List.{List}
 use native.Mathlib.Omega.{arith}
 use lib.Count.{trailingZeros}
 use lib.IntN.{ℤ}
-use lib.ListN.{length}
 use Rattle.codes.specs.Codes.{code, decision}
 use Rattle.codes.specs.declared.CountedAnswer.{CountedAnswer}
 use Rattle.codes.proofs.Computed.{meetingOf, stepOf, countOf, countedOf, countedOf-is, computed}
@@ -32,7 +30,7 @@ use Rattle.rings.proofs.Passes.{meet}
 use Rattle.spans.proofs.Computed.{cutBy}
 use Rattle.strokes.specs.Strokes.{strokeCallRefusal}
 use Rattle.strokes.proofs.Computed.{acrossOf, spanOf, clippedOf, answerOf as strokeAnswerOf}
-use Rattle.worked.specs.Examples.{ten, zeros, Example, stroke, outline, Holds, StrokeHolds, OutlineHolds, table}
+use Rattle.worked.specs.Examples.{ten, zeros, stroke, outline, Holds, StrokeHolds, OutlineHolds, table}
 
 -- a stroke: both calls' answers are the computed one
 stroke-holds : {s : Stroke} {expected : CountedAnswer} → countedOf ten s ≡ expected → StrokeHolds s expected

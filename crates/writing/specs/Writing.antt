@@ -7,7 +7,6 @@ use mathlib.Core.Path.{_≡_}
 use mathlib.Core.List.{List, [], _∷_}
 use Prim.Native.Nat.{ℕ}
 use lib.IntN.{ℤ}
-use lib.ListN.{length}
 use lib.Seq.{sets}
 use Rattle.fraction.specs.Fraction.{LowestOf}
 use Rattle.fraction.specs.declared.Fraction.{Fraction}

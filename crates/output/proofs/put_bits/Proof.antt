@@ -1,5 +1,5 @@
 -- `output::put_bits` meets its contract: a u64 has at most 16 hexadecimal digits. Assumes nothing.
-use Prim.Native.Nat.{_≤_, _<_, _^_}
+use Prim.Native.Nat.{_≤_, _<_}
 use native.Mathlib.Nat.{lt-of-lt-of-le}
 use native.Mathlib.Omega.{arith}
 use lib.Dec.{lit<, lit≤}

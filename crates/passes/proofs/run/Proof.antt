@@ -1,6 +1,5 @@
 -- `passes::run` meets its contract: the sides before the first turn cut nothing off the outline, and the first pass leaves what the others go on from. Assumes nothing.
 use mathlib.Core.Path.{_≡_, refl, sym, _∙_, subst}
-use mathlib.Core.Bool.{false}
 use mathlib.Core.List.{List}
 use Prim.Native.Nat.{ℕ, _/_, _%_, _≤_}
 use native.Mathlib.Omega.{arith}
@@ -17,7 +16,7 @@ use Rattle.passes.specs.Orders.{sideIn}
 use Rattle.passes.specs.Passes.{Cutting, Running, no-area}
 use Rattle.passes.specs.Turns.{Underway}
 use Rattle.remains.specs.Remains.{Passed}
-use Rattle.grid.specs.Sides.{placeOf, sideAt, numberOf}
+use Rattle.grid.specs.Sides.{sideAt, numberOf}
 use Rattle.memory.specs.Tagged.{loadedOf}
 use Rattle.memory.specs.Memory.{places}
 use Rattle.passes.specs.declared.Turn.{Turn}

@@ -1,7 +1,6 @@
 -- The tests choose as the definition does.
 use borrow.Author.Tests.{lt-ltb, le-ltb}
 use Rattle.ruler.specs.Rulers.{barLength}
-use borrow.Author.Needs.{needs}
 use Rattle.ruler.proofs.bar_length.Statement.{statement}
 use Rattle.ruler.proofs.bar_length.Tie as tie
 
