@@ -9,7 +9,7 @@ use Rattle.whole.specs.Choice.{if_then_else_}
 use Rattle.grid.specs.declared.Window.{Window}
 use Rattle.grid.specs.Sides.{Side}
 use Rattle.rings.specs.Points.{Line, In, Out}
-use Rattle.rings.specs.Cuts.{CutBy}
+use Rattle.rings.specs.Cuts.{OnePass}
 use Rattle.memory.specs.Memory.{pointIn, ringFrom, places}
 use Rattle.memory.specs.Tagged.{Tagged, cornerIn, cornersFrom, pointsOf, Brought}
 use Rattle.memory.proofs.Memories.{corners-points, corners-split, corners-same}
@@ -124,4 +124,9 @@ module _ (w : Window) {zs : List ℤ} (s : Side) (g : OutlineOnTable zs) (m : Li
       let e : cornersFrom m 0 (to - 0) ≡ cornersFrom m₁ 0 (to - 0) = sym (corners-same m m₁ 0 0 (to - 0) (λ k l. b .brought k (omega arith))) in
       let r : ringFrom m 0 (to - 0) ≡ ringFrom m₁ 0 (to - 0) = sym (corners-points m 0 (to - 0)) ∙ ap pointsOf e ∙ corners-points m₁ 0 (to - 0) in
       let p = leaves-all {s = s} q (omega arith) held inside in
-      record { order = p .order; end = p .end; cut = subst (CutBy (sideLine w s) (ringFrom m 0 (to - 0))) r (p .cut); traced = subst (Traced w zs) e (p .traced) }
+      record {
+        order = p .order;
+        end = p .end;
+        pass = subst (OnePass (sideLine w s) (ringFrom m 0 (to - 0))) r (p .pass);
+        traced = subst (Traced w zs) e (p .traced);
+      }

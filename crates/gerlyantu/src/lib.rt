@@ -10,6 +10,7 @@ use intake::PointAnswer;
 use intake::PointMm;
 use intake::WindowAnswer;
 use intake::WindowMm;
+use outlines::OutlineAnswer;
 use strokes::StrokeAnswer;
 ghost use Rattle.batch.specs.Batches.{Batch};
 ghost use Rattle.codes.specs.Steps.{CohenSutherland};
@@ -81,7 +82,7 @@ pub extern "C" fn gerlyantu_clip_outline(
     order: u32,
     outline: &[i32],
     out: &mut [i32],
-) -> Answer
+) -> OutlineAnswer
     ensures { λ r. ⌜ Outline w order (now (outline .entry)) r (now (out .entry)) (now (out .exit)) ⌝ }
 {
     outlines::clip_outline(w, order, outline, out)

@@ -7,10 +7,10 @@ use borrow.Author.Tests.{eqb-true, eqb-false, le-leb, lt-leb}
 use lib.Dec.{eqb}
 use lib.IntN.{ℤ}
 use lib.ListN.{length}
-use Rattle.grid.specs.Calls.{Lent, written, answeredBy, GivenBy, answered, Given, GaveNumbers}
+use Rattle.whole.specs.Choice.{if_then_else_}
+use Rattle.grid.specs.Calls.{Lent, written, answeredBy, GivenBy, GaveNumbers}
 use Rattle.grid.specs.Refusals.{noRoom, refuse, roomRefusal}
 use Rattle.grid.specs.declared.Refusal.{Refusal}
-use Rattle.grid.specs.declared.Answer.{Answer}
 
 -- ---- a call refuses, or is done
 module _ {A M : Type 0} {blank : Refusal → A} {r : Refusal} {Done : A → M → M → Type 0} where
@@ -23,12 +23,12 @@ module _ {A M : Type 0} {blank : Refusal → A} {r : Refusal} {Done : A → M �
   pub lent-done : {a : A} {before after : M} → r .number ≡ 0 → Done a before after → Lent blank r Done a before after
   lent-done z d = record { refused = λ n. absurd (n z); done = λ _. d }
 
-  pub lent-unique : {a b : A} {before after after′ : M} → (Done a before after → Done b before after′ → (a ≡ b) × (after ≡ after′))
+  pub lent-unique : {a b : A} {before after after′ : M} → (r .number ≡ 0 → Done a before after → Done b before after′ → (a ≡ b) × (after ≡ after′))
       → Lent blank r Done a before after → Lent blank r Done b before after′ → (a ≡ b) × (after ≡ after′)
   lent-unique {a} {b} {before} {after} {after′} only p q = go (eqb (r .number) 0) refl
     where
       go : (t : Bool) → eqb (r .number) 0 ≡ t → (a ≡ b) × (after ≡ after′)
-      go true t = let z = eqb-true (r .number) 0 t in only (p .done z) (q .done z)
+      go true t = let z = eqb-true (r .number) 0 t in only z (p .done z) (q .done z)
       go false t =
           let n = eqb-false (r .number) 0 t in
           (p .refused n .answer ∙ sym (q .refused n .answer), p .refused n .untouched ∙ sym (q .refused n .untouched))
@@ -51,13 +51,24 @@ module _ {A : Type 0} {blank : Refusal → A} {full : List ℤ → A} {Gives : L
         x .output ∙ ap (λ (zs : List ℤ). written zs before) e ∙ sym (y .output),
       )
 
+-- what is read off an answer
+pub answered-read : {A B : Type 0} (f : A → B) (blank : Refusal → A) (full : List ℤ → A) (xs : List ℤ) (room : ℕ)
+    → f (answeredBy blank full xs room) ≡ answeredBy (λ r. f (blank r)) (λ ys. f (full ys)) xs room
+unfolding answeredBy
+answered-read f blank full xs room = go (eqb (roomRefusal (length xs) room .number) 0)
+  where
+    go : (b : Bool) → f (if b then full xs else blank (roomRefusal (length xs) room)) ≡ (if b then f (full xs) else f (blank (roomRefusal (length xs) room)))
+    go true = refl
+    go false = refl
+
 -- two results of a call that gives a list are equal wherever the list is the only one
 pub call-unique : {A : Type 0} {blank : Refusal → A} {full : List ℤ → A} (r : Refusal) {Gives : List ℤ → Type 0} {a b : A} {before after after′ : List ℤ}
     → ((xs ys : List ℤ) → Gives xs → Gives ys → xs ≡ ys)
     → Lent blank r (GivenBy blank full Gives) a before after → Lent blank r (GivenBy blank full Gives) b before after′ → (a ≡ b) × (after ≡ after′)
-call-unique r only = lent-unique (given-unique only)
+call-unique r only = lent-unique (λ z. given-unique only)
 
 -- ---- the numbers are counted: the answer of so many numbers is that of the ones given
-pub answer-given : {Gives : List ℤ → Type 0} {n : ℕ} {a : Answer} {before after : List ℤ}
-    → ((xs : List ℤ) → n ≡ length xs → a ≡ answered xs (length before)) → GaveNumbers Gives n before after → Given Gives a before after
+pub answer-given : {A : Type 0} {blank : Refusal → A} {full : List ℤ → A} {Gives : List ℤ → Type 0} {n : ℕ} {a : A} {before after : List ℤ}
+    → ((xs : List ℤ) → n ≡ length xs → a ≡ answeredBy blank full xs (length before)) → GaveNumbers Gives n before after
+    → GivenBy blank full Gives a before after
 answer-given e g = record { numbers = g .numbers; gives = g .gives; answer = e (g .numbers) (g .count); output = g .output }

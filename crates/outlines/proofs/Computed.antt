@@ -13,27 +13,30 @@ use lib.Signed.{_≤ℤ_, _<ℤ_, ltZ, clashℤ}
 use Rattle.whole.specs.Choice.{if_then_else_, Decides}
 use Rattle.whole.proofs.Comparisons.{by-test, lt-yes, lt-no, ff-tt, tt-ff}
 use Rattle.whole.proofs.Order.{zarith, <→≤, ≤-antisym}
-use Rattle.grid.specs.Calls.{refusedBy, answered, written}
-use Rattle.grid.specs.declared.Answer.{Answer}
+use Rattle.grid.specs.Calls.{answeredBy, written}
+use Rattle.grid.specs.Table.{NumbersOnTable}
 use Rattle.grid.specs.declared.Refusal.{Refusal}
 use Rattle.grid.specs.declared.Window.{Window}
-use Rattle.grid.proofs.Calls.{lent-refused}
+use Rattle.grid.proofs.Calls.{lent-refused, lent-done}
 use Rattle.rings.specs.Lists.{All, ∅, _◂_, Turned}
-use Rattle.rings.specs.Points.{Point, Line, value, In, Over, Out, Proper, Before, lower, level}
+use Rattle.rings.specs.Points.{Point, Line, value, In, Over, Out, Real, Proper, Before, lower, level}
 use Rattle.rings.specs.Rings.{Ring, Starts}
-use Rattle.rings.specs.Cuts.{Across, leaves, enters, Kept, stays, goes, Added, crossed, uncrossed, Pass, ends, goes-on, CutBy, empty, round, Cuts, no-more, cut, gone}
+use Rattle.rings.specs.Cuts.{Across, leaves, enters, Kept, stays, goes, Added, crossed, uncrossed, Pass, ends, goes-on, CutBy, empty, round, OnePass, Cuts, cut, gone, Passes, no-pass, pass}
 use Rattle.rings.proofs.Before.{before-asym, before-trans}
 use Rattle.rings.proofs.Lists.{all-zip, all-tail, turned-all}
 use Rattle.rings.proofs.Passes.{meet, meet-crossing, flip-crossing}
 use Rattle.rings.proofs.Start.{turned-ring}
-use Rattle.rings.proofs.Theorems.{starts-at}
+use Rattle.rings.proofs.Theorems.{starts-at, one-pass, passes-cuts}
 use Rattle.convex.specs.Corners.{cornersOf}
 use Rattle.passes.specs.Orders.{linesIn}
-use Rattle.outlines.specs.Outlines.{outlineRefusal, OutlineClipped, Outline}
+use Rattle.passes.specs.Passes.{noCorners}
+use Rattle.outlines.specs.Outlines.{outlineRefusal, OutlineClipped, refusedOutline, gaveOutline, Outline}
+use Rattle.outlines.specs.declared.OutlineAnswer.{OutlineAnswer}
 use Rattle.lowest.proofs.Lowest.{by-width}
-use Rattle.outlines.proofs.Passes.{cuts-ring, ring-passed, none-passed}
+use Rattle.outlines.proofs.Passes.{lines-real, cuts-ring}
+use Rattle.outlines.proofs.Promised.{ring-passed, none-passed}
 use Rattle.outlines.proofs.Refusals.{nothing-refused}
-use Rattle.outlines.proofs.Unique.{outline-unique}
+use Rattle.outlines.proofs.Theorems.{one-answer}
 use Rattle.writing.proofs.Numbers.{numbersOf, numbers-of}
 
 -- ---- one pass
@@ -103,15 +106,6 @@ cut-of h (v ∷ r) = round (pass-of h v r v)
 unfoldable pub cutsOf : List Line → List Point → Option (List Point)
 cutsOf [] r = some r
 cutsOf (h ∷ hs) r = if leb 3 (length (cutOf h r)) then cutsOf hs (cutOf h r) else none
-
-cuts-of : (hs : List Line) (r : List Point) → Cuts hs r (cutsOf hs r)
-unfolding cutsOf
-cuts-of [] r = no-more
-cuts-of (h ∷ hs) r =
-    let s = cutOf h r in
-    by-test (leb 3 (length s)) (Cuts (h ∷ hs) r)
-    (λ e. cut (cut-of h r) (leb-true 3 (length s) e) (cuts-of hs s))
-    (λ e. gone (cut-of h r) (omega (arith, leb-false 3 (length s) e)))
 
 -- ---- the start
 unfoldable pub isBefore : Point → Point → Bool
@@ -186,20 +180,54 @@ ringOf (some t) = numbersOf (startOf t)
 unfoldable pub outlineOf : Window → ℕ → List ℤ → List ℤ
 outlineOf w o zs = ringOf (cutsOf (linesIn o w) (cornersOf zs))
 
-outline-of : (w : Window) (o : ℕ) (zs : List ℤ) → o ≤ 23 → Ring (cornersOf zs) → OutlineClipped w o zs (outlineOf w o zs)
-unfolding outlineOf ringOf
-outline-of w o zs h g = go (cutsOf (linesIn o w) (cornersOf zs)) (cuts-of (linesIn o w) (cornersOf zs))
+-- ---- how many corners each pass leaves
+unfoldable pub countsOf : List Line → List Point → List ℕ
+countsOf [] r = []
+countsOf (h ∷ hs) r = length (cutOf h r) ∷ countsOf hs (cutOf h r)
+
+-- that of a ring that is left, beside it
+data Counted (hs : List Line) (r : List Point) (ns : List ℕ) : Option (List Point) → Type 0 where
+  none-left : Cuts hs r none → Counted hs r ns none
+  ring-left : {t : List Point} → Passes hs r ns t → Counted hs r ns (some t)
+
+more-counted : {h : Line} {hs : List Line} {r s : List Point} {ns : List ℕ} {o : Option (List Point)} → OnePass h r s → 3 ≤ length s → Counted hs s ns o
+    → Counted (h ∷ hs) r (length s ∷ ns) o
+more-counted p l (none-left c) = none-left (cut (p .rule) l c)
+more-counted p l (ring-left q) = ring-left (pass p l q)
+
+counts-of : (hs : List Line) (r : List Point) → All Real hs → Ring r → Counted hs r (countsOf hs r) (cutsOf hs r)
+unfolding countsOf cutsOf
+counts-of [] r a g = ring-left no-pass
+counts-of (h ∷ hs) r (real ◂ a) g =
+    let s = cutOf h r in
+    let p = one-pass real g (cut-of h r) in
+    by-test (leb 3 (length s)) (Counted (h ∷ hs) r (length s ∷ countsOf hs s))
+    (λ e. let l = leb-true 3 (length s) e in more-counted p l (counts-of hs s a (p .promise .ring l)))
+    (λ e. none-left (gone (cut-of h r) (omega (arith, leb-false 3 (length s) e))))
+
+unfoldable pub passedOf : Option (List Point) → List ℕ → List ℕ
+passedOf none ns = noCorners
+passedOf (some t) ns = ns
+
+unfoldable pub passesOf : Window → ℕ → List ℤ → List ℕ
+passesOf w o zs = passedOf (cutsOf (linesIn o w) (cornersOf zs)) (countsOf (linesIn o w) (cornersOf zs))
+
+outline-of : (w : Window) (o : ℕ) (zs : List ℤ) → o ≤ 23 → NumbersOnTable zs → Ring (cornersOf zs) → OutlineClipped w o zs (outlineOf w o zs) (passesOf w o zs)
+unfolding outlineOf ringOf passesOf passedOf
+outline-of w o zs h on g = go (counts-of (linesIn o w) (cornersOf zs) (lines-real w h) g)
   where
-    go : (k : Option (List Point)) → Cuts (linesIn o w) (cornersOf zs) k → OutlineClipped w o zs (ringOf k)
-    go none c = none-passed w h zs g c
-    go (some t) c =
-        let k = cuts-ring w h zs g c in
+    go : {k : Option (List Point)} {ns : List ℕ} → Counted (linesIn o w) (cornersOf zs) ns k → OutlineClipped w o zs (ringOf k) (passedOf k ns)
+    go (none-left c) = none-passed w h zs g c
+    go (ring-left {t} c) =
+        let k = cuts-ring w h zs g (passes-cuts c) in
         let s = start-of t k in
-        ring-passed w h zs g c (s .0) (s .1) (numbers-of (turned-all (s .0) (k .proper)))
+        ring-passed w h zs g on c (s .0) (s .1) (numbers-of (turned-all (s .0) (k .proper)))
 
 -- ---- the answer and the output
-unfoldable pub answerOf : Window → ℕ → List ℤ → ℕ → Answer
-answerOf w o zs room = let r = outlineRefusal w o zs in if eqb (r .number) 0 then answered (outlineOf w o zs) room else refusedBy r
+unfoldable pub answerOf : Window → ℕ → List ℤ → ℕ → OutlineAnswer
+answerOf w o zs room =
+    let r = outlineRefusal w o zs in
+    if eqb (r .number) 0 then answeredBy refusedOutline (gaveOutline (passesOf w o zs)) (outlineOf w o zs) room else refusedOutline r
 
 unfoldable pub outputOf : Window → ℕ → List ℤ → List ℤ → List ℤ
 outputOf w o zs before = if eqb (outlineRefusal w o zs .number) 0 then written (outlineOf w o zs) before else before
@@ -211,16 +239,20 @@ answer-is w o zs before = go (eqb (outlineRefusal w o zs .number) 0) refl
     r : Refusal
     r = outlineRefusal w o zs
 
+    full : OutlineAnswer
+    full = answeredBy refusedOutline (gaveOutline (passesOf w o zs)) (outlineOf w o zs) (length before)
+
     go : (b : Bool) → eqb (r .number) 0 ≡ b
-        → Outline w o zs (if b then answered (outlineOf w o zs) (length before) else refusedBy r) before (if b then written (outlineOf w o zs) before else before)
+        → Outline w o zs (if b then full else refusedOutline r) before (if b then written (outlineOf w o zs) before else before)
     go true e =
         let z = eqb-true (r .number) 0 e in
-        let k = nothing-refused w o zs z in record {
-          refused = λ n. absurd (n z);
-          done = λ _. record { numbers = outlineOf w o zs; gives = outline-of w o zs (k .order) (k .ring); answer = refl; output = refl };
-        }
+        let k = nothing-refused w o zs z in
+        lent-done z (record {
+          counts = passesOf w o zs;
+          given = record { numbers = outlineOf w o zs; gives = outline-of w o zs (k .order) (k .corners .on) (k .ring); answer = refl; output = refl };
+        })
     go false e = lent-refused refl (eqb-false (r .number) 0 e)
 
-pub computed : {w : Window} {o : ℕ} {zs : List ℤ} {a : Answer} {before after : List ℤ} → Outline w o zs a before after
+pub computed : {w : Window} {o : ℕ} {zs : List ℤ} {a : OutlineAnswer} {before after : List ℤ} → Outline w o zs a before after
     → (a ≡ answerOf w o zs (length before)) × (after ≡ outputOf w o zs before)
-computed {w} {o} {zs} {before = before} h = outline-unique h (answer-is w o zs before)
+computed {w} {o} {zs} {a} {before} {after} h = one-answer w o zs a _ before after _ h (answer-is w o zs before)

@@ -34,12 +34,10 @@ use Rattle.convex.specs.Corners.{gridPoint, cornersOf}
 use Rattle.passes.specs.Orders.{linesIn}
 use Rattle.passes.proofs.Orders.{lines-arranged}
 use Rattle.writing.specs.Numbers.{RingNumbers, no-corner, corner}
-use Rattle.outlines.specs.Outlines.{outlineRefusal, OutlineGives}
-use Rattle.outlines.specs.Denominators.{SmallDenominators, no-fraction, fraction}
+use Rattle.outlines.specs.Outlines.{OutlineGives, SmallDenominators, no-fraction, fraction}
 use Rattle.writing.proofs.Numbers.{lowest-same, numbers-of}
 use Rattle.outlines.proofs.Unique.{gives-unique}
-use Rattle.outlines.proofs.Passes.{lines-real, ring-passed, none-passed}
-use Rattle.outlines.proofs.Refusals.{nothing-refused}
+use Rattle.outlines.proofs.Passes.{lines-real, ring-gives, none-gives}
 use Rattle.outlines.proofs.Traces.{Traced, cuts-traced}
 use Rattle.outlines.proofs.Lines.{Ratio, Fine, Ruled, Chord, Side, left, right, bottom, top, meeting-fine, side-ruled, whole-ratio}
 
@@ -152,16 +150,13 @@ small-numbers (f ◂ a) (corner p ps) = fraction (small (f .proper) (f .x) (p .x
     small h r l = ≤-trans (lowest-least {n = r .num} (r .positive) (lowest-same h (r .same) l)) (r .small)
 
 -- ---- of every list that the call may give
-small-given : {w : Window} {zs xs : List ℤ} → NumbersOnTable zs → Ring (cornersOf zs) → OutlineGives w zs xs → SmallDenominators xs
+pub small-given : {w : Window} {zs xs : List ℤ} → NumbersOnTable zs → Ring (cornersOf zs) → OutlineGives w zs xs → SmallDenominators xs
 small-given {w} {zs} {xs} on g p = let c = some-result (linesIn 0 w) (cornersOf zs) (lines-real w (omega arith)) g in go (c .0) (c .1)
   where
     go : (o : Option (List Point)) → Result (linesIn 0 w) (cornersOf zs) o → SmallDenominators xs
-    go none (cuts.none-left c) = subst SmallDenominators (gives-unique (none-passed {o = 0} w (omega arith) zs g c .gives) p) no-fraction
+    go none (cuts.none-left c) = subst SmallDenominators (gives-unique (none-gives {o = 0} w (omega arith) zs g c) p) no-fraction
     go (some s) (started c t st) =
         let traced = all-order (lines-arranged 0 w (omega arith)) (sides-traced (w .left) (w .bottom) (w .right) (w .top)) in
         let fine = turned-all t (all-fine (cuts-traced Along Fine traced (outline-along zs on g) c)) in
         let numbers = numbers-of (all-map (λ v f. f .proper) fine) in
-        subst SmallDenominators (gives-unique (ring-passed {o = 0} w (omega arith) zs g c t st numbers .gives) p) (small-numbers fine numbers)
-
-pub denominators : (w : Window) (o : ℕ) (zs : List ℤ) {xs : List ℤ} → outlineRefusal w o zs .number ≡ 0 → OutlineGives w zs xs → SmallDenominators xs
-denominators w o zs e = let t = nothing-refused w o zs e in small-given (t .corners .on) (t .ring)
+        subst SmallDenominators (gives-unique (ring-gives {o = 0} w (omega arith) zs g c t st numbers) p) (small-numbers fine numbers)

@@ -3,7 +3,9 @@ pub mod Passes
 pub mod Traces
 pub mod Lines
 pub mod Denominators
+pub mod Promised
 pub mod Refusals
+pub mod Theorems
 pub mod Computed
 pub mod Giving
 pub mod Clear

@@ -1,4 +1,4 @@
--- What the passes leave is what the call promises: the ring of the points in common, or no area.
+-- What the passes leave is the ring of the points in common, or there is no area: a point lies inside all lines exactly when it lies in the window.
 use mathlib.Core.Path.{refl}
 use mathlib.Core.List.{List, [], Permᴰ·symm}
 use mathlib.Core.Logic.{_↔_}
@@ -20,7 +20,7 @@ use Rattle.convex.specs.Corners.{cornersOf}
 use Rattle.passes.specs.Orders.{linesIn}
 use Rattle.passes.proofs.Orders.{lines-arranged, lines-length}
 use Rattle.writing.specs.Numbers.{RingNumbers}
-use Rattle.outlines.specs.Outlines.{OutlineGives, area, no-area, ring-left, none-left, OutlineClipped}
+use Rattle.outlines.specs.Outlines.{OutlineGives, area, no-area}
 
 module _ {o : ℕ} (w : Window) (h : o ≤ 23) where
   pub lines-real : All Real (linesIn o w)
@@ -39,8 +39,9 @@ module _ {o : ℕ} (w : Window) (h : o ≤ 23) where
         of : Outcome (linesIn o w) (cornersOf zs) (some t) → Ring t
         of (cuts.area l) = l .ring
 
-    pub ring-passed : {t s : List Point} {xs : List ℤ} → Cuts (linesIn o w) (cornersOf zs) (some t) → Turned t s → Starts s → RingNumbers s xs → OutlineClipped w o zs xs
-    ring-passed {t} {s} {xs} c u st n = record { gives = of (result-outcome lines-real g (started c u st)); passes = ring-left (started c u st) n }
+    pub ring-gives : {t s : List Point} {xs : List ℤ} → Cuts (linesIn o w) (cornersOf zs) (some t) → Turned t s → Starts s → RingNumbers s xs
+        → OutlineGives w zs xs
+    ring-gives {s = s} {xs} c u st n = of (result-outcome lines-real g (started c u st))
       where
         of : Outcome (linesIn o w) (cornersOf zs) (some s) → OutlineGives w zs xs
         of (cuts.area l) = area (record {
@@ -55,8 +56,8 @@ module _ {o : ℕ} (w : Window) (h : o ≤ 23) where
           numbers = n;
         })
 
-    pub none-passed : Cuts (linesIn o w) (cornersOf zs) none → OutlineClipped w o zs []
-    none-passed c = record { gives = of (result-outcome lines-real g (cuts.none-left c)); passes = none-left (cuts.none-left c) }
+    pub none-gives : Cuts (linesIn o w) (cornersOf zs) none → OutlineGives w zs []
+    none-gives c = of (result-outcome lines-real g (cuts.none-left c))
       where
         of : Outcome (linesIn o w) (cornersOf zs) none → OutlineGives w zs []
         of (cuts.no-area n) = no-area (record { nothing = refl; line = n .line; real = n .real; flat = λ p _ k. n .flat p (k .outline) (lines-window p .1 (k .window)) })

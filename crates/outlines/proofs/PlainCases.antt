@@ -1,11 +1,11 @@
 -- The plain cases: where no side cuts anything off, the passes leave the outline; where one side leaves only what is on its line, they leave nothing.
-use mathlib.Core.Path.{_≡_, sym, subst}
+use mathlib.Core.Path.{_≡_, sym, subst, transport}
 use mathlib.Core.List.{List, [], _∷_, map, Permᴰ·symm}
 use mathlib.Core.Option.{Option, none, some}
-use Prim.Native.Nat.{ℕ, _≤_}
+use Prim.Native.Nat.{ℕ, _/_, _≤_}
 use native.Mathlib.Omega.{arith}
 use lib.IntN.{ℤ, pos, _-ℤ_, negℤ}
-use lib.ListN.{length}
+use lib.ListN.{length, replicate}
 use lib.Signed.{_≤ℤ_}
 use Rattle.whole.proofs.Expressions.{Expr, var, neg, _⊕_, _⊗_}
 use Rattle.whole.proofs.Naturals.{neg-plus, neg-minus}
@@ -14,7 +14,7 @@ use Rattle.whole.proofs.Polynomials.{ring}
 use Rattle.grid.specs.Sides.{Side, left, right, bottom, top, Clear, Beyond}
 use Rattle.grid.specs.declared.Window.{Window}
 use Rattle.reach.specs.Reach.{Reaches}
-use Rattle.rings.specs.Cuts.{Inside, Cuts, no-more, cut, Outcome, area, Result, none-left}
+use Rattle.rings.specs.Cuts.{Inside, Cuts, Passes, no-pass, pass, Outcome, area, Result, none-left}
 use Rattle.rings.specs.Lists.{All, ∅, _◂_}
 use Rattle.rings.specs.Points.{Point, Line, value, In, Under, Real}
 use Rattle.rings.specs.Rings.{Ring}
@@ -23,11 +23,12 @@ use Rattle.rings.proofs.Fan.{corners-in}
 use Rattle.rings.proofs.Lists.{all-map}
 use Rattle.rings.proofs.OneCut.{few-on}
 use Rattle.rings.proofs.Orders.{some-result, all-order}
-use Rattle.rings.proofs.Theorems.{convex-ccw, fan, result-outcome}
+use Rattle.rings.proofs.Theorems.{convex-ccw, fan, one-pass, result-outcome}
 use Rattle.convex.specs.Corners.{cornersOf}
+use Rattle.convex.proofs.Places.{count}
 use Rattle.limits.specs.Sides.{sideLine}
 use Rattle.passes.specs.Orders.{sidesIn, linesIn}
-use Rattle.passes.proofs.Orders.{lines-arranged}
+use Rattle.passes.proofs.Orders.{lines-arranged, lines-length}
 use Rattle.crossings.proofs.Outlines.{corners-all}
 use Rattle.limits.proofs.Sides.{side-line-real}
 use Rattle.remains.proofs.Pieces.{cut-nothing}
@@ -35,9 +36,9 @@ use Rattle.outlines.proofs.Clear.{left-at, right-at, bottom-at, top-at,
 use Rattle.outlines.proofs.Passes.{lines-real}
 
 -- ---- no side cuts anything off
-pub cuts-nothing : {hs : List Line} {r : List Point} → 3 ≤ length r → All (λ h. All (In h) r) hs → Cuts hs r (some r)
-cuts-nothing n ∅ = no-more
-cuts-nothing n (i ◂ a) = cut (cut-nothing i) n (cuts-nothing n a)
+cuts-nothing : {hs : List Line} {r : List Point} → Ring r → All Real hs → All (λ h. All (In h) r) hs → Passes hs r (replicate (length hs) (length r)) r
+cuts-nothing g ∅ ∅ = no-pass
+cuts-nothing g (real ◂ reals) (i ◂ a) = pass (one-pass real g (cut-nothing i)) (g .three) (cuts-nothing g reals a)
 
 -- ---- one side leaves only what is on its line: a ring would have three corners there
 module _ {hs : List Line} {r : List Point} (reals : All Real hs) (g : Ring r) (h : Line) (real : Real h)
@@ -86,13 +87,19 @@ side-among w bottom p (i ◂ (j ◂ (k ◂ a))) = k
 side-among w top p (i ◂ (j ◂ (k ◂ (l ◂ a)))) = l
 
 module _ (w : Window) {zs : List ℤ} {b : Window} (r : Reaches zs b) where
-  pub whole-left : (o : ℕ) → 3 ≤ length (cornersOf zs) → ((k : Side) → Clear w b k) → Cuts (linesIn o w) (cornersOf zs) (some (cornersOf zs))
+  pub whole-left : {o : ℕ} → o ≤ 23 → Ring (cornersOf zs) → ((k : Side) → Clear w b k)
+      → Passes (linesIn o w) (cornersOf zs) (replicate 4 (length zs / 2)) (cornersOf zs)
   unfolding linesIn
-  whole-left o n f = cuts-nothing n (all (sidesIn o))
+  whole-left {o} h g f =
+      transport (λ j. Passes (linesIn o w) (cornersOf zs) (replicate (lines-length o w h j) (count zs j)) (cornersOf zs))
+      (cuts-nothing g (lines-real w h) clear-all)
     where
       all : (ss : List Side) → All (λ h. All (In h) (cornersOf zs)) (map (sideLine w) ss)
       all [] = ∅
       all (k ∷ ks) = clear-in w k r (f k) ◂ all ks
+
+      clear-all : All (λ h. All (In h) (cornersOf zs)) (linesIn o w)
+      clear-all = all (sidesIn o)
 
   beyond-under : (k : Side) → Beyond w b k → All (Under (sideLine w k)) (cornersOf zs)
   beyond-under left c = corners-all zs (λ k h. between (b .right) (left-at (w .left) _ _) (r .right k h) c)

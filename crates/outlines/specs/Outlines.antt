@@ -3,34 +3,43 @@
 --   badOrder o             4 where the side order is above 23
 --   outlineRefusal w o zs  what the call refuses: 2, 3, 4, 5, 6, then 7
 --   Common w zs p          p lies in the outline zs and in the closed window w
---   OutlineRing w zs xs    xs are the numbers of the ring of exactly the points in common, counterclockwise, started at the lowest corner, of those the leftmost
+--   OutlineRing w zs xs    xs are the numbers of the ring of exactly the points in common, counterclockwise, started at the
+--                          lowest corner, of those the leftmost
 --   OutlineNoArea w zs xs  there are no numbers, and the points in common all lie on one line
 --   OutlineGives w zs xs   the one or the other
---   ByPasses w o zs xs     xs are the numbers of what one pass a side leaves, in the order o
---   OutlineClipped w o zs xs   xs is right for a window, an order and an outline in which nothing is refused
---   Outline w o zs a before after   the answer a is right, and so is the output before and after the call, refusals included
+--   SmallDenominators xs   no denominator in xs passes 32,766
+--   ByPasses w o zs xs ns  one pass a side, in the order o, leaves a ring, of which xs are the numbers, and each pass as many
+--                          corners as ns says; or it leaves none, and both say so
+--   OutlineClipped w o zs xs ns   xs and ns are right for a window, an order and an outline in which nothing is refused
+--   refusedOutline r       the answer that refuses by r: every other field is 0
+--   gaveOutline ns xs      the answer where xs is given and the passes left as many corners as ns says
+--   OutlineDone w o zs a before after   the same with the output before and after the call: the list is given, or has no room
+--   Outline w o zs a before after   the promise of `clip_outline(w, o, zs, out)`, with the output before and after, refusals included
 use mathlib.Core.Path.{_≡_}
 use mathlib.Core.List.{List, [], _∷_}
 use mathlib.Core.Logic.{_↔_}
-use mathlib.Core.Option.{none, some}
+use mathlib.Core.Option.{none}
 use Prim.Native.Nat.{ℕ, _+_, _≤_}
 use lib.Dec.{leb}
-use lib.IntN.{ℤ}
+use lib.IntN.{ℤ, pos}
 use lib.ListN.{length}
+use lib.Signed.{_≤ℤ_}
 use Rattle.whole.specs.Choice.{if_then_else_}
-use Rattle.grid.specs.Calls.{Call}
+use Rattle.grid.specs.Calls.{Lent, GivenBy}
 use Rattle.grid.specs.Refusals.{noOrder, wrongLength, numberOff, notConvex, refuse, first, offTable, windowRefusal}
 use Rattle.grid.specs.Refusals as grid
-use Rattle.grid.specs.declared.Answer.{Answer}
 use Rattle.grid.specs.declared.Refusal.{Refusal}
 use Rattle.grid.specs.declared.Window.{Window}
+use Rattle.rings.specs.Lists.{Turned}
 use Rattle.rings.specs.Points.{Point, Line, On, Real, Proper}
 use Rattle.rings.specs.Rings.{Ring, InRing, Starts}
-use Rattle.rings.specs.Cuts.{Result}
+use Rattle.rings.specs.Cuts.{Cuts, Passes}
 use Rattle.rings.specs.Windows.{InWindow}
 use Rattle.convex.specs.Corners.{cornersOf, mostCorners, countRefusal, convexRefusal}
 use Rattle.passes.specs.Orders.{linesIn}
+use Rattle.passes.specs.Passes.{noCorners}
 use Rattle.writing.specs.Numbers.{RingNumbers}
+use Rattle.outlines.specs.declared.OutlineAnswer.{OutlineAnswer}
 
 -- ---- refusals
 abbrev pub lastOrder : ℕ
@@ -66,15 +75,34 @@ pub data OutlineGives (w : Window) (zs xs : List ℤ) : Type 0 where
   area : OutlineRing w zs xs → OutlineGives w zs xs
   no-area : OutlineNoArea w zs xs → OutlineGives w zs xs
 
+-- fractions, two numbers each
+pub data SmallDenominators : List ℤ → Type 0 where
+  no-fraction : SmallDenominators []
+  fraction : {n d : ℤ} {xs : List ℤ} → d ≤ℤ pos 32766 → SmallDenominators xs → SmallDenominators (n ∷ d ∷ xs)
+
 -- ---- the passes
-pub data ByPasses (w : Window) (o : ℕ) (zs : List ℤ) : List ℤ → Type 0 where
-  ring-left : {r : List Point} {xs : List ℤ} → Result (linesIn o w) (cornersOf zs) (some r) → RingNumbers r xs → ByPasses w o zs xs
-  none-left : Result (linesIn o w) (cornersOf zs) none → ByPasses w o zs []
+pub data ByPasses (w : Window) (o : ℕ) (zs : List ℤ) : List ℤ → List ℕ → Type 0 where
+  ring-left : {t r : List Point} {xs : List ℤ} {ns : List ℕ} → Passes (linesIn o w) (cornersOf zs) ns t → Turned t r → Starts r
+      → RingNumbers r xs → ByPasses w o zs xs ns
+  none-left : Cuts (linesIn o w) (cornersOf zs) none → ByPasses w o zs [] noCorners
 
 -- ---- the call
-pub record OutlineClipped (w : Window) (o : ℕ) (zs xs : List ℤ) : Type 0 where
+-- `gives` says what the numbers are, whatever program finds them; `passes` how they are found. The ring is the same in every
+-- order, but the corners on the way are not: their counts show a caller that the passes ran in the order that he gave
+pub record OutlineClipped (w : Window) (o : ℕ) (zs xs : List ℤ) (ns : List ℕ) : Type 0 where
   pub gives : OutlineGives w zs xs
-  pub passes : ByPasses w o zs xs
+  pub denominators : SmallDenominators xs
+  pub passes : ByPasses w o zs xs ns
 
-abbrev pub Outline : Window → ℕ → List ℤ → Answer → List ℤ → List ℤ → Type 0
-Outline w o zs = Call (outlineRefusal w o zs) (OutlineClipped w o zs)
+abbrev pub refusedOutline : Refusal → OutlineAnswer
+refusedOutline r = record { number = r .number; place = r .place; count = 0; passes = noCorners }
+
+abbrev pub gaveOutline : List ℕ → List ℤ → OutlineAnswer
+gaveOutline ns xs = record { number = 0; place = 0; count = length xs; passes = ns }
+
+pub record OutlineDone (w : Window) (o : ℕ) (zs : List ℤ) (a : OutlineAnswer) (before after : List ℤ) : Type 0 where
+  pub counts : List ℕ
+  pub given : GivenBy refusedOutline (gaveOutline counts) (λ xs. OutlineClipped w o zs xs counts) a before after
+
+abbrev pub Outline : Window → ℕ → List ℤ → OutlineAnswer → List ℤ → List ℤ → Type 0
+Outline w o zs = Lent refusedOutline (outlineRefusal w o zs) (OutlineDone w o zs)

@@ -1,23 +1,34 @@
 // An outline against a rectangle, in any of the 24 side orders: the ring of what they have in common.
-use grid::Answer;
 use grid::Refusal;
 use grid::Window;
 ghost use mathlib.Core.Path.{_≡_};
 ghost use mathlib.Core.Bool.{true};
+ghost use mathlib.Core.List.{List};
 ghost use Prim.Native.Nat.{_+_, _*_, _≤_};
+ghost use lib.IntN.{ℤ};
 ghost use lib.ListN.{length};
 ghost use Rattle.whole.specs.Choice.{Decides};
-ghost use Rattle.grid.specs.Calls.{Given, GaveNumbers};
+ghost use Rattle.grid.specs.Calls.{answeredBy, GaveNumbers};
 ghost use Rattle.grid.specs.Table.{WindowOnTable, NumbersOnTable};
 ghost use Rattle.limits.specs.Sides.{windowOf};
 ghost use Rattle.crossings.specs.Outlines.{OutlineOnTable};
 ghost use Rattle.passes.specs.Passes.{Cutting};
 ghost use Rattle.reach.specs.Reach.{Reaches, ReachOnTable};
 ghost use Rattle.convex.specs.Corners.{mostCorners, rightCount};
-ghost use Rattle.outlines.specs.Outlines.{outlineRefusal, OutlineClipped, Outline};
+ghost use Rattle.outlines.specs.Outlines.{outlineRefusal, OutlineClipped, refusedOutline, gaveOutline, OutlineDone, Outline};
 
 // The most corners of an outline.
 const MOST_CORNERS: usize = 64;
+
+// What the call returns: number and place of a refusal, or how many numbers it wrote; and how many corners each pass left, in the order
+// given, all 0 where there is no area.
+#[repr(C)]
+pub struct OutlineAnswer {
+    pub number: u8,
+    pub place: usize,
+    pub count: usize,
+    pub passes: [u8; 4],
+}
 
 // Whether nothing is refused, the outline's length being right. The window and the order come last: then they take no registers from the walks.
 fn takes(w: Window, order: u32, outline: &[i32], reach: Window) -> bool
@@ -72,7 +83,41 @@ fn refusal(w: Window, order: u32, outline: &[i32]) -> Refusal
     }
 }
 
-// How many numbers there are of what the passes leave of an outline in a memory; they are written where they have room.
+// The answer that refuses.
+fn refused_by(r: Refusal) -> OutlineAnswer
+    ensures { λ a. ⌜ a ≡ refusedOutline r ⌝ }
+{
+    OutlineAnswer {
+        number: r.number,
+        place: r.place,
+        count: 0,
+        passes: [0; 4],
+    }
+}
+
+// The answer where so many numbers are given into an output of some room.
+fn given(need: usize, passes: [u8; 4], room: usize) -> OutlineAnswer
+    ensures { λ r. ⌜ ((xs : List ℤ) → need ≡ length xs → r ≡ answeredBy refusedOutline (gaveOutline passes) xs room) ⌝ }
+{
+    let short = grid::room_refusal(need, room);
+    if short.number != 0 {
+        return refused_by(short);
+    }
+    OutlineAnswer {
+        number: 0,
+        place: 0,
+        count: need,
+        passes,
+    }
+}
+
+// How many numbers a ring has, and how many corners each pass left.
+struct Counts {
+    numbers: usize,
+    passes: [u8; 4],
+}
+
+// Counts what the passes leave of an outline in a memory; the numbers are written where they have room.
 fn cut_in(
     numbers: &[i32; 4],
     cuts: &[bool; 4],
@@ -80,20 +125,23 @@ fn cut_in(
     outline: &[i32],
     m: &mut [i32],
     out: &mut [i32],
-) -> usize
+) -> Counts
     requires { ⌜ WindowOnTable (windowOf (now numbers)) ⌝ }
     requires { ⌜ order ≤ 23 ⌝ }
     requires { ⌜ OutlineOnTable (now outline) ⌝ }
     requires { ⌜ Cutting (windowOf (now numbers)) (now outline) (now cuts) ⌝ }
     requires { ⌜ 2 * length (now outline) + 16 ≤ length (now m) ⌝ }
-    ensures { λ r. ⌜ GaveNumbers (OutlineClipped (windowOf (now (numbers .entry))) order (now (outline .entry))) r (now (out .entry)) (now (out .exit)) ⌝ }
+    ensures { λ r. ⌜ GaveNumbers (λ xs. OutlineClipped (windowOf (now (numbers .entry))) order (now (outline .entry)) xs (r .passes)) (r .numbers) (now (out .entry)) (now (out .exit)) ⌝ }
 {
     let left = passes::run(numbers, cuts, order, outline, m);
-    let n = left.to - left.from;
+    let passes = left.counts;
+    let places = left.places;
+    let n = places.to - places.from;
     if n == 0 {
-        return 0;
+        return Counts { numbers: 0, passes };
     }
-    writing::give_ring(&m[4 * left.from..], n, out)
+    let numbers = writing::give_ring(&m[4 * places.from..], n, out);
+    Counts { numbers, passes }
 }
 
 // The same with a memory of its own; fewer corners need a smaller one, which is sooner cleared.
@@ -103,12 +151,12 @@ fn cut_by_passes(
     order: u32,
     outline: &[i32],
     out: &mut [i32],
-) -> usize
+) -> Counts
     requires { ⌜ WindowOnTable (windowOf (now numbers)) ⌝ }
     requires { ⌜ order ≤ 23 ⌝ }
     requires { ⌜ OutlineOnTable (now outline) ⌝ }
     requires { ⌜ Cutting (windowOf (now numbers)) (now outline) (now cuts) ⌝ }
-    ensures { λ r. ⌜ GaveNumbers (OutlineClipped (windowOf (now (numbers .entry))) order (now (outline .entry))) r (now (out .entry)) (now (out .exit)) ⌝ }
+    ensures { λ r. ⌜ GaveNumbers (λ xs. OutlineClipped (windowOf (now (numbers .entry))) order (now (outline .entry)) xs (r .passes)) (r .numbers) (now (out .entry)) (now (out .exit)) ⌝ }
 {
     if outline.len() <= 24 {
         let mut few = [0i32; 64];
@@ -124,19 +172,20 @@ fn cut_by_passes(
 
 // The answer for an outline in which nothing is refused. The plain cases come first: they need no pass. The passes are given the sides' numbers, and
 // which of them cut, by the sides' places.
-fn clipped(w: Window, order: u32, outline: &[i32], reach: Window, out: &mut [i32]) -> Answer
+fn clipped(w: Window, order: u32, outline: &[i32], reach: Window, out: &mut [i32]) -> OutlineAnswer
     requires { ⌜ WindowOnTable w ⌝ }
     requires { ⌜ order ≤ 23 ⌝ }
     requires { ⌜ OutlineOnTable (now outline) ⌝ }
     requires { ⌜ Reaches (now outline) reach ⌝ }
-    ensures { λ r. ⌜ Given (OutlineClipped w order (now (outline .entry))) r (now (out .entry)) (now (out .exit)) ⌝ }
+    ensures { λ r. ⌜ OutlineDone w order (now (outline .entry)) r (now (out .entry)) (now (out .exit)) ⌝ }
 {
     let room = out.len();
     if reach::inside(w, reach) {
-        return grid::given(uncut::give_whole(outline, out), room);
+        let corners = (outline.len() / 2) as u8;
+        return given(uncut::give_whole(outline, out), [corners; 4], room);
     }
     if reach::apart(w, reach) {
-        return grid::given(0, room);
+        return given(0, [0; 4], room);
     }
     let numbers = [w.left, w.right, w.bottom, w.top];
     let cuts = [
@@ -145,12 +194,14 @@ fn clipped(w: Window, order: u32, outline: &[i32], reach: Window, out: &mut [i32
         reach.bottom < w.bottom,
         w.top < reach.top,
     ];
-    grid::given(cut_by_passes(&numbers, &cuts, order, outline, out), room)
+    let counts = cut_by_passes(&numbers, &cuts, order, outline, out);
+    let passes = counts.passes;
+    given(counts.numbers, passes, room)
 }
 
 // What a window keeps of a strictly convex outline, cut along the window's sides in one of the 24 orders. The outline is x y x y ..,
 // counterclockwise; the ring is written as four numbers a corner.
-pub fn clip_outline(w: Window, order: u32, outline: &[i32], out: &mut [i32]) -> Answer
+pub fn clip_outline(w: Window, order: u32, outline: &[i32], out: &mut [i32]) -> OutlineAnswer
     ensures { λ r. ⌜ Outline w order (now (outline .entry)) r (now (out .entry)) (now (out .exit)) ⌝ }
 {
     if convex::right_count(MOST_CORNERS, outline.len()) {
@@ -159,10 +210,5 @@ pub fn clip_outline(w: Window, order: u32, outline: &[i32], out: &mut [i32]) -> 
             return clipped(w, order, outline, reach, out);
         }
     }
-    let bad = refusal(w, order, outline);
-    Answer {
-        number: bad.number,
-        place: bad.place,
-        count: 0,
-    }
+    refused_by(refusal(w, order, outline))
 }

@@ -10,7 +10,7 @@ ghost use Rattle.limits.specs.Sides.{windowOf};
 ghost use Rattle.crossings.specs.Outlines.{OutlineOnTable};
 ghost use Rattle.passes.specs.Orders.{sidesIn, sideIn, packed};
 ghost use Rattle.passes.specs.Turns.{InOrder, Underway, Completed};
-ghost use Rattle.passes.specs.Passes.{Cutting, Ran};
+ghost use Rattle.passes.specs.Passes.{Cutting, noArea, Ran};
 
 // The sides in each of the 24 orders, the first in the lowest two bits: 0 left, 1 right, 2 bottom, 3 top.
 const SIDES: [u8; 24] = [
@@ -69,7 +69,24 @@ fn first_turn(order: u32, cuts: &[bool; 4]) -> Turn
     Turn { k, rest }
 }
 
+// What the passes left: the places of a ring in the memory, or none; and how many corners each pass left, in the order given.
+pub struct Leftover {
+    pub places: Places,
+    pub counts: [u8; 4],
+}
+
+// No area is left.
+fn nothing() -> Leftover
+    ensures { λ r. ⌜ r ≡ noArea ⌝ }
+{
+    Leftover {
+        places: Places { from: 0, to: 0 },
+        counts: [0; 4],
+    }
+}
+
 // The passes after that of a turn, which left the ring at the places q, each along a side that cuts. Which order it is, the packed sides tell.
+// What the passes up to then left stands at the front of counts; a side that does not cut leaves as many corners as there were.
 fn go_on(
     numbers: &[i32; 4],
     t: Turn,
@@ -77,15 +94,17 @@ fn go_on(
     outline: &[i32],
     m: &mut [i32],
     q: Places,
-) -> Places
+    before: [u8; 4],
+) -> Leftover
     requires { ⌜ WindowOnTable (windowOf (now numbers)) ⌝ }
     requires { ⌜ Cutting (windowOf (now numbers)) (now outline) (now cuts) ⌝ }
     requires { ⌜ OutlineOnTable (now outline) ⌝ }
     requires { ⌜ 2 * length (now outline) + 16 ≤ length (now m) ⌝ }
-    requires { ⌜ ((o : ℕ) × Underway (windowOf (now numbers)) o (now outline) t (now m) q) ⌝ }
-    ensures { λ r. ⌜ Completed (windowOf (now (numbers .entry))) (now (outline .entry)) t (now (m .entry)) q (now (m .exit)) r ⌝ }
+    requires { ⌜ ((o : ℕ) × Underway (windowOf (now numbers)) o (now outline) t (now m) q before) ⌝ }
+    ensures { λ r. ⌜ Completed (windowOf (now (numbers .entry))) (now (outline .entry)) t (now (m .entry)) q before (now (m .exit)) r ⌝ }
 {
     let mut p = q;
+    let mut counts = before;
     let mut rest = t.rest / 4;
     let mut k = t.k + 1;
     while k < 4 {
@@ -100,16 +119,17 @@ fn go_on(
                 p,
             );
             if p.to - p.from < 3 {
-                return Places { from: 0, to: 0 };
+                return nothing();
             }
         }
+        counts[k] = (p.to - p.from) as u8;
         rest /= 4;
         k += 1;
     }
-    p
+    Leftover { places: p, counts }
 }
 
-// What a window leaves of an outline, cut along its sides in the order given: the places of a ring in the memory, or none.
+// What a window leaves of an outline, cut along its sides in the order given.
 // numbers has the window's number of a side, cuts whether the side cuts, at the side's place. The first pass goes over the outline itself.
 pub fn run(
     numbers: &[i32; 4],
@@ -117,7 +137,7 @@ pub fn run(
     order: u32,
     outline: &[i32],
     m: &mut [i32],
-) -> Places
+) -> Leftover
     requires { ⌜ WindowOnTable (windowOf (now numbers)) ⌝ }
     requires { ⌜ order ≤ 23 ⌝ }
     requires { ⌜ Cutting (windowOf (now numbers)) (now outline) (now cuts) ⌝ }
@@ -128,8 +148,13 @@ pub fn run(
     let t = first_turn(order, cuts);
     let side = (t.rest % 4) as usize;
     let p = first_pass::pass(side, outline, limits::limit_of(side, numbers[side]), m);
-    if p.to - p.from < 3 {
-        return Places { from: 0, to: 0 };
+    let left = p.to - p.from;
+    if left < 3 {
+        return nothing();
     }
-    go_on(numbers, t, cuts, outline, m, p)
+    // The sides before this one cut nothing off.
+    let mut counts = [(outline.len() / 2) as u8; 4];
+    let k = t.k;
+    counts[k] = left as u8;
+    go_on(numbers, t, cuts, outline, m, p, counts)
 }

@@ -14,9 +14,10 @@ use Rattle.rings.specs.Lists.{All, ∅, _◂_, nothing}
 use Rattle.rings.specs.Points.{Point, Line, In, Out}
 use Rattle.rings.specs.Rings.{Ring}
 use Rattle.rings.specs.Cuts.{CutBy}
-use Rattle.rings.proofs.Theorems.{rest-inside, rest-outside}
+use Rattle.rings.proofs.Theorems.{rest-inside, rest-outside, one-pass}
 use Rattle.memory.specs.Memory.{pointIn, ringFrom, places}
 use Rattle.limits.specs.Sides.{sideLine}
+use Rattle.limits.proofs.Sides.{side-line-real}
 use Rattle.crossings.specs.Outlines.{OutlineOnTable}
 use Rattle.memory.specs.Tagged.{Tagged, cornerIn, cornersFrom, pointsOf}
 use Rattle.remains.specs.Runs.{Traced, Goes, Comes, more}
@@ -57,17 +58,18 @@ in-four m i x gc cc z {p} {t} {r} first second rest =
     ∙ (λ j. first j ++ (second j ++ rest j)) ∙ sym (append-assoc p t r)
 
 -- what a pass promises, of corners
-passed : {w : Window} {zs : List ℤ} {s : Side} (m m′ : List ℤ) (i n i′ n′ : ℕ) {cs ls : List Tagged} → cornersFrom m i n ≡ cs → cornersFrom m′ i′ n′ ≡ ls
-    → n′ + i′ ≤ suc (n + i)
+passed : {w : Window} {zs : List ℤ} {s : Side} (m m′ : List ℤ) (i n i′ n′ : ℕ) {cs ls : List Tagged} → Ring (ringFrom m i n)
+    → cornersFrom m i n ≡ cs → cornersFrom m′ i′ n′ ≡ ls → n′ + i′ ≤ suc (n + i)
     → CutBy (sideLine w s) (pointsOf cs) (pointsOf ls) × Traced w zs ls → Passed w zs s m (places i (i + n)) m′ (places i′ (i′ + n′))
-passed {w} {zs} {s} m m′ i n i′ n′ e f l (c, t) =
+passed {w} {zs} {s} m m′ i n i′ n′ g e f l (c, t) =
     let a : i + n - i ≡ n = omega arith in
     let b : i′ + n′ - i′ ≡ n′ = omega arith in
     record {
       order = omega arith;
       end = omega arith;
-      cut = transport (λ j. CutBy (sideLine w s) ((ap pointsOf (sym e) ∙ corners-points m i n ∙ ap (ringFrom m i) (sym a)) j)
-          ((ap pointsOf (sym f) ∙ corners-points m′ i′ n′ ∙ ap (ringFrom m′ i′) (sym b)) j)) c;
+      pass = one-pass (side-line-real w s) (subst (λ (k : ℕ). Ring (ringFrom m i k)) (sym a) g)
+          (transport (λ j. CutBy (sideLine w s) ((ap pointsOf (sym e) ∙ corners-points m i n ∙ ap (ringFrom m i) (sym a)) j)
+          ((ap pointsOf (sym f) ∙ corners-points m′ i′ n′ ∙ ap (ringFrom m′ i′) (sym b)) j)) c);
       traced = subst (Traced w zs) (sym f ∙ ap (cornersFrom m′ i′) (sym b)) t;
     }
 
@@ -107,12 +109,13 @@ module _ (w : Window) {zs : List ℤ} (s : Side) (g : OutlineOnTable zs) where
         let size : b + z - from ≡ n = omega arith in
         let whole : from + n ≡ b + z = omega arith in
         let comes′ = transport (λ j. Comes w zs s (sym (corners-final m a y) j) (next-point z j) c) comes in
+        let ring = subst (λ (n : ℕ). Ring (ringFrom m from n)) size (held .ring) in
         let all-in =
-        all-corners m b z (third-in z (subst (λ (n : ℕ). Ring (ringFrom m from n)) size (held .ring)) (inside from (omega arith) (omega arith))
+        all-corners m b z (third-in z ring (inside from (omega arith) (omega arith))
         (outside a (omega arith) (omega arith)) back) in
         let traced = subst (Traced w zs) (ap (cornersFrom m from) size ∙ three m from x y z) (held .traced) in
         subst (λ (k : ℕ). Passed w zs s m (places from k) m′ (places at (at + n′))) whole
-        (passed m m′ from n at n′ (three m from x y z) stands (omega arith)
+        (passed m m′ from n at n′ ring (three m from x y z) stands (omega arith)
         (cut-middle w s g traced (tagged-all m from (suc x) inside) (tagged-all m a (suc y) outside) all-in (goes-from m from x goes) comes′))
 
   -- ---- the first run lies outside, up to the place f, the second inside, up to e; the third then lies outside
@@ -143,12 +146,13 @@ module _ (w : Window) {zs : List ℤ} (s : Side) (g : OutlineOnTable zs) where
         let size : e + z - from ≡ n = omega arith in
         let whole : from + n ≡ e + z = omega arith in
         let comes′ = subst (λ (q : Tagged). Comes w zs s q (pointIn m f) c) (sym (corners-final m from y)) comes in
+        let ring = subst (λ (n : ℕ). Ring (ringFrom m from n)) size (held .ring) in
         let all-out =
-        all-corners m e z (third-out z (subst (λ (n : ℕ). Ring (ringFrom m from n)) size (held .ring)) (outside from (omega arith) (omega arith))
+        all-corners m e z (third-out z ring (outside from (omega arith) (omega arith))
         (inside f (omega arith) (omega arith)) back) in
         let traced = subst (Traced w zs) (ap (cornersFrom m from) size ∙ three m from y x z) (held .traced) in
         subst (λ (k : ℕ). Passed w zs s m (places from k) m′ (places at (at + n′))) whole
-        (passed m m′ from n at n′ (three m from y x z) stands (omega arith)
+        (passed m m′ from n at n′ ring (three m from y x z) stands (omega arith)
         (keep-middle w s g traced (tagged-all m from (suc y) outside) (tagged-all m f (suc x) inside) all-out comes′ (goes-from m f x goes)))
 
 -- ---- all corners lie inside, or all outside, of a limit whose line h is the side's
@@ -157,18 +161,19 @@ module _ {w : Window} {zs : List ℤ} {s : Side} {h : Line} (q : h ≡ sideLine 
   leaves-all held f = record {
     order = l;
     end = omega arith;
-    cut = subst (λ (h : Line). CutBy h (ringFrom m i (k - i)) (ringFrom m i (k - i))) q (cut-nothing (ring-all m i (k - i) (λ j a b. f j a (omega arith))));
+    pass = one-pass (side-line-real w s) (held .ring)
+        (subst (λ (h : Line). CutBy h (ringFrom m i (k - i)) (ringFrom m i (k - i))) q (cut-nothing (ring-all m i (k - i) (λ j a b. f j a (omega arith)))));
     traced = held .traced;
   }
 
-  pub leaves-none : (m′ : List ℤ) → ((j : ℕ) → i ≤ j → j < k → Out h (pointIn m j)) → Passed w zs s m (places i k) m′ (places i i)
+  pub leaves-none : Held w zs m (places i k) → (m′ : List ℤ) → ((j : ℕ) → i ≤ j → j < k → Out h (pointIn m j)) → Passed w zs s m (places i k) m′ (places i i)
   unfolding cornersFrom pointsOf
-  leaves-none m′ f =
+  leaves-none held m′ f =
       let e : i + (k - i) ≡ k = omega arith in
       let z : i + 0 ≡ i = add-zero i in
       let none : CutBy h (pointsOf (cornersFrom m i (k - i))) [] = keep-none (tagged-all m i (k - i) (λ j a b. f j a (omega arith))) in
       transport (λ j. Passed w zs s m (places i (e j)) m′ (places i (z j)))
-      (passed m m′ i (k - i) i 0 refl refl (omega arith) (
+      (passed m m′ i (k - i) i 0 (held .ring) refl refl (omega arith) (
         subst (λ (h : Line). CutBy h (pointsOf (cornersFrom m i (k - i))) []) q none,
         record { small = ∅; lies = nothing },
       ))

@@ -17,6 +17,7 @@ pub mod Before
 pub mod Unique
 pub mod Start
 pub mod Valley
+pub mod Counts
 pub mod Orders
 pub mod Windows
 pub mod Theorems

@@ -9,7 +9,7 @@ use lib.IntN.{ℤ}
 use Rattle.rings.specs.Lists.{All, Turned}
 use Rattle.rings.specs.Points.{Point, Line, Left, In, Over, Out, Under, On, Real, Proper, Same, Alike, Before}
 use Rattle.rings.specs.Rings.{at, Edge, StrictlyConvex, Ring, InRing, Starts}
-use Rattle.rings.specs.Cuts.{Crossing, Across, Pass, CutBy, OneCut, Inside, Cuts, Remainder, NoArea, Outcome, Result, Agree}
+use Rattle.rings.specs.Cuts.{Crossing, Across, Pass, CutBy, OneCut, OnePass, Inside, Cuts, Passes, Remainder, NoArea, Outcome, Result, Agree}
 use Rattle.rings.specs.Windows.{side-lines, InWindow}
 use Rattle.rings.proofs.Convex.{CCW}
 use Rattle.rings.proofs.Linear as linear
@@ -22,6 +22,7 @@ use Rattle.rings.proofs.Alike as alike
 use Rattle.rings.proofs.Unique as unique
 use Rattle.rings.proofs.Start as starts
 use Rattle.rings.proofs.Valley as valleys
+use Rattle.rings.proofs.Counts as counts
 use Rattle.rings.proofs.Orders as orders
 use Rattle.rings.proofs.Windows as windows
 
@@ -49,6 +50,9 @@ rest-outside h u ns r g = arcs.rest-outside h u ns r (linear.ccw-of-convex (g .c
 pub one-cut : {h : Line} {r s : List Point} → Real h → Ring r → CutBy h r s → OneCut h r s
 one-cut = cut.one-cut
 
+pub one-pass : {h : Line} {r s : List Point} → Real h → Ring r → CutBy h r s → OnePass h r s
+one-pass = counts.one-pass
+
 pub some-cut : (h : Line) (r : List Point) → (s : List Point) × CutBy h r s
 some-cut = passes.some-cut
 
@@ -61,6 +65,13 @@ all-cuts = orders.all-cuts
 
 pub cuts-length : {hs : List Line} {r t : List Point} → All Real hs → Ring r → Cuts hs r (some t) → length t ≤ length r + length hs
 cuts-length = orders.cuts-length
+
+-- ---- one pass a line
+pub passes-cuts : {hs : List Line} {r t : List Point} {ns : List ℕ} → Passes hs r ns t → Cuts hs r (some t)
+passes-cuts = counts.passes-cuts
+
+pub counts-unique : {hs : List Line} {r r′ t t′ : List Point} {ns ns′ : List ℕ} → Alike r r′ → Passes hs r ns t → Passes hs r′ ns′ t′ → ns ≡ ns′
+counts-unique = counts.counts-unique
 
 -- ---- the same point in other numbers
 module _ {p q : Point} (s : Same p q) (h : Line) where

@@ -7,8 +7,11 @@
 --   Pass h u r z s    s is what h leaves of the walk from u, by way of r, to z, not counting z
 --   CutBy h r s       s is what h leaves of the closed list r
 --   OneCut h r s      what one cut promises: of every s with CutBy h r s, where r is a ring and h is real
+--   OnePass h r s     s is what one pass along h leaves of r: by the rule, and with what one cut promises
 --   Inside hs p       p lies inside each of the lines hs or on it
 --   Cuts hs r o       o is what the lines hs in turn leave of r: none as soon as fewer than three corners are left
+--   Passes hs r ns t  a pass along each of the lines hs in turn leaves the ring t of r; ns says how many corners each pass
+--                     left, never fewer than three
 --   Remainder hs r t  t is a ring, of exactly the points of r that lie inside hs
 --   NoArea hs r       the points of r that lie inside hs all lie on one line
 --   Outcome hs r o    o is a ring, the remainder, or none and there is no area
@@ -18,7 +21,7 @@ use mathlib.Core.Path.{_≡_}
 use mathlib.Core.List.{List, [], _∷_, _++_}
 use mathlib.Core.Logic.{_↔_}
 use mathlib.Core.Option.{Option, none, some}
-use Prim.Native.Nat.{suc, _≤_}
+use Prim.Native.Nat.{ℕ, suc, _≤_}
 use lib.ListN.{length}
 use lib.IntN.{ℤ, pos, _+ℤ_, _*ℤ_}
 use lib.Signed.{_<ℤ_}
@@ -73,6 +76,11 @@ pub record OneCut (h : Line) (r s : List Point) : Type 0 where
   -- and if fewer, these points all lie on the line
   pub flat : length s ≤ 2 → (p : Point) → InRing r p → In h p → On h p
 
+-- CutBy tells what the pass did, OneCut what a caller may rely on
+pub record OnePass (h : Line) (r s : List Point) : Type 0 where
+  pub rule : CutBy h r s
+  pub promise : OneCut h r s
+
 -- ---- several lines
 abbrev pub Inside : List Line → Point → Type 0
 Inside hs p = All (λ h. In h p) hs
@@ -81,6 +89,12 @@ pub data Cuts : List Line → List Point → Option (List Point) → Type 0 wher
   no-more : {r : List Point} → Cuts [] r (some r)
   cut : {h : Line} {hs : List Line} {r s : List Point} {o : Option (List Point)} → CutBy h r s → 3 ≤ length s → Cuts hs s o → Cuts (h ∷ hs) r o
   gone : {h : Line} {hs : List Line} {r s : List Point} → CutBy h r s → length s ≤ 2 → Cuts (h ∷ hs) r none
+
+-- the counts depend on the order of the lines, as the ring that is left in the end does not
+pub data Passes : List Line → List Point → List ℕ → List Point → Type 0 where
+  no-pass : {r : List Point} → Passes [] r [] r
+  pass : {h : Line} {hs : List Line} {r s t : List Point} {ns : List ℕ} → OnePass h r s → 3 ≤ length s → Passes hs s ns t
+      → Passes (h ∷ hs) r (length s ∷ ns) t
 
 pub record Remainder (hs : List Line) (r t : List Point) : Type 0 where
   pub ring : Ring t

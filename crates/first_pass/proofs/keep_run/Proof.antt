@@ -79,7 +79,7 @@ returns : tie.Need-returns
 returns c w q =
     let e = c .before in
     let s = start e in
-    leaves-none q (omega arith) (now (s .args .m)) (λ i l k. all-out e i l (omega (arith, c .if1 .taken)))
+    leaves-none q (omega arith) (held s w) (now (s .args .m)) (λ i l k. all-out e i l (omega (arith, c .if1 .taken)))
 
 -- ---- the run inside, up to e
 module _ (c : tie.Else1) where

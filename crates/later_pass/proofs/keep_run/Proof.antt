@@ -77,7 +77,7 @@ returns : tie.Need-returns
 returns c =
     let e = c .before in
     let s = start e in
-    leaves-none (s .pre .1 .0 .0) (omega (arith, some s)) (m s) (λ i l k. all-out e i l (omega (arith, c .if1 .taken)))
+    leaves-none (s .pre .1 .0 .0) (omega (arith, some s)) (held s) (m s) (λ i l k. all-out e i l (omega (arith, c .if1 .taken)))
 
 -- ---- the run inside, up to e
 module _ (c : tie.Else1) where

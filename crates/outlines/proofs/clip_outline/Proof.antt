@@ -63,10 +63,15 @@ refused c e =
 refusal-requires : tie.Need-refusal-requires
 refusal-requires c κs = refused c
 
+refused-by-requires : tie.Need-refused-by-requires
+refused-by-requires c κs = search needs
+
 returns-2 : tie.Need-returns-2
-returns-2 c = lent-refused (sym (c .refusal .ensures)) (subst (λ (r : Refusal). r .number ≡ 0 → ⊥) (sym (c .refusal .ensures)) (refused (c .before)))
+returns-2 c =
+    let e = c .before .refusal .ensures in
+    rw (c .refused-by .ensures) (lent-refused (sym e) (subst (λ (r : Refusal). r .number ≡ 0 → ⊥) (sym e) (refused (c .before .before))))
 
 pub clip-outline-spec : {M : Type 1} → statement M
 clip-outline-spec =
     tie.close
-    (tie.spec right-count-requires reach-of-requires takes-requires clipped-requires same-length returns refusal-requires returns-2)
+    (tie.spec right-count-requires reach-of-requires takes-requires clipped-requires same-length returns refusal-requires refused-by-requires returns-2)

@@ -1,11 +1,14 @@
 -- `outlines::clipped` meets its contract: where no side cuts anything off, the outline is what is left; where one leaves nothing there is no area.
 -- Else what the passes leave is given. Each time the answer is that of the numbers given. Assumes nothing.
 use mathlib.Core.Path.{_≡_, sym, subst, transport}
+use native.Mathlib.Omega.{arith}
 use borrow.Author.Needs.{needs}
 use denote.Ref.{now}
+use Prim.Native.Nat.{_/_}
+use lib.ListN.{length, replicate}
 use Rattle.grid.specs.Table.{WindowOnTable}
 use Rattle.grid.specs.declared.Window.{Window}
-use Rattle.passes.specs.Passes.{Cutting}
+use Rattle.passes.specs.Passes.{Cutting, noCorners}
 use Rattle.crossings.proofs.Outlines.{outline-ring}
 use Rattle.outlines.specs.Outlines.{OutlineClipped}
 use Rattle.grid.specs.Calls.{GaveNumbers}
@@ -19,6 +22,9 @@ use Rattle.outlines.proofs.clipped.Tie as tie
 
 inside-requires : tie.Need-inside-requires
 inside-requires c κs = search needs
+
+cast-corners : tie.Need-cast-corners
+cast-corners c = omega (arith, c .before .before .pre .1 .1 .0 .corners .few)
 
 give-whole-requires : tie.Need-give-whole-requires
 give-whole-requires c κs = let t = c .before .before .before .pre .1 .1 .0 in (t .corners .even, (t .corners .few, outline-ring t))
@@ -35,10 +41,13 @@ returns c =
     let i = g .before .before in
     let s = i .before .before in
     let p = s .pre in
-    answer-given (c .given .ensures)
-    (give-ring (p .1 .0) (p .1 .1 .0)
-    (whole-left (s .args .w) (p .1 .1 .1) (s .args .order) (outline-ring (p .1 .1 .0) .three) (i .before .inside .ensures (i .if1 .taken)))
-    (g .give-whole .ensures))
+    record {
+      counts = replicate 4 (length (now (s .args .outline)) / 2);
+      given = answer-given (c .given .ensures)
+          (give-ring (p .1 .0) (p .1 .1 .0)
+          (whole-left (s .args .w) (p .1 .1 .1) (p .1 .0) (outline-ring (p .1 .1 .0)) (i .before .inside .ensures (i .if1 .taken)))
+          (g .give-whole .ensures));
+    }
 
 apart-requires : tie.Need-apart-requires
 apart-requires c κs = search needs
@@ -51,8 +60,12 @@ returns-2 c =
     let b = c .before in
     let s = b .before .before .before .before in
     let p = s .pre in
-    answer-given (c .given2 .ensures)
-    (give-nothing (p .1 .0) (p .1 .1 .0) (nothing-left (s .args .w) (p .1 .1 .1) (p .1 .0) (outline-ring (p .1 .1 .0)) (b .before .apart .ensures (b .if2 .taken))))
+    record {
+      counts = noCorners;
+      given = answer-given (c .given2 .ensures)
+          (give-nothing (p .1 .0) (p .1 .1 .0)
+          (nothing-left (s .args .w) (p .1 .1 .1) (p .1 .0) (outline-ring (p .1 .1 .0)) (b .before .apart .ensures (b .if2 .taken))));
+    }
 
 module _ (c : tie.After-cut-by-passes-arg) where
   abbrev reach-told : tie.After-struct-told5
@@ -92,18 +105,23 @@ same-length-2 c = search needs
 
 returns-3 : tie.Need-returns-3
 returns-3 c =
-    let done = c .before .before .cut-by-passes in
-    let a = c .before .before .before in
+    let done = c .before .before .before .cut-by-passes in
+    let a = c .before .before .before .before in
     let s = start a in
-    answer-given (c .given3 .ensures)
-    (subst (λ (w : Window). GaveNumbers (OutlineClipped w (s .args .order) (now (s .args .outline))) (done .result) (now (s .args .out)) (done .last .1 .1 .1 .1 .0))
-    (sym (is-w a)) (done .ensures))
+    record {
+      counts = done .result .passes;
+      given = answer-given (c .given3 .ensures)
+          (subst (λ (w : Window). GaveNumbers (λ xs. OutlineClipped w (s .args .order) (now (s .args .outline)) xs (done .result .passes)) (done .result .numbers)
+          (now (s .args .out)) (done .last .1 .1 .1 .1 .0))
+          (sym (is-w a)) (done .ensures));
+    }
 
 pub clipped-spec : {M : Type 1} → statement M
 clipped-spec =
     tie.close
     (tie.spec
     inside-requires
+    cast-corners
     give-whole-requires
     given-requires
     same-length

@@ -14,7 +14,7 @@ use Rattle.limits.specs.Sides.{windowOf}
 use Rattle.memory.specs.Memory.{ringAt}
 use Rattle.memory.specs.declared.Places.{Places}
 use Rattle.writing.specs.Writing.{GaveRing}
-use Rattle.outlines.proofs.Giving.{LeftRing, in-order, left-ring, give-ring, give-nothing, none-cuts}
+use Rattle.outlines.proofs.Giving.{LeftRing, in-order, left-ring, give-ring, give-none}
 use Rattle.lowest.proofs.Memory.{ring-part}
 use Rattle.outlines.proofs.cut_in.Statement.{statement}
 use Rattle.outlines.proofs.cut_in.Tie as tie
@@ -23,21 +23,21 @@ run-requires : tie.Need-run-requires
 run-requires c κs = let p = c .before .pre in (p .0, (p .1 .0, (p .1 .1 .1 .0, (p .1 .1 .0, p .1 .1 .1 .1))))
 
 sub-n : tie.Need-sub-n
-sub-n c = in-order (c .before .before .run .ensures)
+sub-n c = in-order (c .before .before .before .before .run .ensures)
 
 same-length : tie.Need-same-length
 same-length c = search needs
 
 returns : tie.Need-returns
 returns c =
-    let r = c .before .before .before in
+    let r = c .before .before .before .before .before in
     let a = r .before .before in
-    give-nothing (a .pre .1 .0) (a .pre .1 .1 .0) (none-cuts (a .pre .1 .0) (a .pre .1 .1 .0) (r .run .ensures) (c .if1 .taken))
+    give-none (a .pre .1 .0) (a .pre .1 .1 .0) (r .run .ensures) (c .if1 .taken)
 
 -- ---- the memory that holds the ring
 module _ (c : tie.Else1) where
   abbrev ran : tie.After-run
-  ran = c .before .before .before
+  ran = c .before .before .before .before .before
 
   abbrev start : tie.Start
   start = ran .before .before
@@ -46,9 +46,9 @@ module _ (c : tie.Else1) where
   m = ran .run .last .1 .1 .1 .1 .0
 
   abbrev p : Places
-  p = ran .run .result
+  p = ran .run .result .places
 
-  left : LeftRing (windowOf (now (start .args .numbers))) (start .args .order) (now (start .args .outline)) m p
+  left : LeftRing (windowOf (now (start .args .numbers))) (start .args .order) (now (start .args .outline)) m (ran .run .result)
   left = left-ring (start .pre .1 .0) (start .pre .1 .1 .0) (ran .run .ensures) (c .if1 .left)
 
   first : 4 * p .from ≤ length m
@@ -90,7 +90,7 @@ returns-2 : tie.Need-returns-2
 returns-2 c =
     let e = c .before .before .before .before .before .before in
     let a = start e in
-    give-ring (a .pre .1 .0) (a .pre .1 .1 .0) (left e .cuts)
+    give-ring (a .pre .1 .0) (a .pre .1 .1 .0) (left e .passes)
     (subst (λ (r : List Point). GaveRing r (c .before .give-ring .result) (now (a .args .out)) (c .before .give-ring .last .1 .1 .0))
     (stands e) (c .before .give-ring .ensures))
 

@@ -1,11 +1,14 @@
 -- `passes::run` meets its contract: the sides before the first turn cut nothing off the outline, and the first pass leaves what the others go on from. Assumes nothing.
-use mathlib.Core.Path.{_≡_, refl, sym, _∙_, subst}
-use mathlib.Core.List.{List}
-use Prim.Native.Nat.{ℕ, _/_, _%_, _≤_}
+use mathlib.Core.Path.{_≡_, sym, ap, _∙_, subst}
+use mathlib.Core.List.{List, [], _∷_, _++_}
+use Prim.Native.Nat.{ℕ, _+_, _-_, _/_, _%_, _≤_}
+use native.Mathlib.Numerals.{add-one}
 use native.Mathlib.Omega.{arith}
+use borrow.Author.Needs.{needs}
 use denote.Ref.{now}
 use lib.IntN.{ℤ, pos}
-use lib.ListN.{length, getD}
+use lib.ListN.{length, getD, take, set, replicate}
+use lib.Seq.{take-suc-set}
 use mir.Syntax.{w32}
 use mir.Val.{toZ, ofZ}
 use Rattle.whole.specs.Within.{Within}
@@ -13,7 +16,7 @@ use Rattle.whole.proofs.Comparisons.{back}
 use Rattle.grid.specs.Table.{farthest}
 use Rattle.limits.specs.Sides.{windowOf}
 use Rattle.passes.specs.Orders.{sideIn}
-use Rattle.passes.specs.Passes.{Cutting, Running, no-area}
+use Rattle.passes.specs.Passes.{Cutting, Running, Ran, no-area}
 use Rattle.passes.specs.Turns.{Underway}
 use Rattle.remains.specs.Remains.{Passed}
 use Rattle.grid.specs.Sides.{sideAt, numberOf}
@@ -53,6 +56,7 @@ module _ (c : tie.After-first-turn) where
   is-next = next-side (start .args .order) order (t .k) (omega (arith, place)) (c .first-turn .ensures .0 .sides)
 
   skipped : Running (windowOf (now (start .args .numbers))) (start .args .order) zs (loadedOf zs) (places 0 (length zs / 2)) (t .k)
+      (take (t .k) (replicate 4 (length zs / 2)))
   skipped =
       run-skipped (start .pre .1 .1 .1 .0) order (t .k) (omega (arith, place))
       (λ j l. sides (sideIn (start .args .order) j) (c .first-turn .ensures .1 j l))
@@ -98,28 +102,51 @@ module _ (c : tie.After-pass) where
       (c .pass .last .1 .1 .1 .0) (c .pass .result)
   passed = let w = windowOf (now (start turn .args .numbers)) in c .pass .ensures w (c .before .before .limit-of .ensures .0 w (is-number (c .before .before .before)))
 
-sub-if1 : tie.Need-sub-if1
-sub-if1 c = passed (c .before .before) .order
+sub-left : tie.Need-sub-left
+sub-left c = passed (c .before .before) .order
+
+nothing-requires : tie.Need-nothing-requires
+nothing-requires c κs = search needs
 
 same-length : tie.Need-same-length
-same-length c = size (c .before .before .before)
+same-length c = search needs
 
 returns : tie.Need-returns
 returns c =
-    let p = c .before .before .before in
+    let p = c .before .before .before .before in
     let f = turn p in
-    no-area refl (run-gone (order f) (omega (arith, place f)) (is-next f) (passed p) (skipped f) (c .if1 .taken))
+    let s = start f in
+    subst (Ran (windowOf (now (s .args .numbers))) (s .args .order) (zs f) (p .pass .last .1 .1 .1 .0)) (sym (c .nothing .ensures))
+    (no-area (run-gone (order f) (omega (arith, place f)) (is-next f) (passed p) (skipped f) (c .before .if1 .taken)))
+
+cast-counts : tie.Need-cast-counts
+cast-counts c = search needs
+
+cast-counts-2 : tie.Need-cast-counts-2
+cast-counts-2 c =
+    let p = c .before .before .before in
+    omega (arith, passed p .end, start (turn p) .pre .1 .1 .1 .0 .corners .few)
+
+array-write-counts : tie.Need-array-write-counts
+array-write-counts c = search needs
 
 -- what the others go on from
 left : (c : tie.Else1) → let p = c .before .before .before in
     let f = turn p in
     Underway (windowOf (now (start f .args .numbers))) (start f .args .order) (zs f) (t f) (p .pass .last .1 .1 .1 .0) (p .pass .result)
+    (set (replicate 4 (length (zs f) / 2)) (t f .k) (p .pass .result .to - p .pass .result .from))
 left c =
     let p = c .before .before .before in
     let f = turn p in
+    let k = t f .k in
+    let n = p .pass .result .to - p .pass .result .from in
+    let all = replicate 4 (length (zs f) / 2) in
+    let counted : take k all ++ (n ∷ []) ≡ take (k + 1) (set all k n) =
+    sym (ap (λ (j : ℕ). take j (set all k n)) (add-one k) ∙ take-suc-set all k n (omega (arith, place f))) in
     record {
       in-order = f .first-turn .ensures .0;
-      left = run-more (order f) (omega (arith, place f)) (is-next f) (passed p) (skipped f) (c .if1 .left);
+      left = subst (Running (windowOf (now (start f .args .numbers))) (start f .args .order) (zs f) (p .pass .last .1 .1 .1 .0) (p .pass .result) (k + 1)) counted
+          (run-more (order f) (omega (arith, place f)) (is-next f) (passed p) (skipped f) (c .if1 .left));
     }
 
 go-on-requires : tie.Need-go-on-requires
@@ -130,7 +157,7 @@ go-on-requires c κs =
     (s .pre .0, (sides f, (s .pre .1 .1 .1 .0, (omega (arith, s .pre .1 .1 .1 .1, size p), (s .args .order, left (c .before))))))
 
 same-length-2 : tie.Need-same-length-2
-same-length-2 c = c .before .go-on .kept .1 .1 .1 .1 .0 ∙ size (c .before .before .before .before .before .before)
+same-length-2 c = search needs
 
 returns-2 : tie.Need-returns-2
 returns-2 c =
@@ -147,9 +174,13 @@ run-spec =
     element-copy-out-limit-of
     limit-of-requires
     pass-requires
-    sub-if1
+    sub-left
+    nothing-requires
     same-length
     returns
+    cast-counts
+    cast-counts-2
+    array-write-counts
     go-on-requires
     same-length-2
     returns-2)

@@ -1,0 +1,80 @@
+-- One answer for each input; and in every order the same ring, since it is determined by its points, which no order changes.
+use mathlib.Core.Path.{_≡_, refl, sym, ap, _∙_, subst}
+use mathlib.Core.Bool.{Bool, true, false}
+use mathlib.Core.List.{List, _++_}
+use Prim.Native.Nat.{ℕ, _≤_}
+use borrow.Author.Tests.{le-leb, eqb-true, eqb-false}
+use lib.Dec.{eqb, leb}
+use lib.IntN.{ℤ}
+use lib.ListN.{length, take, drop}
+use lib.Seq.{take-append-seam}
+use Rattle.whole.specs.Choice.{if_then_else_}
+use Rattle.grid.specs.Calls.{answeredBy, written, GivenBy, Call}
+use Rattle.grid.specs.Refusals.{noRoom, refuse, none, roomRefusal}
+use Rattle.grid.specs.declared.Answer.{Answer}
+use Rattle.grid.specs.declared.Refusal.{Refusal}
+use Rattle.grid.specs.declared.Window.{Window}
+use Rattle.grid.proofs.Calls.{answered-read, lent-unique, call-unique}
+use Rattle.outlines.specs.Outlines.{badOrder, outlineRefusal, OutlineGives, SmallDenominators, no-fraction, refusedOutline, gaveOutline, Outline}
+use Rattle.outlines.specs.Laws.{ringAnswer, OneAnswer, AnyOrder, Denominators}
+use Rattle.outlines.specs.declared.OutlineAnswer.{OutlineAnswer}
+use Rattle.outlines.proofs.Refusals.{nothing-refused}
+use Rattle.outlines.proofs.Unique.{gives-unique}
+use Rattle.outlines.proofs.Promised.{clipped-unique}
+
+pub one-answer : OneAnswer
+one-answer w o zs a b before after after′ p q =
+    lent-unique
+    (λ z x y.
+    let t = nothing-refused w o zs z in
+    let g = x .given in
+    let h = y .given in
+    let e = clipped-unique w (t .order) zs (t .ring) (g .gives) (h .gives) in (
+      g .answer ∙ (λ i. answeredBy refusedOutline (gaveOutline (e .1 i)) (e .0 i) (length before)) ∙ sym (h .answer),
+      g .output ∙ ap (λ (xs : List ℤ). written xs before) (e .0) ∙ sym (h .output),
+    ))
+    p q
+
+-- ---- every order is as good as another
+-- what is said of the ring
+ring-call : {w : Window} {o : ℕ} {zs : List ℤ} {a : OutlineAnswer} {before after : List ℤ} → Outline w o zs a before after
+    → Call (outlineRefusal w o zs) (OutlineGives w zs) (ringAnswer a) before after
+ring-call {before = before} c = record {
+  refused = λ n. record { answer = ap ringAnswer (c .refused n .answer); untouched = c .refused n .untouched };
+  done = λ z. let d = c .done z in let g = d .given in record {
+    numbers = g .numbers;
+    gives = g .gives .gives;
+    answer = ap ringAnswer (g .answer) ∙ answered-read ringAnswer refusedOutline (gaveOutline (d .counts)) (g .numbers) (length before);
+    output = g .output;
+  };
+}
+
+same-refusal : {o o′ : ℕ} (w : Window) (zs : List ℤ) → o ≤ 23 → o′ ≤ 23 → outlineRefusal w o zs ≡ outlineRefusal w o′ zs
+unfolding outlineRefusal badOrder
+same-refusal w zs h h′ = simp (le-leb _ _ h, le-leb _ _ h′)
+
+pub any-order : AnyOrder
+any-order w o o′ zs a a′ before after after′ h h′ p q =
+    call-unique (outlineRefusal w o zs) (λ xs ys. gives-unique) (ring-call p)
+    (subst (λ (r : Refusal). Call r (OutlineGives w zs) (ringAnswer a′) before after′) (same-refusal w zs h′ h) (ring-call q))
+
+-- ---- denominators: what was written is the list that was given, or nothing
+small-written : (ns : List ℕ) {a : OutlineAnswer} {after : List ℤ} (xs before : List ℤ) → SmallDenominators xs
+    → a ≡ answeredBy refusedOutline (gaveOutline ns) xs (length before) → after ≡ written xs before → SmallDenominators (take (a .count) after)
+unfolding answeredBy roomRefusal written
+small-written ns xs before s e f =
+    subst (λ (p : OutlineAnswer × List ℤ). SmallDenominators (take (p .0 .count) (p .1))) (λ i. (sym e i, sym f i)) (go (leb (length xs) (length before)))
+  where
+    go : (b : Bool) → let r = (if b then none else refuse noRoom (length xs)) in
+        SmallDenominators (take ((if eqb (r .number) 0 then gaveOutline ns xs else refusedOutline r) .count) (if b then xs ++ drop (length xs) before else before))
+    go true = subst SmallDenominators (sym (take-append-seam xs (drop (length xs) before))) s
+    go false = no-fraction
+
+pub denominators : Denominators
+denominators w o zs a before after c = go (eqb (outlineRefusal w o zs .number) 0) refl
+  where
+    go : (b : Bool) → eqb (outlineRefusal w o zs .number) 0 ≡ b → SmallDenominators (take (a .count) after)
+    go true e = let g = c .done (eqb-true (outlineRefusal w o zs .number) 0 e) .given in small-written _ (g .numbers) before (g .gives .denominators) (g .answer) (g .output)
+    go false e =
+        subst (λ (n : ℕ). SmallDenominators (take n after))
+        (sym (ap (λ (r : OutlineAnswer). r .count) (c .refused (eqb-false (outlineRefusal w o zs .number) 0 e) .answer))) no-fraction
