@@ -1,5 +1,5 @@
 -- The drawing so far: the lines before a place of the text are taken, and their records stand in the page from the place 4 on.
-use mathlib.Core.Path.{_≡_, refl, sym, ap, subst}
+use mathlib.Core.Path.{_≡_, refl, sym, ap, subst, subst₂}
 use mathlib.Core.List.{List, [], _++_}
 use Prim.Native.Nat.{ℕ, _+_, _-_, _<_, _≤_}
 use native.Mathlib.Omega.{arith}
@@ -12,7 +12,8 @@ use Rattle.pen_line.specs.declared.Fault.{Fault}
 use Rattle.pen_line.specs.declared.Fault.the-variants.{LongText}
 use Rattle.pen_line.specs.declared.Step.{Step}
 use Rattle.pen_line.specs.declared.Step.the-variants.{Done, Wrong}
-use Rattle.pen.specs.Texts.{mostText, lineEnd, lineAt, LineWithin, Told, start, next, EndsAs, drawn, no-line, wrong-line, long-text, Becomes}
+use Rattle.pen.specs.Texts.{mostText, lineEnd, lineAt, LineWithin, Told, start, next, Becomes}
+use Rattle.pen.specs.Texts.{EndsAs, drawn, no-line, wrong-line, long-text}
 use Rattle.pen.specs.Workers.{Counted, counted, none}
 use Rattle.pen.specs.declared.Outcome.{Outcome}
 
@@ -42,7 +43,8 @@ module _ {t before page : List ℕ} {n i at : ℕ} (g : Going t before page n i 
       → Becomes t after (record { line = n; step = s })
   ends-here {after} same e =
       let z : length before ≡ length after = omega (arith, as-long) in
-      record { place = i; bytes = g .bytes; told = subst (λ (x : ℕ). Told t (x - 4) n i (g .bytes)) z (g .told); ends = e }
+      let lines = subst (λ (x : ℕ). Told t (x - 4) n i (g .bytes)) z (g .told) in
+      record { place = i; bytes = g .bytes; told = lines; ends = e }
 
   module _ {e : ℕ} (h : i < length t) (q : e ≡ lineEnd t i) where
     line-is : spoken (take (e - i) (drop i t)) ≡ lineAt t i
@@ -56,22 +58,23 @@ module _ {t before page : List ℕ} {n i at : ℕ} (g : Going t before page n i 
       line-within = (h, omega arith)
 
       -- in the words of the text's promise
-      adds : {more : List ℕ} → LineAdds (lineAt t i) (at - 4) (drawingRoom page) more
-          → LineAdds (lineAt t i) (length (g .bytes)) (drawingRoom before) more
-      adds {more} a =
-          subst (λ (x : ℕ). LineAdds (lineAt t i) (length (g .bytes)) (x - 4) more) as-long
-          (subst (λ (x : ℕ). LineAdds (lineAt t i) x (drawingRoom page) more) long a)
+      adds : {bs : List ℕ} → LineAdds (lineAt t i) (at - 4) (drawingRoom page) bs
+          → LineAdds (lineAt t i) (length (g .bytes)) (drawingRoom before) bs
+      adds {bs} a = subst₂ (λ x y. LineAdds (lineAt t i) x (y - 4) bs) long as-long a
 
-      pub going-on : {after : List ℕ} {to : ℕ} {s : Step} → s ≡ Done to → LineTaken (spoken (take (e - i) (drop i t))) page after at s
-          → Going t before after (n + 1) (e + 1) to
+      pub going-on : {after : List ℕ} {to : ℕ} {s : Step} → s ≡ Done to
+          → LineTaken (spoken (take (e - i) (drop i t))) page after at s → Going t before after (n + 1) (e + 1) to
       going-on {after} {to} {s} d k = go d (subst (λ (l : List ℕ). LineTaken l page after at s) line-is k)
         where
-          go : {s : Step} → s ≡ Done to → LineTaken (lineAt t i) page after at s → Going t before after (n + 1) (e + 1) to
-          go d (taken {end = end} {bs = more} a p) =
+          go : {s : Step} → s ≡ Done to → LineTaken (lineAt t i) page after at s
+              → Going t before after (n + 1) (e + 1) to
+          go d (taken {end = end} {bs = added} a p) =
               let same : end ≡ to = cc in
+              let bs = g .bytes ++ added in
+              let lines = next (g .told) line-within (adds a) in
               record {
-                bytes = g .bytes ++ more;
-                told = subst (λ (x : ℕ). Told t (drawingRoom before) (n + 1) (x + 1) (g .bytes ++ more)) (sym q) (next (g .told) line-within (adds a));
+                bytes = bs;
+                told = subst (λ (x : ℕ). Told t (drawingRoom before) (n + 1) (x + 1) bs) (sym q) lines;
                 put = put-to to same (put-then (g .put) p);
               }
           go d (refused f) = absurd (let z : _≡_ {A = ℕ} 0 1 = cc in omega arith)
@@ -81,14 +84,14 @@ module _ {t before page : List ℕ} {n i at : ℕ} (g : Going t before page n i 
           → Becomes t after (record { line = n; step = Wrong f })
       stopped {after} {f} {s} d same k = go d (subst (λ (l : List ℕ). LineTaken l page after at s) line-is k)
         where
-          go : {s : Step} → s ≡ Wrong f → LineTaken (lineAt t i) page after at s → Becomes t after (record { line = n; step = Wrong f })
+          go : {s : Step} → s ≡ Wrong f → LineTaken (lineAt t i) page after at s
+              → Becomes t after (record { line = n; step = Wrong f })
           go d (taken a p) = absurd (let z : _≡_ {A = ℕ} 0 1 = cc in omega arith)
           go d (refused {f = u} r) =
               let z : u ≡ f = cc in
               ends-here same (wrong-line line-within
               (subst (LineRefused (lineAt t i) (length (g .bytes)) (drawingRoom after)) z
-              (subst (λ (x : ℕ). LineRefused (lineAt t i) (length (g .bytes)) (x - 4) u) (sym same)
-              (subst (λ (x : ℕ). LineRefused (lineAt t i) x (drawingRoom page) u) long r))))
+              (subst₂ (λ x y. LineRefused (lineAt t i) x (y - 4) u) long (sym same) r)))
 
   pub ended : {after : List ℕ} {s : Step} → length t ≤ i → length after ≡ length page → Counted page after at s
       → Becomes t after (record { line = n; step = s })

@@ -1,5 +1,5 @@
--- A text becomes one thing: of two lines where it may end, the earlier is not taken, so no later one is reached; and at one line it
--- ends in one way.
+-- A text becomes one thing: of two lines where it may end, the earlier is not taken, so that the later is not reached;
+-- and at one line it ends in one way.
 use mathlib.Core.Path.{_≡_, refl, sym, ap, ap₂, _∙_, subst, subst₂}
 use mathlib.Core.List.{List, _++_}
 use mathlib.Core.Logic.{⊎-elim}
@@ -14,12 +14,13 @@ use Rattle.pen_line.specs.Records.{drawingRoom, LineAdds, LineRefused}
 use Rattle.pen_line.specs.declared.Step.{Step}
 use Rattle.pen_line.specs.declared.Step.the-variants.{Done, Wrong}
 use Rattle.pen_line.proofs.Unique.{adds-unique, adds-or-not, refused-unique}
-use Rattle.pen.specs.Texts.{lineEnd, lineAt, LineWithin, Told, start, next, EndsAs, drawn, no-line, wrong-line, long-text, Becomes}
+use Rattle.pen.specs.Texts.{lineEnd, lineAt, LineWithin, Told, start, next, Becomes}
+use Rattle.pen.specs.Texts.{EndsAs, drawn, no-line, wrong-line, long-text}
 use Rattle.pen.specs.Laws.{OneOutcome}
 
 -- the line of t at the place i is not taken after the bytes bs
 abbrev Stops : List ℕ → ℕ → ℕ → List ℕ → Type 0
-Stops t room i bs = (more : List ℕ) → LineWithin t i → LineAdds (lineAt t i) (length bs) room more → ⊥
+Stops t room i bs = (added : List ℕ) → LineWithin t i → LineAdds (lineAt t i) (length bs) room added → ⊥
 
 module _ {t : List ℕ} {room : ℕ} where
   from-one : {n i : ℕ} {bs : List ℕ} → Told t room n i bs → 1 ≤ n
@@ -30,9 +31,9 @@ module _ {t : List ℕ} {room : ℕ} where
   told-unique e start start = (refl, refl)
   told-unique e start (next q v b) = absurd (omega (arith, from-one q))
   told-unique e (next p w a) start = absurd (omega (arith, from-one p))
-  told-unique e (next {more = more} p w a) (next q v b) =
+  told-unique e (next {added = added} p w a) (next q v b) =
       let s = told-unique (omega arith) p q in
-      let here = subst₂ (λ x y. LineAdds (lineAt t x) (length y) room more) (s .0) (s .1) a in
+      let here = subst₂ (λ x y. LineAdds (lineAt t x) (length y) room added) (s .0) (s .1) a in
       (ap (λ (x : ℕ). lineEnd t x + 1) (s .0), ap₂ _++_ (s .1) (adds-unique here b))
 
   not-passed : {n m i j : ℕ} {bs cs : List ℕ} → n < m → Told t room n i bs → Stops t room i bs → Told t room m j cs → ⊥
@@ -44,7 +45,8 @@ module _ {t : List ℕ} {room : ℕ} where
       (λ h. not-passed h p s q)
       (eq-or-lt-of-le before)
 
-  one-line : {n m i j : ℕ} {bs cs : List ℕ} → Told t room n i bs → Stops t room i bs → Told t room m j cs → Stops t room j cs → n ≡ m
+  one-line : {n m i j : ℕ} {bs cs : List ℕ} → Told t room n i bs → Stops t room i bs → Told t room m j cs
+      → Stops t room j cs → n ≡ m
   one-line {n} {m} p s q u = go (decLt n m) (decLt m n)
     where
       go : Dec (n < m) → Dec (m < n) → n ≡ m
@@ -54,10 +56,10 @@ module _ {t : List ℕ} {room : ℕ} where
 
 module _ {t page : List ℕ} {i : ℕ} {bs : List ℕ} where
   stops : {s : Step} → EndsAs t page i bs s → Stops t (drawingRoom page) i bs
-  stops (drawn h y l p) more w a = omega arith
-  stops (no-line h y) more w a = omega arith
-  stops (wrong-line v r) more w a = adds-or-not a r
-  stops (long-text h l) more w a = omega arith
+  stops (drawn h y l p) added w a = omega arith
+  stops (no-line h y) added w a = omega arith
+  stops (wrong-line v r) added w a = adds-or-not a r
+  stops (long-text h l) added w a = omega arith
 
   -- a drawing is the count and the bytes, and no more
   its-bytes : {s : Step} {at : ℕ} → s ≡ Done at → EndsAs t page i bs s → take at page ≡ bigEndian (length bs) ++ bs
@@ -68,11 +70,12 @@ module _ {t page : List ℕ} {i : ℕ} {bs : List ℕ} where
   its-bytes d (wrong-line v r) = absurd (let z : _≡_ {A = ℕ} 0 1 = cc in omega arith)
   its-bytes d (long-text h l) = absurd (let z : _≡_ {A = ℕ} 0 1 = cc in omega arith)
 
-long-as : (page bs : List ℕ) (at : ℕ) → at ≤ length page → take at page ≡ bigEndian (length bs) ++ bs → at ≡ 4 + length bs
+long-as : (page bs : List ℕ) (at : ℕ) → at ≤ length page → take at page ≡ bigEndian (length bs) ++ bs
+    → at ≡ 4 + length bs
 long-as page bs at h e = omega (arith, length-take-le at page h, ap length e, length-append (bigEndian (length bs)) bs)
 
-one-way : {t page page′ : List ℕ} {i : ℕ} {bs : List ℕ} {s u : Step} → length page ≡ length page′ → EndsAs t page i bs s
-    → EndsAs t page′ i bs u → s ≡ u
+one-way : {t page page′ : List ℕ} {i : ℕ} {bs : List ℕ} {s u : Step} → length page ≡ length page′
+    → EndsAs t page i bs s → EndsAs t page′ i bs u → s ≡ u
 one-way {bs = bs} z (drawn h y l p) (drawn g x m q) = ap Done (long-as _ bs _ l p ∙ sym (long-as _ bs _ m q))
 one-way z (drawn h y l p) (no-line g x) = absurd (y x)
 one-way z (drawn h y l p) (wrong-line v r) = absurd (omega arith)
@@ -98,5 +101,7 @@ one-outcome t page page′ a b z p q =
     let line = one-line (p .told) (stops (p .ends)) told stop in
     let here = told-unique line (p .told) told in
     let ends = subst₂ (λ x y. EndsAs t page′ x y (b .step)) (sym (here .0)) (sym (here .1)) (q .ends) in
-    let step = one-way z (p .ends) ends in
-    (ap₂ (λ n s. record { line = n; step = s }) line step, λ at d. its-bytes d (p .ends) ∙ sym (its-bytes (sym step ∙ d) ends))
+    let step = one-way z (p .ends) ends in (
+      ap₂ (λ n s. record { line = n; step = s }) line step,
+      λ at d. its-bytes d (p .ends) ∙ sym (its-bytes (sym step ∙ d) ends),
+    )

@@ -1,6 +1,6 @@
 -- What the promise of `draw` comes to, for a reader who asks whether it leaves anything open.
---   OneOutcome   what becomes of a text is one thing: in pages of one length two outcomes are equal, and where it is a drawing, so
---                are its bytes
+--   OneOutcome   what becomes of a text is one thing: two outcomes in pages of one length are equal, and where there
+--                is a drawing, so are its bytes
 use mathlib.Core.Path.{_≡_}
 use mathlib.Core.List.{List}
 use Prim.Native.Nat.{ℕ}

@@ -1,13 +1,15 @@
 -- The drawing that a text tells, or the first of its lines that is not taken.
---   mostText            the longest text that is taken, 524,288 bytes; a line end may follow it
---   lineEnd t i         where the line of the text t that starts at the place i ends
---   lineAt t i          what that line says, without its comment
---   LineWithin t i      a line of t starts at the place i, and it ends within the longest text
---   Told t room n i bs  the lines of t before its line n, which starts at the place i, are taken, and bs are the bytes that they
---                       add; there is room for so many
---   EndsAs t page i bs s   s is what becomes of t at the place i, after the bytes bs: the text is over and the page starts with its
---                       drawing, the count of bytes and then bs; or the line there is not taken, and s says why
---   Becomes t page r    the promise of `draw`: r is what became of the text t, at which line; the page is that after the call
+--   mostText             the longest text that is taken, 524,288 bytes; a line end may follow it
+--   lineEnd t i          where the line of the text t that starts at the place i ends
+--   lineAt t i           what that line says, without its comment
+--   LineWithin t i       a line of t starts at the place i, and ends within the longest text
+--   Told t room n i bs   the lines of t before its line n, which starts at the place i, are taken, in a page that has
+--                        room for so many bytes, and bs are the bytes that they add
+--   EndsAs t page i bs s   s is what becomes of t at the place i, after the bytes bs: the text is over, and the page
+--                        starts with its drawing, the count of bytes and then bs; or the line there is not taken, and
+--                        s says why
+--   Becomes t page r     the promise of `draw`: r is what became of the text t, and at which line; the page is that
+--                        after the call
 use mathlib.Core.Path.{_≡_}
 use mathlib.Core.List.{List, [], _++_}
 use Prim.Native.Nat.{ℕ, _+_, _-_, _<_, _≤_}
@@ -34,13 +36,13 @@ lineAt t i = spoken (take (lineEnd t i - i) (drop i t))
 abbrev pub LineWithin : List ℕ → ℕ → Type 0
 LineWithin t i = (i < length t) × (lineEnd t i ≤ mostText)
 
--- Both limits are asked of every line, be it a comment: so a text stops at one line only.
+-- Both limits are asked of every line, be it only a comment: a line that passes one is not passed over.
 pub data Told (t : List ℕ) (room : ℕ) : ℕ → ℕ → List ℕ → Type 0 where
   start : Told t room 1 0 []
-  next : {n i : ℕ} {bs more : List ℕ} → Told t room n i bs → LineWithin t i → LineAdds (lineAt t i) (length bs) room more
-      → Told t room (n + 1) (lineEnd t i + 1) (bs ++ more)
+  next : {n i : ℕ} {bs added : List ℕ} → Told t room n i bs → LineWithin t i
+      → LineAdds (lineAt t i) (length bs) room added → Told t room (n + 1) (lineEnd t i + 1) (bs ++ added)
 
--- Of the page only the drawing is told, and only where there is one: nothing else of it is written out.
+-- Of the page only the drawing is told: nothing else of it is ever written out.
 pub data EndsAs (t page : List ℕ) (i : ℕ) (bs : List ℕ) : Step → Type 0 where
   drawn : {at : ℕ} → length t ≤ i → (length bs ≡ 0 → ⊥) → at ≤ length page → take at page ≡ bigEndian (length bs) ++ bs
       → EndsAs t page i bs (Done at)
@@ -49,7 +51,7 @@ pub data EndsAs (t page : List ℕ) (i : ℕ) (bs : List ℕ) : Step → Type 0 
       → EndsAs t page i bs (Wrong f)
   long-text : i < length t → mostText < lineEnd t i → EndsAs t page i bs (Wrong LongText)
 
--- The line is that of the place where the lines taken end, so that it can be counted in one way only.
+-- The text ends at the first line that is not taken, so that the faults of later ones are no outcome.
 pub record Becomes (t page : List ℕ) (r : Outcome) : Type 0 where
   pub place : ℕ
   pub bytes : List ℕ

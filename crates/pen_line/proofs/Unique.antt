@@ -1,5 +1,5 @@
--- A line means one thing: its first letter tells what it asks for, its words are read as one row of numbers, and where it is
--- refused, what it asks for and where it stands tell why.
+-- A line means one thing: its first letter tells what it asks for, its words are read as one row of numbers, and where
+-- it is refused, what it asks for and where it stands tell why.
 use mathlib.Core.Path.{_≡_, refl, sym, ap, ap₂, _∙_, subst}
 use mathlib.Core.Bool.{Bool, true, false}
 use mathlib.Core.List.{List, [], _∷_, _++_}
@@ -9,16 +9,22 @@ use native.Mathlib.Nat.{eq-or-lt-of-le}
 use native.Mathlib.Omega.{arith}
 use borrow.Author.Tests.{lt-ltb, le-ltb, eq-eqb, ne-eqb, eqb-true, eqb-false}
 use lib.Dec.{eqb, ltb}
-use lib.ListN.{length, getD, length-append}
+use lib.ListN.{length, getD, take, drop, length-append, take-append-drop}
 use Rattle.whole.specs.Choice.{if_then_else_}
-use Rattle.text.specs.Pages.{bigEndian}
+use Rattle.text.specs.Pages.{Put, bigEndian}
 use Rattle.decimal.specs.Decimals.{Reads}
 use Rattle.decimal.specs.declared.Reading.the-variants.{Number, Nothing}
 use Rattle.decimal.proofs.Unique.{reads-unique}
-use Rattle.pen_line.specs.Lines.{startOf, endOf, word, Numerals, none, one-more, NoNumerals, no-number, too-many, Asks, strip, move, line, close, Record}
-use Rattle.pen_line.specs.Records.{Ordered, LineAdds, blank, its-record, LineRefused, unknown, second-strip, no-strip, long-drawing, not-numbers}
+use Rattle.pen_line.specs.Lines.{startOf, endOf, word, Numerals, none, one-more, NoNumerals, no-number, too-many}
+use Rattle.pen_line.specs.Lines.{Asks, strip, move, line, close, Record}
+use Rattle.pen_line.specs.Records.{Ordered, LineAdds, blank, its-record, LineTaken, taken, refused}
+use Rattle.pen_line.specs.Records.{LineRefused, unknown, second-strip, no-strip, long-drawing, not-numbers}
+use Rattle.pen_line.specs.Laws.{OneStep}
 use Rattle.pen_line.specs.declared.Fault.{Fault}
-use Rattle.pen_line.specs.declared.Fault.the-variants.{NoStrip, SecondStrip, UnknownWord, NotNumbers, LongDrawing}
+use Rattle.pen_line.specs.declared.Fault.the-variants.{NoStrip, SecondStrip, UnknownWord, NotNumbers}
+use Rattle.pen_line.specs.declared.Fault.the-variants.{LongDrawing}
+use Rattle.pen_line.specs.declared.Step.{Step}
+use Rattle.pen_line.specs.declared.Step.the-variants.{Done, Wrong}
 
 -- ---- what a word asks for, by its first letter
 
@@ -46,16 +52,21 @@ not-blank close e = omega (arith, ap length e)
 -- ---- numbers
 
 number-or-not : {t : List ℕ} {bits : ℕ} → Reads t (Number bits) → Reads t Nothing → ⊥
-number-or-not {bits = bits} r s = let e : Number bits ≡ Nothing = reads-unique r s in absurd (let z : _≡_ {A = ℕ} 0 1 = cc in omega arith)
+number-or-not {bits = bits} r s =
+    let e : Number bits ≡ Nothing = reads-unique r s in
+    let z : _≡_ {A = ℕ} 0 1 = cc in
+    omega arith
 
 module _ {l : List ℕ} {i : ℕ} where
-  numerals-unique : {n m k j : ℕ} {bs cs : List ℕ} → n ≡ m → Numerals l i n k bs → Numerals l i m j cs → (k ≡ j) × (bs ≡ cs)
+  numerals-unique : {n m k j : ℕ} {bs cs : List ℕ} → n ≡ m → Numerals l i n k bs → Numerals l i m j cs
+      → (k ≡ j) × (bs ≡ cs)
   numerals-unique e none none = (refl, refl)
   numerals-unique e none (one-more q s) = absurd (omega arith)
   numerals-unique e (one-more p r) none = absurd (omega arith)
   numerals-unique e (one-more {bits = a} p r) (one-more {bits = b} q s) =
       let same = numerals-unique (omega arith) p q in
-      let read : Number a ≡ Number b = reads-unique r (subst (λ (x : ℕ). Reads (word l x) (Number b)) (sym (same .0)) s) in
+      let here = subst (λ (x : ℕ). Reads (word l x) (Number a)) (same .0) r in
+      let read : Number a ≡ Number b = reads-unique here s in
       let bits : a ≡ b = cc in
       (ap (endOf l) (same .0), ap₂ (λ x y. x ++ bigEndian y) (same .1) bits)
 
@@ -64,7 +75,8 @@ module _ {l : List ℕ} {i : ℕ} where
   numerals-long (one-more {bits = a} {bs = bs} p r) = omega (arith, numerals-long p, length-append bs (bigEndian a))
 
   -- none of the first n words is no number
-  all-numbers : {n m k j : ℕ} {bs cs : List ℕ} → Numerals l i n k bs → m < n → Numerals l i m j cs → Reads (word l j) Nothing → ⊥
+  all-numbers : {n m k j : ℕ} {bs cs : List ℕ} → Numerals l i n k bs → m < n → Numerals l i m j cs
+      → Reads (word l j) Nothing → ⊥
   all-numbers none h q s = omega arith
   all-numbers {m = m} (one-more {n = n} p r) h q s =
       let before : m ≤ n = omega arith in
@@ -80,7 +92,9 @@ module _ {l : List ℕ} {i : ℕ} where
 -- ---- lines
 
 record-unique : {l : List ℕ} {b c : ℕ} {bs cs : List ℕ} → Record l b bs → Record l c cs → (b ≡ c) × (bs ≡ cs)
-record-unique r s = let e = asks-unique (r .asks) (s .asks) in (e .0, numerals-unique (e .1) (r .numerals) (s .numerals) .1)
+record-unique r s =
+    let e = asks-unique (r .asks) (s .asks) in
+    (e .0, numerals-unique (e .1) (r .numerals) (s .numerals) .1)
 
 -- why a line is refused that asks for the first byte b and k numbers
 abbrev placed : ℕ → ℕ → Fault → Fault
@@ -116,7 +130,8 @@ module _ {l : List ℕ} {n room : ℕ} where
   adds-or-not (its-record r o h) (unknown y f) = f _ _ (r .asks)
   adds-or-not (its-record r o h) (second-strip a y) = y (o .0 (asks-unique (r .asks) a .0))
   adds-or-not (its-record r o h) (no-strip a y e) = y (sym (asks-unique (r .asks) a .0) ∙ o .1 e)
-  adds-or-not (its-record r o h) (long-drawing a q g) = omega (arith, asks-unique (r .asks) a .1, numerals-long (r .numerals))
+  adds-or-not (its-record r o h) (long-drawing a q g) =
+      omega (arith, asks-unique (r .asks) a .1, numerals-long (r .numerals))
   adds-or-not (its-record r o h) (not-numbers a q g x) =
       numerals-or-not (r .numerals) (r .over) (subst (NoNumerals l (endOf l 0)) (sym (asks-unique (r .asks) a .1)) x)
 
@@ -135,3 +150,26 @@ module _ {l : List ℕ} {n room : ℕ} where
 
   pub refused-unique : {f g : Fault} → LineRefused l n room f → LineRefused l n room g → f ≡ g
   refused-unique p q = one-reason (reason p) (reason q)
+
+-- ---- steps
+
+put-unique : {before after after′ word : List ℕ} {at end end′ : ℕ} → Put before after at end word
+    → Put before after′ at end′ word → (end ≡ end′) × (after ≡ after′)
+put-unique {before} {after} {after′} {end = end} p q =
+    let e = p .ends ∙ sym (q .ends) in
+    let front = p .text ∙ sym (q .text) ∙ ap (λ (x : ℕ). take x after′) (sym e) in
+    let back = p .rest ∙ ap (λ (x : ℕ). drop x before) e ∙ sym (q .rest) ∙ ap (λ (x : ℕ). drop x after′) (sym e) in
+    (e, sym (take-append-drop end after) ∙ ap₂ _++_ front back ∙ take-append-drop end after′)
+
+pub one-step : OneStep
+one-step l before after after′ at r s p q = go p q
+  where
+    go : {r s : Step} → LineTaken l before after at r → LineTaken l before after′ at s
+        → (r ≡ s) × ((end : ℕ) → r ≡ Done end → after ≡ after′)
+    go (taken {end = end} a p) (taken b q) =
+        let same = put-unique (subst (Put before after at end) (adds-unique a b) p) q in
+        (ap Done (same .0), λ k d. same .1)
+    go (taken a p) (refused r) = absurd (adds-or-not a r)
+    go (refused r) (taken a p) = absurd (adds-or-not a r)
+    go (refused r) (refused s) =
+        (ap Wrong (refused-unique r s), λ k d. absurd (let z : _≡_ {A = ℕ} 0 1 = cc in omega arith))

@@ -1,10 +1,10 @@
 -- What the workers behind the taking of a line promise each other.
---   NumbersPut l i n before after at r    the promise of `put_numbers`: the n numbers that follow the place i of the line l are put
---                       into the page, or are not such
---   AskedBy w r         the promise of `asked_by`: r is the record that the word w asks for; its first byte is 0 where it asks for
---                       none
---   RecordPut l i b n before after at r   the promise of `put_record`: the record with the first byte b and those numbers is put
---                       into the page, or r says why it is not
+--   NumbersPut l i n before after at r   the promise of `put_numbers`: the n numbers that follow the place i of
+--                       the line l are put into the page, or are not such
+--   AskedBy w r         the promise of `asked_by`: r is the record that the word w asks for; its first byte is 0 where
+--                       it asks for none
+--   RecordPut l i b n before after at r   the promise of `put_record`: the record with the first byte b and those
+--                       numbers is put into the page, or r says why it is not
 use mathlib.Core.Path.{_≡_}
 use mathlib.Core.Bool.{Bool, true, false}
 use mathlib.Core.List.{List, _∷_}
@@ -17,7 +17,7 @@ use Rattle.pen_line.specs.declared.Fault.the-variants.{NotNumbers, LongD
 use Rattle.pen_line.specs.declared.Step.{Step}
 use Rattle.pen_line.specs.declared.Step.the-variants.{Done, Wrong}
 
--- Of numbers that are not such the first may stand in the page already: of the page nothing is said then.
+-- Where a word is no number, those before it may stand in the page already, so nothing is said of the page.
 pub data NumbersPut (l : List ℕ) (i n : ℕ) (before after : List ℕ) (at : ℕ) : Bool → Type 0 where
   all : {k : ℕ} {bs : List ℕ} → Numerals l i n k bs → startOf l k ≡ length l → Put before after at (at + n * 4) bs
       → NumbersPut l i n before after at true

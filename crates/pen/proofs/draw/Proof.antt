@@ -24,7 +24,9 @@ same-length : tie.Need-same-length Inv-loop μ-loop
 same-length c = as-long (c .before .before .before .loop .inv .2)
 
 returns : tie.Need-returns Inv-loop μ-loop
-returns c = too-long (c .before .before .before .loop .inv .2) (c .before .before .loop-test .taken) (c .before .find .ensures .0) (omega arith)
+returns c =
+    let f = c .before in
+    too-long (f .before .before .loop .inv .2) (f .before .loop-test .taken) (f .find .ensures .0) (omega arith)
 
 sub-take-line : tie.Need-sub-take-line Inv-loop μ-loop
 sub-take-line c = search needs
@@ -53,8 +55,8 @@ returns-2 : tie.Need-returns-2 Inv-loop μ-loop
 returns-2 c =
     let t = c .before .before .before .before .before in
     let f = t .before .before .before .before in
-    stopped (f .before .before .loop .inv .2) (f .before .loop-test .taken) (f .find .ensures .0) (omega arith) (c .before .fault .given .1)
-    (c .before .before .before .before .page .given) (t .take-line .ensures)
+    stopped (f .before .before .loop .inv .2) (f .before .loop-test .taken) (f .find .ensures .0) (omega arith)
+    (c .before .fault .given .1) (c .before .before .before .before .page .given) (t .take-line .ensures)
 
 add-from : tie.Need-add-from Inv-loop μ-loop
 add-from c = search needs
@@ -71,8 +73,8 @@ loop-again c =
     let f = t .before .before .before .before in (
       omega arith,
       omega arith,
-      going-on (f .before .before .loop .inv .2) (f .before .loop-test .taken) (f .find .ensures .0) (omega arith) (c .before .next .given .1)
-          (t .take-line .ensures),
+      going-on (f .before .before .loop .inv .2) (f .before .loop-test .taken) (f .find .ensures .0) (omega arith)
+          (c .before .next .given .1) (t .take-line .ensures),
     )
 
 put-length-requires : tie.Need-put-length-requires Inv-loop μ-loop

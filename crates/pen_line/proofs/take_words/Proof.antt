@@ -23,7 +23,8 @@ find-requires c κs = search needs
 returns : tie.Need-returns
 returns c =
     let s = c .before .before .before .before .before in
-    taken (blank (no-word (now (s .args .line)) 0 (c .before .before .skip .ensures .0) (c .before .find .ensures .0) (c .if1 .taken)))
+    let f = c .before in
+    taken (blank (no-word (now (s .args .line)) 0 (f .before .skip .ensures .0) (f .find .ensures .0) (c .if1 .taken)))
     (put-nothing _ (s .pre .1))
 
 sub-asked-by : tie.Need-sub-asked-by
