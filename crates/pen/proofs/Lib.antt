@@ -1,1 +1,2 @@
 mod Drawings
+pub mod Unique

@@ -1,8 +1,8 @@
 // The way in by hand: reads lines of text from standard input, and writes the drawing that they tell to standard output.
-ghost use Prim.Native.Nat.{_≤_};
+ghost use Prim.Native.Nat.{_+_, _≤_};
 ghost use mathlib.Core.Path.{_≡_};
 ghost use lib.ListN.{length};
-ghost use Rattle.pen.specs.Texts.{Becomes};
+ghost use Rattle.pen.specs.Texts.{mostText, Becomes};
 ghost use Rattle.pen.specs.Workers.{Counted};
 use libc::STDERR_FILENO;
 use libc::STDIN_FILENO;
@@ -107,8 +107,10 @@ fn complain(line: usize, fault: Fault) {
     }
 }
 
-// Draws the text on standard input into a page, and writes the page, or why a line is not taken.
+// Draws the text on standard input into a page, and writes the page, or why a line is not taken. There is room for a byte
+// more than a text and its line end may have, so that a longer text is seen to be longer.
 fn run(text: &mut [u8], page: &mut [u8])
+    requires { ⌜ mostText + 2 ≡ length (now text) ⌝ }
     requires { ⌜ 65536 ≡ length (now page) ⌝ }
 {
     let count = io::read_full(STDIN_FILENO, text);
@@ -126,7 +128,6 @@ fn run(text: &mut [u8], page: &mut [u8])
 }
 
 fn main() {
-    // A byte more than a text and its line end may have.
     let mut text = [0u8; 524290];
     let mut page = [0u8; 65536];
     run(&mut text, &mut page);

@@ -1,3 +1,4 @@
 mod Words
 mod Numbers
 mod Records
+pub mod Unique

@@ -7,8 +7,8 @@ use native.Mathlib.Omega.{arith}
 use lib.ListN.{length, take, set}
 use Rattle.whole.proofs.Comparisons.{ff-tt, tt-ff}
 use Rattle.text.proofs.Puts.{put-nothing, put-byte, put-then}
-use Rattle.pen_line.specs.Lines.{endOf, word, Numerals, NoNumerals, Asks, wordsEnd, spoken}
-use Rattle.pen_line.specs.Records.{Ordered, long-drawing, not-numbers, LineTaken, taken, refused}
+use Rattle.pen_line.specs.Lines.{endOf, word, Numerals, NoNumerals, Asks, Record, wordsEnd, spoken}
+use Rattle.pen_line.specs.Records.{Ordered, its-record, long-drawing, not-numbers, LineTaken, taken, refused}
 use Rattle.pen_line.specs.Workers as Workers
 use Rattle.pen_line.specs.Workers.{NumbersPut, RecordPut}
 use Rattle.pen_line.specs.declared.Fault.the-variants.{NotNumbers}
@@ -26,8 +26,10 @@ module _ {l : List ℕ} {i n b : ℕ} {before after : List ℕ} {at : ℕ} (h : 
 
 pub taken-as : {l before after : List ℕ} {at e b n : ℕ} {r : Step} → 4 ≤ at → at ≤ length before → e ≡ endOf l 0 → Asks (word l 0) b n → Ordered b (at - 4)
     → RecordPut l e b n before after at r → LineTaken l before after at r
-taken-as {l} {n = n} f g q a o (Workers.put {k = k} {bs = bs} m z p) =
-    taken (record { count = n; end = k; asks = a; numerals = subst (λ (x : ℕ). Numerals l x n k bs) q m; over = z }) o p
+taken-as {l} {b = b} {n = n} f g q a o (Workers.put {k = k} {bs = bs} m z p) =
+    let ns = subst (λ (x : ℕ). Numerals l x n k bs) q m in
+    let r : Record l b bs = record { count = n; end = k; asks = a; numerals = ns; over = z } in
+    taken (its-record r o (omega (arith, p .ends, p .fits, p .same))) p
 taken-as f g q a o (Workers.long h) = refused (long-drawing a o (omega arith))
 taken-as {l} {n = n} f g q a o (Workers.wrong h x) = refused (not-numbers a o (omega arith) (subst (λ (y : ℕ). NoNumerals l y n) q x))
 

@@ -1,11 +1,10 @@
 -- `pen::draw` meets its contract: the records of the lines before the place `from` stand in the page. Assumes nothing.
-use mathlib.Core.Path.{_∙_, subst}
-use Prim.Native.Nat.{_+_, _-_, _≤_, _<_}
+use mathlib.Core.Path.{_∙_}
+use Prim.Native.Nat.{_+_, _-_, _≤_}
 use native.Mathlib.Omega.{arith}
 use borrow.Author.Needs.{needs}
 use lib.ListN.{length}
-use Rattle.pen.specs.Texts.{long-text}
-use Rattle.pen.proofs.Drawings.{Going, going-start, within, behind, as-long, going-on, stopped, ended}
+use Rattle.pen.proofs.Drawings.{Going, going-start, within, behind, as-long, too-long, going-on, stopped, ended}
 use Rattle.pen.proofs.draw.Statement.{statement}
 use Rattle.pen.proofs.draw.Tie as tie
 
@@ -25,8 +24,9 @@ same-length : tie.Need-same-length Inv-loop μ-loop
 same-length c = as-long (c .before .before .before .loop .inv .2)
 
 returns : tie.Need-returns Inv-loop μ-loop
-returns c = long-text (c .before .before .before .loop .inv .2 .told) (c .before .before .loop-test .taken)
-    (subst (λ e. 524288 < e) (c .before .find .ensures .0) (c .if1 .taken))
+returns c =
+    let f = c .before in
+    too-long (f .before .before .loop .inv .2) (f .before .loop-test .taken) (f .find .ensures .0) (omega arith)
 
 sub-take-line : tie.Need-sub-take-line Inv-loop μ-loop
 sub-take-line c = search needs
@@ -55,8 +55,8 @@ returns-2 : tie.Need-returns-2 Inv-loop μ-loop
 returns-2 c =
     let t = c .before .before .before .before .before in
     let f = t .before .before .before .before in
-    stopped (f .before .before .loop .inv .2) (f .before .loop-test .taken) (f .find .ensures .0) (c .before .fault .given .1)
-    (t .before .before .before .if1 .left) (c .before .before .before .before .page .given) (t .take-line .ensures)
+    stopped (f .before .before .loop .inv .2) (f .before .loop-test .taken) (f .find .ensures .0) (omega arith)
+    (c .before .fault .given .1) (c .before .before .before .before .page .given) (t .take-line .ensures)
 
 add-from : tie.Need-add-from Inv-loop μ-loop
 add-from c = search needs
@@ -73,8 +73,8 @@ loop-again c =
     let f = t .before .before .before .before in (
       omega arith,
       omega arith,
-      going-on (f .before .before .loop .inv .2) (f .before .loop-test .taken) (f .find .ensures .0) (c .before .next .given .1)
-          (t .take-line .ensures),
+      going-on (f .before .before .loop .inv .2) (f .before .loop-test .taken) (f .find .ensures .0) (omega arith)
+          (c .before .next .given .1) (t .take-line .ensures),
     )
 
 put-length-requires : tie.Need-put-length-requires Inv-loop μ-loop
@@ -85,7 +85,7 @@ same-length-3 c = c .before .page2 .given ∙ as-long (c .before .before .before
 
 returns-3 : tie.Need-returns-3 Inv-loop μ-loop
 returns-3 c = ended (c .before .before .before .before .before .loop .inv .2) (c .before .before .before .before .loop-test .left)
-    (c .before .before .put-length .ensures)
+    (c .before .page2 .given) (c .before .before .put-length .ensures)
 
 pub draw-spec : {M : Type 1} → statement M
 draw-spec =

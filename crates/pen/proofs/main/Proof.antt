@@ -1,4 +1,4 @@
--- `pen::main` meets its contract: the page is as long as it is made. Assumes nothing.
+-- `pen::main` meets its contract: text and page are as long as they are made. Assumes nothing.
 use mathlib.Core.Path.{sym}
 use Prim.Native.Nat.{ℕ}
 use lib.ListN.{length-replicate}
@@ -13,7 +13,7 @@ slice-aggregate-run-2 : tie.Need-slice-aggregate-run-2
 slice-aggregate-run-2 c = sym (length-replicate {A = ℕ} 65536 0)
 
 run-requires : tie.Need-run-requires
-run-requires c κs = sym (length-replicate {A = ℕ} 65536 0)
+run-requires c κs = (sym (length-replicate {A = ℕ} 524290 0), sym (length-replicate {A = ℕ} 65536 0))
 
 returns : tie.Need-returns
 returns c = search needs

@@ -1,11 +1,12 @@
 -- `pen_line::take_words` meets its contract: the first word says what is asked for, and the tests say whether it may follow. Assumes nothing.
-use mathlib.Core.Path.{_≡_, refl, subst}
+use mathlib.Core.Path.{_≡_, subst}
 use mathlib.Core.List.{List}
 use Prim.Native.Nat.{ℕ}
 use native.Mathlib.Omega.{arith}
 use denote.Ref.{now}
+use Rattle.text.proofs.Puts.{put-nothing}
 use Rattle.pen_line.specs.Lines.{endOf, word, Asks}
-use Rattle.pen_line.specs.Records.{unknown, second-strip, no-strip, blank, refused}
+use Rattle.pen_line.specs.Records.{blank, unknown, second-strip, no-strip, taken, refused}
 use Rattle.pen_line.specs.Workers.{AskedBy}
 use Rattle.pen_line.proofs.Words.{end-is, word-is, no-word, some-word, the-strip, few-numbers, nothing-asked, is-asked}
 use Rattle.pen_line.proofs.Records.{taken-as}
@@ -20,8 +21,11 @@ find-requires : tie.Need-find-requires
 find-requires c κs = search needs
 
 returns : tie.Need-returns
-returns c = blank (no-word (now (c .before .before .before .before .before .args .line)) 0 (c .before .before .skip .ensures .0) (c .before .find .ensures .0)
-    (c .if1 .taken)) refl
+returns c =
+    let s = c .before .before .before .before .before in
+    let f = c .before in
+    taken (blank (no-word (now (s .args .line)) 0 (f .before .skip .ensures .0) (f .find .ensures .0) (c .if1 .taken)))
+    (put-nothing _ (s .pre .1))
 
 sub-asked-by : tie.Need-sub-asked-by
 sub-asked-by c = search needs
