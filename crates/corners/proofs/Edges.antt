@@ -75,7 +75,7 @@ pub record Entered (cs : List Point) (s : Stroke) (k : ℕ) (n d : ℤ) : Type 0
   pub left : (j : ℕ) → j < k → LeftOn (at cs (before j (length cs))) (at cs j) (pointAt s n d)
 
 module _ {cs : List Point} {s : Stroke} where
-  pub span-start : SpanOf largest (Entered cs s 0) all
+  span-start : SpanOf largest (Entered cs s 0) all
   span-start = record {
     proper = all-proper;
     sized = all-sized largest (omega arith);

@@ -2,6 +2,4 @@ pub mod Places
 pub mod Edges
 pub mod Refusals
 pub mod Answers
-pub mod Computed
-pub mod Examples
 pub mod Rectangles

@@ -4,24 +4,16 @@
 --   read, read-unique        every call has a result, and one only: answer and output
 --   enough                   a walk of more steps than there are bytes means the same
 --   few-strokes, on-table    a drawing has no more than 4,096 strokes, and its numbers are on the table
---   example, example-read    the worked example: what its 40 bytes mean, and its reading
 use mathlib.Core.Path.{_≡_, refl, sym, _∙_, subst}
-use mathlib.Core.List.{List, [], _∷_}
+use mathlib.Core.List.{List}
 use Prim.Native.Nat.{ℕ, _≤_}
 use native.Mathlib.Omega.{arith}
-use lib.Ieee.{ofBits}
-use lib.IntN.{ℤ, pos, negsuc}
+use lib.IntN.{ℤ}
 use lib.ListN.{length}
-use Rattle.grid.specs.Refusals.{first, noArea, mostStrokes, windowRefusal, strokesRefusal, roomRefusal}
-use Rattle.grid.specs.Calls.{written, answeredBy}
+use Rattle.grid.specs.Refusals.{noArea, mostStrokes, windowRefusal, strokesRefusal}
 use Rattle.grid.specs.declared.Stroke.{Stroke}
 use Rattle.grid.specs.declared.Window.{Window}
-use Rattle.grid.proofs.Calls.{lent-done}
-use Rattle.intake.specs.Millimetres.{pointFault, pointAnswer, windowFault, windowAnswer}
-use Rattle.intake.proofs.Outcome.{outcome}
 use Rattle.drawing.specs.Intake.{Intake}
-use Rattle.format.specs.Format.{numberAt, floatAt, headFault, recordAt}
-use Rattle.drawing.specs.Pen.{equal, same, after, turnAt}
 use Rattle.drawing.specs.Drawings.{Drawing, fault, drawn, walk, meaning, Means, numbersOf, ReadsAs, ReadDrawing}
 use Rattle.drawing.specs.declared.DrawingAnswer.{DrawingAnswer}
 use Rattle.drawing.specs.declared.pen.Pen.{Pen}
@@ -62,25 +54,3 @@ module _ (bs : List ℕ) where
   pub read-unique : {a b : DrawingAnswer} {out after after′ : List ℤ} → ReadDrawing bs a out after → ReadDrawing bs b out after′ → (a ≡ b) × (after ≡ after′)
   read-unique {b = b} {out = out} {after′ = after′} p q =
       reads-unique (p .drawing) (p .call) (subst (λ (d : Drawing). ReadsAs d b out after′) (means-unique (q .means) (p .means)) (q .call))
-
--- ---- the worked example: window 0 0 0.3125 0.3125, move to (-0.15625, 0.15625), line to (0.46875, 0.15625), close
-
-abbrev pub forty : List ℕ
-forty =
-    0 ∷ 0 ∷ 0 ∷ 36 ∷ 1 ∷ 0 ∷ 0 ∷ 0 ∷ 0 ∷ 0 ∷ 0 ∷ 0 ∷ 0 ∷ 0x3e ∷ 0xa0 ∷ 0 ∷ 0 ∷ 0x3e ∷ 0xa0 ∷ 0 ∷ 0
-    ∷ 0x4d ∷ 0xbe ∷ 0x20 ∷ 0 ∷ 0 ∷ 0x3e ∷ 0x20 ∷ 0 ∷ 0 ∷ 0x4c ∷ 0x3e ∷ 0xf0 ∷ 0 ∷ 0 ∷ 0x3e ∷ 0x20 ∷ 0 ∷ 0 ∷ 0x5a ∷ []
-
-abbrev pub square : Window
-square = record { left = pos 0; bottom = pos 0; right = pos 10; top = pos 10 }
-
-pub example : Means forty (drawn square
-    (record { x1 = negsuc 4; y1 = pos 5; x2 = pos 15; y2 = pos 5 } ∷ record { x1 = pos 15; y1 = pos 5; x2 = negsuc 4; y2 = pos 5 } ∷ []))
-unfolding meaning walk turnAt recordAt after equal same headFault numberAt floatAt ofBits outcome first pointFault pointAnswer windowFault windowAnswer
-example = by-computed refl
-
--- and its reading into an output of nine numbers, of which the last stays
-pub example-read : ReadDrawing forty (record { number = 0; place = 0; window = square; count = 2 })
-    (pos 7 ∷ pos 7 ∷ pos 7 ∷ pos 7 ∷ pos 7 ∷ pos 7 ∷ pos 7 ∷ pos 7 ∷ pos 7 ∷ [])
-    (negsuc 4 ∷ pos 5 ∷ pos 15 ∷ pos 5 ∷ pos 15 ∷ pos 5 ∷ negsuc 4 ∷ pos 5 ∷ pos 7 ∷ [])
-unfolding answeredBy roomRefusal written noArea numbersOf
-example-read = to-reading forty (sym (is-computed example)) refl (lent-done refl (record { numbers = _; gives = refl; answer = refl; output = refl }))

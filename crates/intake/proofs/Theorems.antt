@@ -3,7 +3,6 @@
 --   times-32, over-32        32 x is exact in f32 unless it overflows, and then x is refused by 10; g / 32 is exact for every grid number g
 --   round-trip, point-round-trip   what comes back from the grid goes to the same grid number
 --   point-on-table, window-on-table   the numbers of an answer are on the table
---   examples                 worked examples, each float by its bits
 use mathlib.Core.Path.{_≡_, refl, sym, ap, _∙_, subst}
 use mathlib.Core.Bool.{Bool, true, false, not}
 use Prim.Native.Nat.{ℕ, _*_, _^_, _≤_, _<_}
@@ -11,7 +10,7 @@ use native.Mathlib.Nat.{zero-lt-suc}
 use lib.Dec.{T, eqb}
 use lib.IntN.{ℤ, pos, negsuc, natAbs, _*ℤ_}
 use lib.Signed.{nonNeg}
-use lib.Ieee.{Float, nan, inf, fin, binary32, up, down, mul, div, ofInt, fits, ofBits}
+use lib.Ieee.{Float, nan, inf, fin, binary32, up, down, mul, div, ofInt, fits}
 use lib.Ieee.Fits.{down-pos}
 use lib.Ieee.Exact.{HasValue}
 use Rattle.whole.specs.Choice.{if_then_else_}
@@ -20,7 +19,7 @@ use Rattle.whole.proofs.Order.{zarith}
 use Rattle.whole.proofs.Ranges.{within-abs}
 use Rattle.whole.proofs.Rounding.{rounded-exact}
 use Rattle.grid.specs.Table.{onTable}
-use Rattle.grid.specs.Refusals.{first, notANumber, tooFar}
+use Rattle.grid.specs.Refusals.{first, tooFar}
 use Rattle.grid.specs.declared.Refusal.{Refusal}
 use Rattle.grid.proofs.Ranges.{on-within}
 use Rattle.intake.specs.declared.Coordinate.{Coordinate}
@@ -33,9 +32,9 @@ use Rattle.intake.specs.Millimetres.{signed, nearest, faulty, accepted, 
 use Rattle.intake.specs.Millimetres.{PointToGrid, windowFault, refusedWindow, windowAnswer, WindowToGrid, InMillimetres}
 use Rattle.intake.specs.Millimetres.{ToMillimetres, done, refused}
 use Rattle.intake.proofs.Exact.{thirty-two, product-exact, product-over, quotient-exact, value-unique}
-use Rattle.intake.proofs.Outcome.{outcome, taken, taken-is, taken-on}
+use Rattle.intake.proofs.Outcome.{taken, taken-is, taken-on}
 use Rattle.intake.proofs.Ways.{overflows}
-use Rattle.intake.proofs.Answers.{point-is, to-point, window-is}
+use Rattle.intake.proofs.Answers.{point-is, window-is}
 
 -- ---- one answer
 
@@ -118,28 +117,3 @@ window-on-table r = let f = windowFault (r .left) (r .bottom) (r .right) (r .top
         else refusedWindow f)
     go f true = record { left = taken-on (r .left-taken); bottom = taken-on (r .bottom-taken); right = taken-on (r .right-taken); top = taken-on (r .top-taken) }
     go f false = record { left = refl; bottom = refl; right = refl; top = refl }
-
--- ---- worked examples, each float by its bits
-
-pub examples :
-    -- 511.96875
-    Taken (ofBits binary32 0x43ff_fc00) (accepted (pos 16383))
-    -- 511.984375, which is 16383.5 on the grid; the f32 below it; and both with the other sign
-    × Taken (ofBits binary32 0x43ff_fe00) (faulty tooFar) × Taken (ofBits binary32 0x43ff_fdff) (accepted (pos 16383))
-    × Taken (ofBits binary32 0xc3ff_fe00) (faulty tooFar) × Taken (ofBits binary32 0xc3ff_fdff) (accepted (negsuc 16382))
-    -- -0.0, and the smallest f32 above 0
-    × Taken (ofBits binary32 0x8000_0000) (accepted (pos 0)) × Taken (ofBits binary32 1) (accepted (pos 0))
-    -- 0.015625 and 0.046875, a half and one and a half on the grid; -0.046875
-    × Taken (ofBits binary32 0x3c80_0000) (accepted (pos 0)) × Taken (ofBits binary32 0x3d40_0000) (accepted (pos 2))
-    × Taken (ofBits binary32 0xbd40_0000) (accepted (negsuc 1))
-    -- a NaN, an infinity, and the greatest f32, of which 32 times overflows
-    × Taken (ofBits binary32 0x7fc0_0000) (faulty notANumber) × Taken (ofBits binary32 0xff80_0000) (faulty tooFar) × Taken (ofBits binary32 0x7f7f_ffff) (faulty tooFar)
-unfolding outcome ofBits
-examples = (taken _, taken _, taken _, taken _, taken _, taken _, taken _, taken _, taken _, taken _, taken _, taken _, taken _)
-
--- the first faulty number decides: (511.96875, 511.984375) and (511.984375, NaN)
-pub point-examples :
-    PointToGrid (record { x = ofBits binary32 0x43ff_fc00; y = ofBits binary32 0x43ff_fe00 }) (record { number = tooFar; place = 1; x = pos 0; y = pos 0 })
-    × PointToGrid (record { x = ofBits binary32 0x43ff_fe00; y = ofBits binary32 0x7fc0_0000 }) (record { number = tooFar; place = 0; x = pos 0; y = pos 0 })
-unfolding outcome ofBits first pointFault pointAnswer
-point-examples = (to-point _ refl, to-point _ refl)

@@ -6,4 +6,3 @@ pub mod Spaces
 pub mod Lists
 pub mod Pairs
 pub mod Theorems
-pub mod Examples

@@ -1,14 +1,18 @@
--- The one theorem over the table: each statement has one answer, the computed one, and that is looked at; an outline's is the same in every order.
-use mathlib.Core.Path.{_≡_, refl, sym, ap, _∙_}
+-- The one theorem over the table: what is computed satisfies the statements, nothing else does, and the table has it.
+-- An outline's answer is the same in every order.
+use mathlib.Core.Path.{_≡_, refl, sym, _∙_, subst, transport}
 use mathlib.Core.List.{List}
+use Prim.Native.Nat.{ℕ, _≤_}
 use native.Mathlib.Omega.{arith}
 use lib.Count.{trailingZeros}
 use lib.IntN.{ℤ}
 use Rattle.codes.specs.Codes.{code, decision}
 use Rattle.codes.specs.declared.CountedAnswer.{CountedAnswer}
+use Rattle.codes.specs.Steps.{CohenSutherland}
 use Rattle.codes.proofs.Computed.{meetingOf, stepOf, countOf, countedOf, countedOf-is, computed}
 use Rattle.codes.proofs.Runs.{same-two}
-use Rattle.convex.specs.Corners.{cornersOf, every, next, joins, isLeft, strictlyConvex, rightCount, countRefusal, convexRefusal}
+use Rattle.convex.specs.Corners.{cornersOf, every, next, joins, isLeft, strictlyConvex}
+use Rattle.convex.specs.Corners.{rightCount, countRefusal, convexRefusal}
 use Rattle.fraction.specs.Fraction.{lessThan}
 use Rattle.fraction.proofs.Computed.{euclid, lowestOf, roundedAt}
 use Rattle.whole.specs.Rounding.{towards}
@@ -17,9 +21,9 @@ use Rattle.grid.specs.declared.Stroke.{Stroke}
 use Rattle.grid.specs.Calls.{written, answeredBy}
 use Rattle.grid.specs.Refusals.{first, offTable, noArea, windowRefusal, strokeRefusal, roomRefusal}
 use Rattle.grid.specs.Table.{onTable, firstOff}
-use Rattle.outlines.specs.Outlines.{badOrder, outlineRefusal, Outline}
-use Rattle.outlines.proofs.Computed.{keptOf, addedOf, passOf, cutOf, cutsOf, isBefore, leastOf, startOf, ringOf, outlineOf, answerOf, outputOf}
-use Rattle.outlines.proofs.Computed as outlines
+use Rattle.outlines.specs.Outlines.{lastOrder, badOrder, outlineRefusal, Outline}
+use Rattle.outlines.proofs.Computed.{keptOf, addedOf, passOf, cutOf, cutsOf, isBefore, leastOf, startOf}
+use Rattle.outlines.proofs.Computed.{ringOf, outlineOf, answerOf, outputOf, answer-is}
 use Rattle.writing.proofs.Numbers.{numbersOf}
 use Rattle.outlines.proofs.Unique.{any-order}
 use Rattle.passes.specs.Orders.{sidesIn, linesIn}
@@ -30,26 +34,39 @@ use Rattle.rings.proofs.Passes.{meet}
 use Rattle.spans.proofs.Computed.{cutBy}
 use Rattle.strokes.specs.Strokes.{strokeCallRefusal}
 use Rattle.strokes.proofs.Computed.{acrossOf, spanOf, clippedOf, answerOf as strokeAnswerOf}
-use Rattle.worked.specs.Examples.{ten, zeros, stroke, outline, Holds, StrokeHolds, OutlineHolds, table}
+use Rattle.worked.specs.Examples.{ten, zeros, Outcome, expected, Holds, StrokeHolds, OutlineHolds, table}
 
 -- a stroke: both calls' answers are the computed one
-stroke-holds : {s : Stroke} {expected : CountedAnswer} → countedOf ten s ≡ expected → StrokeHolds s expected
-stroke-holds {s} e = record {
-  liang-barsky = λ a h. sym (same-two (countedOf-is ten s) h) ∙ ap (λ (r : CountedAnswer). r .answer) e;
-  cohen-sutherland = λ r h. computed h ∙ e;
-}
+stroke-holds : {s : Stroke} {r : CountedAnswer} → countedOf ten s ≡ r → StrokeHolds s r
+stroke-holds {s} e =
+    let c = subst (CohenSutherland ten s) e (countedOf-is ten s) in
+    record {
+      liang-barsky = record { holds = c .clipping; only = λ a h. sym (same-two c h) };
+      cohen-sutherland = record { holds = c; only = λ r h. computed h ∙ e };
+    }
 
 -- an outline: in any order what is computed in order 0
-outline-holds : {zs : List ℤ} {expected : Answer} {output : List ℤ}
-    → answerOf ten 0 zs 32 ≡ expected → outputOf ten 0 zs (zeros 32) ≡ output → OutlineHolds zs expected output
-outline-holds {zs} p q = record { in-order = λ o l a after h. let k = any-order l (omega arith) h (outlines.answer-is ten 0 zs (zeros 32)) in (k .0 ∙ p, k .1 ∙ q) }
+outline-holds : {zs : List ℤ} {e : Outcome}
+    → answerOf ten 0 zs 32 ≡ expected e .0 → outputOf ten 0 zs (zeros 32) ≡ expected e .1 → OutlineHolds zs e
+outline-holds {zs} {e} p q = record {
+  in-order = λ o l. let c = answer-is ten o zs (zeros 32) in let k = is o l c in record {
+    holds = transport (λ i. Outline ten o zs (k .0 i) (zeros 32) (k .1 i)) c;
+    only = λ r h. let k = is o l h in λ i. (k .0 i, k .1 i);
+  };
+}
+  where
+    is : (o : ℕ) → o ≤ lastOrder → {a : Answer} {after : List ℤ} → Outline ten o zs a (zeros 32) after
+        → (a ≡ expected e .0) × (after ≡ expected e .1)
+    is o l h = let k = any-order l (omega arith) h (answer-is ten 0 zs (zeros 32)) in (k .0 ∙ p, k .1 ∙ q)
 
 pub worked : All Holds table
 unfolding table countedOf countOf stepOf meetingOf code decision trailingZeros
-    strokeCallRefusal strokeRefusal strokeAnswerOf clippedOf spanOf acrossOf cutBy lessThan roundedAt towards euclid lowestOf
-    answerOf outputOf answeredBy roomRefusal written outlineOf ringOf cutsOf cutOf passOf keptOf addedOf meet isBefore leastOf startOf numbersOf
-    outlineRefusal first windowRefusal noArea badOrder countRefusal rightCount offTable firstOff onTable
-    convexRefusal strictlyConvex every next joins isLeft cornersOf value through sidesIn linesIn left-side right-side bottom-side top-side
+    strokeCallRefusal strokeRefusal strokeAnswerOf clippedOf spanOf acrossOf cutBy lessThan roundedAt towards
+    euclid lowestOf answerOf outputOf answeredBy roomRefusal written outlineOf ringOf cutsOf cutOf passOf
+    keptOf addedOf meet isBefore leastOf startOf numbersOf outlineRefusal first windowRefusal noArea badOrder
+    countRefusal rightCount offTable firstOff onTable convexRefusal strictlyConvex every next joins isLeft cornersOf
+    value through sidesIn linesIn left-side right-side bottom-side top-side
 worked =
-    stroke-holds refl ◂ stroke-holds refl ◂ stroke-holds refl ◂ stroke-holds refl ◂ stroke-holds refl ◂ stroke-holds refl ◂ stroke-holds refl
-    ◂ outline-holds refl refl ◂ outline-holds refl refl ◂ outline-holds refl refl ◂ outline-holds refl refl ◂ outline-holds refl refl ◂ ∅
+    stroke-holds refl ◂ stroke-holds refl ◂ stroke-holds refl ◂ stroke-holds refl ◂ stroke-holds refl
+    ◂ stroke-holds refl ◂ stroke-holds refl ◂ outline-holds refl refl ◂ outline-holds refl refl
+    ◂ outline-holds refl refl ◂ outline-holds refl refl ◂ outline-holds refl refl ◂ ∅

@@ -1,17 +1,25 @@
 -- The worked examples A to L, all against the window 0 0 10 10, in one table.
---   Example   a stroke and what both stroke calls answer, the count of shortenings included;
---             or an outline, what the outline call answers in every order, and its output of 32 numbers, zeros before the call
---   Holds e   the calls' statements allow this answer and no other
---   ten       the window of all of them;  zeros n: a list of n zeros
---   from, over   a stroke by its four numbers, and a fraction by its two
---   kept t u ax ay bx by n, missedAfter n   what both stroke calls answer where the stroke is kept, and where it is missed, after n shortenings
---   gave n    what the outline call answers where it gives n numbers;  corners zs: the numbers that it gives for corners with the whole coordinates zs
---   table     the examples in their order
+--   table         the examples in their order
+--   Example       a stroke, by its two ends, and what both stroke calls answer, the count of shortenings included;
+--                 or an outline, by its corners, and its outcome
+--   Outcome       a ring, by its corners; no area; or refused, by the refusal's number
+--   Holds e       the calls' statements hold of this answer and of no other; of an outline's, in every order
+--   TheOnly P x   P holds of x, and of nothing else
+--   StrokeHolds, OutlineHolds   what Holds says of a stroke, and of an outline
+--   ten           the window of all of them;  zeros n: a list of n zeros
+--   coordinates ps   the numbers of the points ps;  ringNumbers cs: those of a ring's corners, four a corner
+--   expected e    the outline call's answer where e is the outcome, and its output: 32 numbers, zeros before the call
+-- The words of the table:
+--   + n, - n      the whole number n, and n below 0
+--   n over d      the fraction n/d
+--   at x y        a ring's corner with whole coordinates
+--   kept t u p q n   both stroke calls' answer: kept from t to u, with the rounded points p and q, after n shortenings
+--   missedAfter n    both stroke calls' answer: missed, after n shortenings
 use mathlib.Core.Path.{_≡_}
 use mathlib.Core.Bool.{true}
-use mathlib.Core.List.{List, [], _∷_, _++_}
+use mathlib.Core.List.{List, [], _∷_}
 use Prim.Native.Nat.{ℕ, _≤_}
-use lib.IntN.{ℤ, pos, negsuc}
+use lib.IntN.{ℤ, pos, negℤ}
 use lib.ListN.{replicate}
 use Rattle.codes.specs.declared.CountedAnswer.{CountedAnswer}
 use Rattle.codes.specs.Steps.{CohenSutherland}
@@ -19,84 +27,120 @@ use Rattle.fraction.specs.declared.Fraction.{Fraction}
 use Rattle.grid.specs.declared.Answer.{Answer}
 use Rattle.grid.specs.declared.Stroke.{Stroke}
 use Rattle.grid.specs.declared.Window.{Window}
-use Rattle.grid.specs.Refusals.{none}
-use Rattle.outlines.specs.Outlines.{Outline}
-use Rattle.spans.specs.Parts.{zeroth, unit}
-use Rattle.strokes.specs.declared.StrokeAnswer.{StrokeAnswer}
+use Rattle.grid.specs.Calls.{written, refusedBy, givesAll}
+use Rattle.grid.specs.Refusals.{refuse, none}
+use Rattle.outlines.specs.Outlines.{lastOrder, Outline}
 use Rattle.strokes.specs.Strokes.{Clipping, blank}
+
+-- `only` alone would hold of a statement that nothing satisfies, `holds` alone of one that leaves the answer open
+pub record TheOnly {A : Type 0} (P : A → Type 0) (x : A) : Type 0 where
+  pub holds : P x
+  pub only : (y : A) → P y → y ≡ x
+
+pub data Outcome : Type 0 where
+  ring : List (Fraction × Fraction) → Outcome
+  no-area : Outcome
+  refused : ℕ → Outcome
+
+pub data Example : Type 0 where
+  stroke : ℤ × ℤ → ℤ × ℤ → CountedAnswer → Example
+  outline : List (ℤ × ℤ) → Outcome → Example
 
 abbrev pub ten : Window
 ten = record { left = pos 0; bottom = pos 0; right = pos 10; top = pos 10 }
 
-pub data Example : Type 0 where
-  stroke : Stroke → CountedAnswer → Example
-  outline : List ℤ → Answer → List ℤ → Example
+-- ---- strokes
+pub record StrokeHolds (s : Stroke) (r : CountedAnswer) : Type 0 where
+  pub liang-barsky : TheOnly (Clipping ten s) (r .answer)
+  pub cohen-sutherland : TheOnly (CohenSutherland ten s) r
 
+-- ---- outlines
 abbrev pub zeros : ℕ → List ℤ
 zeros n = replicate n (pos 0)
 
-pub record StrokeHolds (s : Stroke) (expected : CountedAnswer) : Type 0 where
-  pub liang-barsky : (a : StrokeAnswer) → Clipping ten s a → a ≡ expected .answer
-  pub cohen-sutherland : (r : CountedAnswer) → CohenSutherland ten s r → r ≡ expected
+abbrev pub coordinates : List (ℤ × ℤ) → List ℤ
+coordinates [] = []
+coordinates (p ∷ ps) = p .0 ∷ p .1 ∷ coordinates ps
 
-pub record OutlineHolds (zs : List ℤ) (expected : Answer) (output : List ℤ) : Type 0 where
-  pub in-order : (o : ℕ) → o ≤ 23 → (a : Answer) (after : List ℤ) → Outline ten o zs a (zeros 32) after → (a ≡ expected) × (after ≡ output)
+abbrev pub ringNumbers : List (Fraction × Fraction) → List ℤ
+ringNumbers [] = []
+ringNumbers (c ∷ cs) = c .0 .num ∷ c .0 .den ∷ c .1 .num ∷ c .1 .den ∷ ringNumbers cs
 
+abbrev pub expected : Outcome → Answer × List ℤ
+expected (ring cs) = (givesAll (ringNumbers cs), written (ringNumbers cs) (zeros 32))
+expected no-area = (givesAll [], zeros 32)
+expected (refused n) = (refusedBy (refuse n 0), zeros 32)
+
+pub record OutlineHolds (zs : List ℤ) (e : Outcome) : Type 0 where
+  pub in-order : (o : ℕ) → o ≤ lastOrder
+      → TheOnly (λ (r : Answer × List ℤ). Outline ten o zs (r .0) (zeros 32) (r .1)) (expected e)
+
+-- ---- both
 abbrev pub Holds : Example → Type 0
-Holds (stroke s expected) = StrokeHolds s expected
-Holds (outline zs expected output) = OutlineHolds zs expected output
+Holds (stroke p q r) = StrokeHolds (record { x1 = p .0; y1 = p .1; x2 = q .0; y2 = q .1 }) r
+Holds (outline ps e) = OutlineHolds (coordinates ps) e
 
 -- ---- the words of the table
-abbrev pub from : ℤ → ℤ → ℤ → ℤ → Stroke
-from a b c d = record { x1 = a; y1 = b; x2 = c; y2 = d }
+infix 90 +_
+abbrev pub +_ : ℕ → ℤ
++ n = pos n
 
-abbrev pub over : ℤ → ℤ → Fraction
-over n d = record { num = n; den = d }
+infix 90 -_
+abbrev pub -_ : ℕ → ℤ
+- n = negℤ (pos n)
 
-abbrev pub kept : Fraction → Fraction → ℤ → ℤ → ℤ → ℤ → ℕ → CountedAnswer
-kept t u ax ay bx by n = record {
-  answer = record { number = 0; place = 0; kept = true; t0 = t; t1 = u; ax = ax; ay = ay; bx = bx; by = by };
+infix 90 _over_
+abbrev pub _over_ : ℕ → ℕ → Fraction
+n over d = record { num = pos n; den = pos d }
+
+abbrev pub at : ℕ → ℕ → Fraction × Fraction
+at x y = (x over 1, y over 1)
+
+abbrev pub kept : Fraction → Fraction → ℕ × ℕ → ℕ × ℕ → ℕ → CountedAnswer
+kept t u p q n = record {
+  answer = record {
+    number = 0;
+    place = 0;
+    kept = true;
+    t0 = t;
+    t1 = u;
+    ax = pos (p .0);
+    ay = pos (p .1);
+    bx = pos (q .0);
+    by = pos (q .1);
+  };
   shortenings = n;
 }
 
 abbrev pub missedAfter : ℕ → CountedAnswer
 missedAfter n = record { answer = blank none; shortenings = n }
 
-abbrev pub gave : ℕ → Answer
-gave n = record { number = 0; place = 0; count = n }
-
--- four numbers a corner: each coordinate is a fraction over 1
-abbrev pub corners : List ℤ → List ℤ
-corners [] = []
-corners (z ∷ zs) = z ∷ pos 1 ∷ corners zs
-
 unfoldable pub table : List Example
 table =
     -- A
-    stroke (from (negsuc 4) (pos 5) (pos 15) (pos 5)) (kept (over (pos 1) (pos 4)) (over (pos 3) (pos 4)) (pos 0) (pos 5) (pos 10) (pos 5) 2)
+    stroke (- 5, + 5) (+ 15, + 5) (kept (1 over 4) (3 over 4) (0, 5) (10, 5) 2)
     -- B
-    ∷ stroke (from (negsuc 4) (pos 5) (pos 5) (negsuc 4)) (kept (over (pos 1) (pos 2)) (over (pos 1) (pos 2)) (pos 0) (pos 0) (pos 0) (pos 0) 2)
+    ∷ stroke (- 5, + 5) (+ 5, - 5) (kept (1 over 2) (1 over 2) (0, 0) (0, 0) 2)
     -- C
-    ∷ stroke (from (negsuc 4) (pos 4) (pos 4) (negsuc 4)) (missedAfter 1)
+    ∷ stroke (- 5, + 4) (+ 4, - 5) (missedAfter 1)
     -- D
-    ∷ stroke (from (negsuc 0) (pos 24) (pos 11) (negsuc 13)) (kept (over (pos 7) (pos 19)) (over (pos 12) (pos 19)) (pos 3) (pos 10) (pos 7) (pos 0) 4)
+    ∷ stroke (- 1, + 24) (+ 11, - 14) (kept (7 over 19) (12 over 19) (3, 10) (7, 0) 4)
     -- E
-    ∷ stroke (from (negsuc 0) (pos 0) (pos 1) (pos 1)) (kept (over (pos 1) (pos 2)) unit (pos 0) (pos 0) (pos 1) (pos 1) 1)
+    ∷ stroke (- 1, + 0) (+ 1, + 1) (kept (1 over 2) (1 over 1) (0, 0) (1, 1) 1)
     -- F
-    ∷ stroke (from (pos 10) (pos 10) (pos 10) (pos 10)) (kept zeroth unit (pos 10) (pos 10) (pos 10) (pos 10) 0)
+    ∷ stroke (+ 10, + 10) (+ 10, + 10) (kept (0 over 1) (1 over 1) (10, 10) (10, 10) 0)
     -- G
-    ∷ stroke (from (pos 11) (pos 10) (pos 11) (pos 10)) (missedAfter 0)
+    ∷ stroke (+ 11, + 10) (+ 11, + 10) (missedAfter 0)
     -- H
-    ∷ outline (pos 5 ∷ negsuc 1 ∷ pos 12 ∷ pos 5 ∷ pos 5 ∷ pos 12 ∷ negsuc 1 ∷ pos 5 ∷ []) (gave 32)
-    (corners (pos 3 ∷ pos 0 ∷ pos 7 ∷ pos 0 ∷ pos 10 ∷ pos 3 ∷ pos 10 ∷ pos 7 ∷ pos 7 ∷ pos 10 ∷ pos 3 ∷ pos 10 ∷ pos 0 ∷ pos 7 ∷ pos 0 ∷ pos 3 ∷ []))
+    ∷ outline ((+ 5, - 2) ∷ (+ 12, + 5) ∷ (+ 5, + 12) ∷ (- 2, + 5) ∷ [])
+    (ring (at 3 0 ∷ at 7 0 ∷ at 10 3 ∷ at 10 7 ∷ at 7 10 ∷ at 3 10 ∷ at 0 7 ∷ at 0 3 ∷ []))
     -- I
-    ∷ outline (negsuc 0 ∷ pos 0 ∷ pos 2 ∷ pos 1 ∷ negsuc 0 ∷ pos 2 ∷ []) (gave 12)
-    (corners (pos 0 ∷ []) ++ (pos 1 ∷ pos 3 ∷ corners (pos 2 ∷ pos 1 ∷ pos 0 ∷ []) ++ (pos 5 ∷ pos 3 ∷ zeros 20)))
+    ∷ outline ((- 1, + 0) ∷ (+ 2, + 1) ∷ (- 1, + 2) ∷ [])
+    (ring ((0 over 1, 1 over 3) ∷ at 2 1 ∷ (0 over 1, 5 over 3) ∷ []))
     -- J
-    ∷ outline (negsuc 4 ∷ pos 0 ∷ pos 15 ∷ pos 0 ∷ pos 5 ∷ pos 20 ∷ []) (gave 16)
-    (corners (pos 0 ∷ pos 0 ∷ pos 10 ∷ pos 0 ∷ pos 10 ∷ pos 10 ∷ pos 0 ∷ pos 10 ∷ []) ++ zeros 16)
+    ∷ outline ((- 5, + 0) ∷ (+ 15, + 0) ∷ (+ 5, + 20) ∷ []) (ring (at 0 0 ∷ at 10 0 ∷ at 10 10 ∷ at 0 10 ∷ []))
     -- K
-    ∷ outline (negsuc 3 ∷ pos 0 ∷ pos 0 ∷ pos 2 ∷ negsuc 3 ∷ pos 4 ∷ []) (gave 0) (zeros 32)
+    ∷ outline ((- 4, + 0) ∷ (+ 0, + 2) ∷ (- 4, + 4) ∷ []) no-area
     -- L
-    ∷ outline (pos 0 ∷ pos 3 ∷ negsuc 1 ∷ negsuc 2 ∷ pos 3 ∷ pos 1 ∷ negsuc 2 ∷ pos 1 ∷ pos 2 ∷ negsuc 2 ∷ []) (record { number = 7; place = 0; count = 0 }) (zeros 32)
+    ∷ outline ((+ 0, + 3) ∷ (- 2, - 3) ∷ (+ 3, + 1) ∷ (- 3, + 1) ∷ (+ 2, - 3) ∷ []) (refused 7)
     ∷ []

@@ -1,15 +1,13 @@
 //! The worked examples of the rules and the vectors of the sources, the same for every seed.
 
-use super::line::all;
-use super::{batches, corner_windows, drawings, floats, outlines, strokes};
+use super::{batches, by_hand, corner_windows, drawings, outlines, strokes};
 
 pub fn lines() -> Vec<Vec<u8>> {
     [
         of_strokes(),
         of_outlines(),
-        of_intake(),
         of_drawing(),
-        of_desk(),
+        by_hand::lines(),
         of_sources(),
     ]
     .concat()
@@ -58,35 +56,14 @@ fn of_outlines() -> Vec<Vec<u8>> {
     lines
 }
 
-fn of_intake() -> Vec<Vec<u8>> {
-    // 511.96875 and 511.984375 millimetres by their places on the grid.
-    let places = [16_383.0f32, 16_383.5, -16_383.0, -16_383.5, -0.0];
-    let bits = places.map(|place| (place / 32.0).to_bits());
-    bits.map(|bits| floats::point([bits, bits])).to_vec()
-}
-
 fn of_drawing() -> Vec<Vec<u8>> {
     [8, 9, 7, 0]
         .map(|room| drawings::of(room, &drawings::example()))
         .to_vec()
 }
 
-fn of_desk() -> Vec<Vec<u8>> {
-    all(&[
-        "lb 0 0 10 10 -5 5 15 5",
-        "cs 0 0 10 10 5 20 40 5",
-        "batch 6 0 0 10 10 4 -5 5 15 5",
-        "batch 4 0 0 10 10 4 -5 5 15 5",
-        "lb 0 0 10 10 1 2",
-    ])
-}
-
 fn of_sources() -> Vec<Vec<u8>> {
-    let mut lines = all(&[
-        // The hexagon as printed, which is clockwise, and counterclockwise.
-        "cb 12 1 0 0 1 0 2 1 3 2 3 2 0 -1 1 3 3",
-        "cb 12 1 0 2 0 2 3 1 3 0 2 0 1 -1 1 3 3",
-    ]);
+    let mut lines = Vec::new();
     let strokes = [
         ([5, 5, 10, 10], [4, 6, 6, 4]),
         // Codes 1001 and 1010 share a bit.

@@ -2,6 +2,7 @@
 //! seed, then each family's fixed list, the few long lines, and random lines up to the count.
 
 mod batches;
+pub mod by_hand;
 mod corner_windows;
 mod drawing_faults;
 mod drawings;

@@ -2,10 +2,11 @@
 
 use super::expect;
 use crate::answer::answer;
+use crate::cases::by_hand;
 
 const MISSED: &str = "0 0 0 0 1 0 1 0 0 0 0";
 
-/// By both rules: name, numbers, the answer's common part, the count of shortenings.
+/// By every rule: name, numbers, the answer's common part, the count of shortenings.
 const STROKES: [(&str, &str, &str, u8); 16] = [
     ("0 0 10 10", "-5 5 15 5", "0 0 1 1 4 3 4 0 5 10 5", 2),
     ("0 0 10 10", "-5 5 5 -5", "0 0 1 1 2 1 2 0 0 0 0", 2),
@@ -25,21 +26,31 @@ const STROKES: [(&str, &str, &str, u8); 16] = [
     ("0 0 4 4", "5 0 -4 -4", MISSED, 1),
 ];
 
+/// A rectangle given as its corners keeps the same fractions.
 #[test]
-fn strokes_by_both_rules() {
+fn strokes_by_every_rule() {
     for (window, stroke, common, count) in STROKES {
         let lb = format!("lb {window} {stroke}");
         let cs = format!("cs {window} {stroke}");
-        expect(&[(&lb, common), (&cs, &format!("{common} {count}"))]);
+        let cb = format!("cb {} {stroke}", as_corners(window));
+        let fractions: Vec<&str> = common.split(' ').take(7).collect();
+        expect(&[
+            (&lb, common),
+            (&cs, &format!("{common} {count}")),
+            (&cb, &fractions.join(" ")),
+        ]);
     }
 }
 
+fn as_corners(window: &str) -> String {
+    let sides: Vec<&str> = window.split(' ').collect();
+    let [l, b, r, t] = [0, 1, 2, 3].map(|k| sides[k]);
+    format!("8 {l} {b} {r} {b} {r} {t} {l} {t}")
+}
+
 #[test]
-fn the_hexagon_both_ways_round() {
-    expect(&[
-        ("cb 12 1 0 0 1 0 2 1 3 2 3 2 0 -1 1 3 3", "3 0 0 0 1 0 1"),
-        ("cb 12 1 0 2 0 2 3 1 3 0 2 0 1 -1 1 3 3", "0 0 1 1 4 3 4"),
-    ]);
+fn corner_windows() {
+    expect(&by_hand::CORNER_WINDOWS);
 }
 
 /// Room, corners, answer.
@@ -72,19 +83,7 @@ fn outlines_in_every_order() {
 
 #[test]
 fn intake_and_back() {
-    let mm2 = |x: f32, y: f32| format!("mm2 {:08x} {:08x}", x.to_bits(), y.to_bits());
-    expect(&[
-        (&mm2(511.968_75, -0.0), "0 0 16383 0"),
-        (&mm2(-511.968_75, 16_383.5 / 32.0), "10 1 0 0"),
-        (&mm2(f32::NAN, f32::INFINITY), "9 0 0 0"),
-        (&mm2(f32::INFINITY, f32::NAN), "10 0 0 0"),
-        (
-            &format!("back {}", 16_383),
-            &format!("0 0 {:08x}", 511.968_75f32.to_bits()),
-        ),
-        ("back 16384", "6 0 00000000"),
-        ("back -0", "0 0 00000000"),
-    ]);
+    expect(&by_hand::MILLIMETRES);
 }
 
 #[test]
