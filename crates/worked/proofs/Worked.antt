@@ -16,16 +16,17 @@ use Rattle.convex.specs.Corners.{rightCount, countRefusal, convexRefusal}
 use Rattle.fraction.specs.Fraction.{lessThan}
 use Rattle.fraction.proofs.Computed.{euclid, lowestOf, roundedAt}
 use Rattle.whole.specs.Rounding.{towards}
-use Rattle.grid.specs.declared.Answer.{Answer}
 use Rattle.grid.specs.declared.Stroke.{Stroke}
 use Rattle.grid.specs.Calls.{written, answeredBy}
 use Rattle.grid.specs.Refusals.{first, offTable, noArea, windowRefusal, strokeRefusal, roomRefusal}
 use Rattle.grid.specs.Table.{onTable, firstOff}
 use Rattle.outlines.specs.Outlines.{lastOrder, badOrder, outlineRefusal, Outline}
 use Rattle.outlines.proofs.Computed.{keptOf, addedOf, passOf, cutOf, cutsOf, isBefore, leastOf, startOf}
-use Rattle.outlines.proofs.Computed.{ringOf, outlineOf, answerOf, outputOf, answer-is}
+use Rattle.outlines.proofs.Computed.{ringOf, outlineOf, countsOf, passedOf, passesOf, answerOf, outputOf, answer-is}
 use Rattle.writing.proofs.Numbers.{numbersOf}
-use Rattle.outlines.proofs.Unique.{any-order}
+use Rattle.outlines.specs.Laws.{ringAnswer}
+use Rattle.outlines.specs.declared.OutlineAnswer.{OutlineAnswer}
+use Rattle.outlines.proofs.Theorems.{any-order}
 use Rattle.passes.specs.Orders.{sidesIn, linesIn}
 use Rattle.rings.specs.Lists.{All, ∅, _◂_}
 use Rattle.rings.specs.Points.{value, through}
@@ -34,7 +35,7 @@ use Rattle.rings.proofs.Passes.{meet}
 use Rattle.spans.proofs.Computed.{cutBy}
 use Rattle.strokes.specs.Strokes.{strokeCallRefusal}
 use Rattle.strokes.proofs.Computed.{acrossOf, spanOf, clippedOf, answerOf as strokeAnswerOf}
-use Rattle.worked.specs.Examples.{ten, zeros, Outcome, expected, Holds, StrokeHolds, OutlineHolds, table}
+use Rattle.worked.specs.Examples.{ten, zeros, Outcome, expected, Answered, Holds, StrokeHolds, OutlineHolds, table}
 
 -- a stroke: both calls' answers are the computed one
 stroke-holds : {s : Stroke} {r : CountedAnswer} → countedOf ten s ≡ r → StrokeHolds s r
@@ -47,22 +48,24 @@ stroke-holds {s} e =
 
 -- an outline: in any order what is computed in order 0
 outline-holds : {zs : List ℤ} {e : Outcome}
-    → answerOf ten 0 zs 32 ≡ expected e .0 → outputOf ten 0 zs (zeros 32) ≡ expected e .1 → OutlineHolds zs e
+    → ringAnswer (answerOf ten 0 zs 32) ≡ expected e .0 → outputOf ten 0 zs (zeros 32) ≡ expected e .1 → OutlineHolds zs e
 outline-holds {zs} {e} p q = record {
   in-order = λ o l. let c = answer-is ten o zs (zeros 32) in let k = is o l c in record {
-    holds = transport (λ i. Outline ten o zs (k .0 i) (zeros 32) (k .1 i)) c;
-    only = λ r h. let k = is o l h in λ i. (k .0 i, k .1 i);
+    holds = transport (λ i. Answered o zs (k .0 i, k .1 i)) (record { passes = answerOf ten o zs 32 .passes; promised = c });
+    only = λ r h. let k = is o l (h .promised) in λ i. (k .0 i, k .1 i);
   };
 }
   where
-    is : (o : ℕ) → o ≤ lastOrder → {a : Answer} {after : List ℤ} → Outline ten o zs a (zeros 32) after
-        → (a ≡ expected e .0) × (after ≡ expected e .1)
-    is o l h = let k = any-order l (omega arith) h (answer-is ten 0 zs (zeros 32)) in (k .0 ∙ p, k .1 ∙ q)
+    is : (o : ℕ) → o ≤ lastOrder → {a : OutlineAnswer} {after : List ℤ} → Outline ten o zs a (zeros 32) after
+        → (ringAnswer a ≡ expected e .0) × (after ≡ expected e .1)
+    is o l {a} {after} h =
+        let k = any-order ten o 0 zs a (answerOf ten 0 zs 32) (zeros 32) after (outputOf ten 0 zs (zeros 32)) l (omega arith) h (answer-is ten 0 zs (zeros 32)) in
+        (k .0 ∙ p, k .1 ∙ q)
 
 pub worked : All Holds table
 unfolding table countedOf countOf stepOf meetingOf code decision trailingZeros
     strokeCallRefusal strokeRefusal strokeAnswerOf clippedOf spanOf acrossOf cutBy lessThan roundedAt towards
-    euclid lowestOf answerOf outputOf answeredBy roomRefusal written outlineOf ringOf cutsOf cutOf passOf
+    euclid lowestOf answerOf outputOf answeredBy roomRefusal written outlineOf passesOf passedOf countsOf ringOf cutsOf cutOf passOf
     keptOf addedOf meet isBefore leastOf startOf numbersOf outlineRefusal first windowRefusal noArea badOrder
     countRefusal rightCount offTable firstOff onTable convexRefusal strictlyConvex every next joins isLeft cornersOf
     value through sidesIn linesIn left-side right-side bottom-side top-side

@@ -8,7 +8,10 @@
 --   StrokeHolds, OutlineHolds   what Holds says of a stroke, and of an outline
 --   ten           the window of all of them;  zeros n: a list of n zeros
 --   coordinates ps   the numbers of the points ps;  ringNumbers cs: those of a ring's corners, four a corner
---   expected e    the outline call's answer where e is the outcome, and its output: 32 numbers, zeros before the call
+--   expected e    the outline call's answer where e is the outcome, but for the counts of the passes, and its output: 32 numbers, zeros
+--                 before the call
+--   Answered o zs r   r is such an answer to the outline zs in the order o, with its output. What the passes leave on the way depends
+--                 on the order, and is in no example
 -- The words of the table:
 --   + n, - n      the whole number n, and n below 0
 --   n over d      the fraction n/d
@@ -71,9 +74,13 @@ expected (ring cs) = (givesAll (ringNumbers cs), written (ringNumbers cs) (zeros
 expected no-area = (givesAll [], zeros 32)
 expected (refused n) = (refusedBy (refuse n 0), zeros 32)
 
+pub record Answered (o : ℕ) (zs : List ℤ) (r : Answer × List ℤ) : Type 0 where
+  pub passes : List ℕ
+  pub promised : let a = r .0 in
+      Outline ten o zs (record { number = a .number; place = a .place; count = a .count; passes = passes }) (zeros 32) (r .1)
+
 pub record OutlineHolds (zs : List ℤ) (e : Outcome) : Type 0 where
-  pub in-order : (o : ℕ) → o ≤ lastOrder
-      → TheOnly (λ (r : Answer × List ℤ). Outline ten o zs (r .0) (zeros 32) (r .1)) (expected e)
+  pub in-order : (o : ℕ) → o ≤ lastOrder → TheOnly (Answered o zs) (expected e)
 
 -- ---- both
 abbrev pub Holds : Example → Type 0
