@@ -22,6 +22,7 @@ use Rattle.strokes.specs.Strokes.{Clipping, strokeCallRefusal}
 use Rattle.strokes.specs.declared.StrokeAnswer.{StrokeAnswer}
 use Rattle.strokes.proofs.Unique.{clipping-unique}
 use Rattle.codes.specs.Codes.{past, code, decision}
+use Rattle.codes.specs.Laws.{NeverMoreThanFour, EnginesAgree}
 use Rattle.codes.specs.Steps.{decided, OnLine, Shortening, start, end, Run, kept, lost, shorten, CohenSutherland}
 use Rattle.codes.specs.declared.CountedAnswer.{CountedAnswer}
 use Rattle.codes.proofs.Crossings.{side-of, place-small}
@@ -37,8 +38,8 @@ module _ {w : Window} {s : Stroke} where
   run-few o (lost e) = omega arith
   run-few o (shorten t r) = omega (arith, run-few (shortened-ordered o t) r, shortened-falls o t)
 
-  pub never-more-than-4 : {n : ℕ} → Run w s zeroth unit n → n ≤ 4
-  never-more-than-4 r = omega (arith, run-few first-ordered r, open-≤ (shut w s zeroth unit))
+  whole-run-few : {n : ℕ} → Run w s zeroth unit n → n ≤ 4
+  whole-run-few r = omega (arith, run-few first-ordered r, open-≤ (shut w s zeroth unit))
 
 -- ---- two fractions of one value
 record Same (f g : Fraction) : Type 0 where
@@ -119,10 +120,7 @@ module _ {w : Window} {s : Stroke} where
   pub run-unique : {m n : ℕ} → Run w s zeroth unit m → Run w s zeroth unit n → m ≡ n
   run-unique p q = run-same (itself (omega zarith)) (itself (omega zarith)) p q
 
-  -- ---- the call: its count is never more than 4, it has one result, and its answer is that of every other stroke call
-  pub few-shortenings : {r : CountedAnswer} → CohenSutherland w s r → r .shortenings ≤ 4
-  few-shortenings p = zero-or-not (strokeCallRefusal w s .number) (λ z. never-more-than-4 (p .done z)) (λ n. omega (arith, p .refused n))
-
+  -- ---- the call has one result
   pub cohen-sutherland-unique : {r r′ : CountedAnswer} → CohenSutherland w s r → CohenSutherland w s r′ → r ≡ r′
   cohen-sutherland-unique p q =
       let a = clipping-unique (p .clipping) (q .clipping) in
@@ -131,3 +129,10 @@ module _ {w : Window} {s : Stroke} where
 
   pub same-two : {r : CountedAnswer} {a : StrokeAnswer} → CohenSutherland w s r → Clipping w s a → r .answer ≡ a
   same-two p q = clipping-unique (p .clipping) q
+
+-- ---- the laws of the call
+pub never-more-than-four : NeverMoreThanFour
+never-more-than-four w s r p = zero-or-not (strokeCallRefusal w s .number) (λ z. whole-run-few (p .done z)) (λ n. omega (arith, p .refused n))
+
+pub engines-agree : EnginesAgree
+engines-agree w s r a p q = same-two p q

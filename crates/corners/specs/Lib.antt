@@ -1,2 +1,3 @@
 pub mod Corners
 pub mod Edges
+pub mod Rectangles

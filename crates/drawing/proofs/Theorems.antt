@@ -1,5 +1,5 @@
 -- What the contract of the drawing file means; no function's proof needs this file.
---   means, means-unique      every byte string has a meaning, and one only
+--   one-meaning              the law of specs/Laws.antt: by means and means-unique, a byte string has a meaning, and one only
 --   never-both               so no byte string is both a fault and a drawing
 --   read, read-unique        every call has a result, and one only: answer and output
 --   enough                   a walk of more steps than there are bytes means the same
@@ -15,6 +15,7 @@ use Rattle.grid.specs.declared.Stroke.{Stroke}
 use Rattle.grid.specs.declared.Window.{Window}
 use Rattle.drawing.specs.Intake.{Intake}
 use Rattle.drawing.specs.Drawings.{Drawing, fault, drawn, walk, meaning, Means, numbersOf, ReadsAs, ReadDrawing}
+use Rattle.drawing.specs.Laws.{OneMeaning}
 use Rattle.drawing.specs.declared.DrawingAnswer.{DrawingAnswer}
 use Rattle.drawing.specs.declared.pen.Pen.{Pen}
 use Rattle.drawing.proofs.Computed.{computed, is-computed, by-computed}
@@ -54,3 +55,7 @@ module _ (bs : List ℕ) where
   pub read-unique : {a b : DrawingAnswer} {out after after′ : List ℤ} → ReadDrawing bs a out after → ReadDrawing bs b out after′ → (a ≡ b) × (after ≡ after′)
   read-unique {b = b} {out = out} {after′ = after′} p q =
       reads-unique (p .drawing) (p .call) (subst (λ (d : Drawing). ReadsAs d b out after′) (means-unique (q .means) (p .means)) (q .call))
+
+-- ---- the law
+pub one-meaning : OneMeaning
+one-meaning bs = record { drawing = meaning computed bs; means = means bs; only = λ d p. is-computed p }

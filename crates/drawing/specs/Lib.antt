@@ -1,3 +1,4 @@
 pub mod Intake
 pub mod Pen
 pub mod Drawings
+pub mod Laws

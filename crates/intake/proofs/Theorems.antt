@@ -1,7 +1,7 @@
 -- What the contracts of the intake mean; no function's proof needs this file.
 --   number-unique, point-unique, window-unique, back-unique   each relation has one answer at most
 --   times-32, over-32        32 x is exact in f32 unless it overflows, and then x is refused by 10; g / 32 is exact for every grid number g
---   round-trip, point-round-trip   what comes back from the grid goes to the same grid number
+--   point-there-and-back, window-there-and-back   the laws of specs/Laws.antt, by `round-trip` for each number
 --   point-on-table, window-on-table   the numbers of an answer are on the table
 use mathlib.Core.Path.{_≡_, refl, sym, ap, _∙_, subst}
 use mathlib.Core.Bool.{Bool, true, false, not}
@@ -28,6 +28,7 @@ use Rattle.intake.specs.declared.WindowMm.{WindowMm}
 use Rattle.intake.specs.declared.PointAnswer.{PointAnswer}
 use Rattle.intake.specs.declared.WindowAnswer.{WindowAnswer}
 use Rattle.intake.specs.declared.BackAnswer.{BackAnswer}
+use Rattle.intake.specs.Laws.{PointThereAndBack, WindowThereAndBack}
 use Rattle.intake.specs.Millimetres.{signed, nearest, faulty, accepted, Taken, on-range, pointFault, refusedPoint, pointAnswer}
 use Rattle.intake.specs.Millimetres.{PointToGrid, windowFault, refusedWindow, windowAnswer, WindowToGrid, InMillimetres}
 use Rattle.intake.specs.Millimetres.{ToMillimetres, done, refused}
@@ -78,14 +79,33 @@ comes-back g (fin s m e) on v =
     let h = down-pos e in
     on-range (nearest s m e (rounded-exact ((λ i. signed (v .exact .0 i) (v .exact .1 i)) ∙ signed-times g (down e)) (omega zarith))) on
 
-pub round-trip : {g : ℤ} {a : BackAnswer} → onTable g ≡ true → ToMillimetres g a → Taken (a .mm) (accepted g)
+round-trip : {g : ℤ} {a : BackAnswer} → onTable g ≡ true → ToMillimetres g a → Taken (a .mm) (accepted g)
 round-trip on (done {g} {x} _ v) = comes-back g x on v
 round-trip on (refused off) = absurd (tt-ff (sym on ∙ off))
 
-pub point-round-trip : {g h : ℤ} {a b : BackAnswer} → onTable g ≡ true → onTable h ≡ true → ToMillimetres g a → ToMillimetres h b
-    → PointToGrid (record { x = a .mm; y = b .mm }) (record { number = 0; place = 0; x = g; y = h })
+pub point-there-and-back : PointThereAndBack
 unfolding first pointFault pointAnswer
-point-round-trip {g} {h} p q r s = record { x = accepted g; y = accepted h; x-taken = round-trip p r; y-taken = round-trip q s; answer = refl }
+point-there-and-back x y a b p q r k = point-unique k (record {
+  x = accepted x;
+  y = accepted y;
+  x-taken = round-trip (q .on) (q .answered);
+  y-taken = round-trip (r .on) (r .answered);
+  answer = refl;
+})
+
+pub window-there-and-back : WindowThereAndBack
+unfolding first windowFault windowAnswer
+window-there-and-back w l b r t p ql qb qr qt k = window-unique k (record {
+  left = accepted (w .left);
+  bottom = accepted (w .bottom);
+  right = accepted (w .right);
+  top = accepted (w .top);
+  left-taken = round-trip (ql .on) (ql .answered);
+  bottom-taken = round-trip (qb .on) (qb .answered);
+  right-taken = round-trip (qr .on) (qr .answered);
+  top-taken = round-trip (qt .on) (qt .answered);
+  answer = refl;
+})
 
 -- ---- on the table
 

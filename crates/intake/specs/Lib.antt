@@ -1,1 +1,2 @@
 pub mod Millimetres
+pub mod Laws

@@ -5,11 +5,11 @@ use Prim.Native.Nat.{ℕ}
 use native.Mathlib.Omega.{arith}
 use borrow.Author.Tests.{eqb-true, eqb-false}
 use lib.Dec.{eqb}
-use lib.IntN.{ℤ, pos, _-ℤ_}
+use lib.IntN.{ℤ, negℤ, _-ℤ_}
 use Rattle.whole.specs.Choice.{if_then_else_}
 use Rattle.whole.specs.Within.{Within}
 use Rattle.whole.proofs.Comparisons.{by-test}
-use Rattle.whole.proofs.Expressions.{con, _⊖_, x0, x1, x2, x3}
+use Rattle.whole.proofs.Expressions.{_⊖_, neg, x0, x1, x2, x3}
 use Rattle.whole.proofs.Ranges.{Bounds, within}
 use Rattle.fraction.specs.declared.Fraction.{Fraction}
 use Rattle.fraction.specs.Fraction.{lessThan}
@@ -35,7 +35,7 @@ use Rattle.strokes.proofs.Coordinates.{CutAcross, cut-across, span-of}
 
 -- ---- the kept fractions
 unfoldable pub acrossOf : ℤ → ℤ → ℤ → ℤ → Span → Span
-acrossOf lo hi a b s = cutBy (b -ℤ a) (hi -ℤ a) (cutBy (pos 0 -ℤ (b -ℤ a)) (a -ℤ lo) s)
+acrossOf lo hi a b s = cutBy (b -ℤ a) (hi -ℤ a) (cutBy (negℤ (b -ℤ a)) (a -ℤ lo) s)
 
 acrossOf-is : {lo hi a b : ℤ} {s : Span} → Within farthest lo → Within farthest hi → Within farthest a → Within farthest b → ProperSpan s → Sized 32766 s
     → CutAcross lo hi a b s (acrossOf lo hi a b s)
@@ -44,11 +44,11 @@ acrossOf-is {lo} {hi} {a} {b} {s} wl wh wa wb g z =
     let β : List ℕ = farthest ∷ farthest ∷ farthest ∷ farthest ∷ [] in
     let ρ = lo ∷ hi ∷ a ∷ b ∷ [] in
     let h : Bounds β ρ = (wl, (wh, (wa, (wb, tt)))) in
-    let f = cutBy-is (pos 0 -ℤ (b -ℤ a)) (a -ℤ lo) s g in
-    let e = cutBy-is (b -ℤ a) (hi -ℤ a) (cutBy (pos 0 -ℤ (b -ℤ a)) (a -ℤ lo) s) (f .proper) in
+    let f = cutBy-is (negℤ (b -ℤ a)) (a -ℤ lo) s g in
+    let e = cutBy-is (b -ℤ a) (hi -ℤ a) (cutBy (negℤ (b -ℤ a)) (a -ℤ lo) s) (f .proper) in
     cut-across f e
     (e .sized 32766 (omega arith) (within β ρ h (x3 ⊖ x2) tt) (within β ρ h (x1 ⊖ x2) tt)
-    (f .sized 32766 (omega arith) (within β ρ h (con (pos 0) ⊖ (x3 ⊖ x2)) tt) (within β ρ h (x2 ⊖ x0) tt) z))
+    (f .sized 32766 (omega arith) (within β ρ h (neg (x3 ⊖ x2)) tt) (within β ρ h (x2 ⊖ x0) tt) z))
 
 unfoldable pub spanOf : Window → Stroke → Span
 spanOf w s = acrossOf (w .bottom) (w .top) (s .y1) (s .y2) (acrossOf (w .left) (w .right) (s .x1) (s .x2) all)

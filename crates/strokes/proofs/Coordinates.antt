@@ -2,10 +2,10 @@
 --   CutAcross lo hi a b s r   r is what of the span s is from lo to hi on the way from a to b
 use mathlib.Core.List.{[], _∷_}
 use Prim.Native.Nat.{_≤_}
-use lib.IntN.{ℤ, pos, _-ℤ_, _*ℤ_}
+use lib.IntN.{ℤ, pos, negℤ, _-ℤ_, _*ℤ_}
 use lib.Signed.{_≤ℤ_, _<ℤ_}
 use Rattle.whole.proofs.Certificates.{ge, clash, po, nn, le, _⊞_, _⊠_}
-use Rattle.whole.proofs.Expressions.{Expr, var, con, _⊕_, _⊖_, _⊗_}
+use Rattle.whole.proofs.Expressions.{Expr, var, con, _⊕_, _⊖_, _⊗_, neg}
 use Rattle.whole.proofs.Order.{next-≤}
 use Rattle.grid.specs.declared.Stroke.{Stroke}
 use Rattle.grid.specs.declared.Window.{Window}
@@ -55,15 +55,15 @@ module _ {lo hi a b n d : ℤ} where
   }
 
   -- the condition of the lower side, −(b − a) t ≤ a − lo, and that of the upper, (b − a) t ≤ hi − a
-  above-low : KeepsCoordinate lo hi a b n d → ((pos 0 -ℤ (b -ℤ a)) *ℤ n) ≤ℤ ((a -ℤ lo) *ℤ d)
-  above-low k = ge (lo ∷ a ∷ b ∷ n ∷ d ∷ []) ((con (pos 0) ⊖ (B ⊖ A)) ⊗ N) ((A ⊖ L) ⊗ D) (le (L ⊗ D) X (k .above)) tt
+  pub above-low : KeepsCoordinate lo hi a b n d → (negℤ (b -ℤ a) *ℤ n) ≤ℤ ((a -ℤ lo) *ℤ d)
+  above-low k = ge (lo ∷ a ∷ b ∷ n ∷ d ∷ []) (neg (B ⊖ A) ⊗ N) ((A ⊖ L) ⊗ D) (le (L ⊗ D) X (k .above)) tt
 
-  below-high : KeepsCoordinate lo hi a b n d → ((b -ℤ a) *ℤ n) ≤ℤ ((hi -ℤ a) *ℤ d)
+  pub below-high : KeepsCoordinate lo hi a b n d → ((b -ℤ a) *ℤ n) ≤ℤ ((hi -ℤ a) *ℤ d)
   below-high k = ge (hi ∷ a ∷ b ∷ n ∷ d ∷ []) ((B ⊖ A) ⊗ N) ((L ⊖ A) ⊗ D) (le X (L ⊗ D) (k .below)) tt
 
-  both-sides : ((pos 0 -ℤ (b -ℤ a)) *ℤ n) ≤ℤ ((a -ℤ lo) *ℤ d) → ((b -ℤ a) *ℤ n) ≤ℤ ((hi -ℤ a) *ℤ d) → KeepsCoordinate lo hi a b n d
+  pub both-sides : (negℤ (b -ℤ a) *ℤ n) ≤ℤ ((a -ℤ lo) *ℤ d) → ((b -ℤ a) *ℤ n) ≤ℤ ((hi -ℤ a) *ℤ d) → KeepsCoordinate lo hi a b n d
   both-sides l h = record {
-    above = ge (lo ∷ a ∷ b ∷ n ∷ d ∷ []) (L ⊗ D) X (le ((con (pos 0) ⊖ (B ⊖ A)) ⊗ N) ((A ⊖ L) ⊗ D) l) tt;
+    above = ge (lo ∷ a ∷ b ∷ n ∷ d ∷ []) (L ⊗ D) X (le (neg (B ⊖ A) ⊗ N) ((A ⊖ L) ⊗ D) l) tt;
     below = ge (hi ∷ a ∷ b ∷ n ∷ d ∷ []) X (L ⊗ D) (le ((B ⊖ A) ⊗ N) ((L ⊖ A) ⊗ D) h) tt;
   }
 
@@ -74,7 +74,7 @@ pub record CutAcross (lo hi a b : ℤ) (s r : Span) : Type 0 where
   pub part : (n d : ℤ) → pos 0 <ℤ d → InSpan r n d → InSpan s n d
   pub between : (n d : ℤ) → pos 0 <ℤ d → InSpan r n d → KeepsCoordinate lo hi a b n d
 
-pub cut-across : {lo hi a b : ℤ} {s m r : Span} → SpanCut (pos 0 -ℤ (b -ℤ a)) (a -ℤ lo) s m → SpanCut (b -ℤ a) (hi -ℤ a) m r → Sized 32766 r → CutAcross lo hi a b s r
+pub cut-across : {lo hi a b : ℤ} {s m r : Span} → SpanCut (negℤ (b -ℤ a)) (a -ℤ lo) s m → SpanCut (b -ℤ a) (hi -ℤ a) m r → Sized 32766 r → CutAcross lo hi a b s r
 cut-across f g z = record {
   proper = g .proper;
   sized = z;

@@ -5,5 +5,6 @@ pub mod Points
 pub mod Answers
 pub mod Meetings
 pub mod Unique
+pub mod Laws
 pub mod Refusing
 pub mod Computed

@@ -2,7 +2,7 @@
 use mathlib.Core.Path.{_≡_}
 use mathlib.Core.List.{[], _∷_}
 use lib.IntN.{ℤ, pos, _*ℤ_, _+ℤ_, _-ℤ_}
-use lib.Signed.{_≤ℤ_, _<ℤ_}
+use lib.Signed.{_<ℤ_}
 use Rattle.whole.proofs.Certificates.{eqn, eq-by}
 use Rattle.whole.proofs.Expressions.{con, _⊕_, _⊖_, _⊗_, x0, x1, x2, x3}
 use Rattle.fraction.specs.declared.Fraction.{Fraction}
@@ -10,6 +10,7 @@ use Rattle.fraction.specs.Fraction.{LowestOf}
 use Rattle.fraction.proofs.Rounding.{rounded-unique, rounded-exact, rounded-inside, rounded-same}
 use Rattle.grid.specs.declared.Stroke.{Stroke}
 use Rattle.grid.specs.declared.Window.{Window}
+use Rattle.strokes.specs.Laws.{InClosedWindow}
 use Rattle.strokes.specs.Strokes.{Keeps, PointAt}
 
 module _ {s : Stroke} {f : Fraction} (h : pos 0 <ℤ f .den) where
@@ -29,11 +30,11 @@ module _ {s : Stroke} {f : Fraction} (h : pos 0 <ℤ f .den) where
   point-unique p q = (rounded-unique h (p .across) (q .across), rounded-unique h (p .up) (q .up))
 
   -- a rounded point of a kept fraction lies in the window
-  pub point-inside : {w : Window} {x y : ℤ} → Keeps w s (f .num) (f .den) → PointAt s f x y → ((w .left ≤ℤ x) × (x ≤ℤ w .right)) × ((w .bottom ≤ℤ y) × (y ≤ℤ w .top))
-  point-inside {w} k p = (
-    rounded-inside (w .left) (w .right) h (k .x .above) (k .x .below) (p .across),
-    rounded-inside (w .bottom) (w .top) h (k .y .above) (k .y .below) (p .up),
-  )
+  pub point-inside : {w : Window} {x y : ℤ} → Keeps w s (f .num) (f .den) → PointAt s f x y → InClosedWindow w x y
+  point-inside {w} k p =
+      let x = rounded-inside (w .left) (w .right) h (k .x .above) (k .x .below) (p .across) in
+      let y = rounded-inside (w .bottom) (w .top) h (k .y .above) (k .y .below) (p .up) in
+      record { left = x .0; right = x .1; bottom = y .0; top = y .1 }
 
 -- the point at an unreduced fraction is that at the fraction in lowest terms
 pub point-lowest : {s : Stroke} {f g : Fraction} {x y : ℤ} → pos 0 <ℤ f .den → LowestOf (f .num) (f .den) g → PointAt s f x y → PointAt s g x y

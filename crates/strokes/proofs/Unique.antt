@@ -3,15 +3,13 @@ use mathlib.Core.Path.{_≡_, refl, sym, subst, _∙_}
 use mathlib.Core.Bool.{Bool, true, false}
 use Prim.Native.Nat.{ℕ, zero, suc}
 use native.Mathlib.Nat.{suc-ne-zero}
-use lib.IntN.{ℤ}
-use lib.Signed.{_≤ℤ_}
 use Rattle.fraction.specs.declared.Fraction.{Fraction}
 use Rattle.grid.specs.declared.Stroke.{Stroke}
 use Rattle.grid.specs.declared.Window.{Window}
 use Rattle.spans.proofs.Parts.{part-unique}
 use Rattle.strokes.specs.Strokes.{PointAt, Clipped, Clipping, strokeCallRefusal}
 use Rattle.strokes.specs.declared.StrokeAnswer.{StrokeAnswer}
-use Rattle.strokes.proofs.Points.{point-unique, point-inside}
+use Rattle.strokes.proofs.Points.{point-unique}
 
 module _ {w : Window} {s : Stroke} where
   pub clipped-unique : {a b : StrokeAnswer} → Clipped w s a → Clipped w s b → a ≡ b
@@ -49,12 +47,3 @@ module _ {w : Window} {s : Stroke} where
       go (suc n) z =
           let refused : strokeCallRefusal w s .number ≡ 0 → ⊥ = λ k. suc-ne-zero n (sym z ∙ k) in
           p .refused refused ∙ sym (q .refused refused)
-
-  -- the rounded points of a kept stroke lie in the window
-  pub points-inside : {a : StrokeAnswer} → Clipped w s a → a .kept ≡ true
-      → (((w .left ≤ℤ a .ax) × (a .ax ≤ℤ w .right)) × ((w .bottom ≤ℤ a .ay) × (a .ay ≤ℤ w .top)))
-      × (((w .left ≤ℤ a .bx) × (a .bx ≤ℤ w .right)) × ((w .bottom ≤ℤ a .by) × (a .by ≤ℤ w .top)))
-  points-inside p e =
-      let f = p .part .first e .keeps in
-      let l = p .part .last e .keeps in
-      (point-inside (f .time .den) f (p .start e), point-inside (l .time .den) l (p .finish e))

@@ -1,2 +1,4 @@
 pub mod Strokes
+pub mod Sides
+pub mod Laws
 pub mod Workers

@@ -1,0 +1,45 @@
+-- The laws of specs/Laws.antt: a rounded point of a kept fraction is inside, and the four conditions are those of the two coordinates.
+use mathlib.Core.Path.{_≡_, refl, sym, ap, _∙_}
+use mathlib.Core.Bool.{Bool, true, false}
+use borrow.Author.Tests.{eqb-true, eqb-false}
+use lib.Dec.{eqb}
+use lib.IntN.{ℤ, _*ℤ_}
+use lib.Signed.{_≤ℤ_}
+use Rattle.whole.proofs.Comparisons.{ff-tt}
+use Rattle.grid.specs.declared.Stroke.{Stroke}
+use Rattle.grid.specs.declared.Window.{Window}
+use Rattle.grid.specs.Sides.{Side, left, right, bottom, top}
+use Rattle.strokes.specs.Laws.{InClosedWindow, StaysInside, FourConditions}
+use Rattle.strokes.specs.Sides.{sideP, sideQ}
+use Rattle.strokes.specs.Strokes.{Keeps, Clipped, Clipping, strokeCallRefusal}
+use Rattle.strokes.specs.declared.StrokeAnswer.{StrokeAnswer}
+use Rattle.strokes.proofs.Coordinates.{above-low, below-high, both-sides}
+use Rattle.strokes.proofs.Points.{point-inside}
+
+pub clipped-inside : {w : Window} {s : Stroke} {a : StrokeAnswer} → Clipped w s a → a .kept ≡ true
+    → InClosedWindow w (a .ax) (a .ay) × InClosedWindow w (a .bx) (a .by)
+clipped-inside p e =
+    let f = p .part .first e .keeps in
+    let l = p .part .last e .keeps in
+    (point-inside (f .time .den) f (p .start e), point-inside (l .time .den) l (p .finish e))
+
+pub stays-inside : StaysInside
+stays-inside w s a p e = go (eqb (strokeCallRefusal w s .number) 0) refl
+  where
+    go : (b : Bool) → eqb (strokeCallRefusal w s .number) 0 ≡ b → InClosedWindow w (a .ax) (a .ay) × InClosedWindow w (a .bx) (a .by)
+    go true t = clipped-inside (p .done (eqb-true (strokeCallRefusal w s .number) 0 t)) e
+    go false t =
+        let r = p .refused (eqb-false (strokeCallRefusal w s .number) 0 t) in
+        absurd (ff-tt (sym (ap (λ (b : StrokeAnswer). b .kept) r) ∙ e))
+
+conditions : {w : Window} {s : Stroke} {n d : ℤ} → Keeps w s n d → (k : Side) → (sideP s k *ℤ n) ≤ℤ (sideQ w s k *ℤ d)
+conditions h left = above-low (h .x)
+conditions h right = below-high (h .x)
+conditions h bottom = above-low (h .y)
+conditions h top = below-high (h .y)
+
+pub four-conditions : FourConditions
+four-conditions w s n d = (
+  λ h. (h .time, conditions h),
+  λ h. record { time = h .0; x = both-sides (h .1 left) (h .1 right); y = both-sides (h .1 bottom) (h .1 top) },
+)

@@ -1,0 +1,31 @@
+-- Laws of the stroke calls on a rectangle. Each is a sentence over every window and every stroke, proved in proofs/Laws.antt.
+--   InClosedWindow w x y   the grid point (x, y) lies in the window or on its border
+--   StaysInside       the rounded points of a kept stroke never leave the window
+--   FourConditions    a fraction from 0 to 1 is kept exactly where it satisfies p·t ≤ q for each of the four sides
+use mathlib.Core.Path.{_≡_}
+use mathlib.Core.Bool.{true}
+use mathlib.Core.Logic.{_↔_}
+use lib.IntN.{ℤ, _*ℤ_}
+use lib.Signed.{_≤ℤ_}
+use Rattle.grid.specs.declared.Stroke.{Stroke}
+use Rattle.grid.specs.declared.Window.{Window}
+use Rattle.grid.specs.Sides.{Side}
+use Rattle.spans.specs.Parts.{Time}
+use Rattle.strokes.specs.Sides.{sideP, sideQ}
+use Rattle.strokes.specs.Strokes.{Keeps, Clipping}
+use Rattle.strokes.specs.declared.StrokeAnswer.{StrokeAnswer}
+
+pub record InClosedWindow (w : Window) (x y : ℤ) : Type 0 where
+  pub left : w .left ≤ℤ x
+  pub right : x ≤ℤ w .right
+  pub bottom : w .bottom ≤ℤ y
+  pub top : y ≤ℤ w .top
+
+abbrev pub StaysInside : Type 0
+StaysInside = (w : Window) (s : Stroke) (a : StrokeAnswer) → Clipping w s a → a .kept ≡ true
+    → InClosedWindow w (a .ax) (a .ay) × InClosedWindow w (a .bx) (a .by)
+
+-- the rules' own words for what is kept; `Keeps` says the same of the point's two coordinates
+abbrev pub FourConditions : Type 0
+FourConditions = (w : Window) (s : Stroke) (n d : ℤ)
+    → Keeps w s n d ↔ (Time n d × ((k : Side) → (sideP s k *ℤ n) ≤ℤ (sideQ w s k *ℤ d)))

@@ -1,0 +1,28 @@
+-- A law between two calls, proved in proofs/Agreement.antt.
+--   SameAnswer a b       `corners::cyrus_beck` answers by a what `strokes::liang_barsky` answers by b, which also has points. The place of 2 is the
+--                        index in the numbers that a call was given, eight for four corners and four for a rectangle, so that it may differ
+--   RectangleAsCorners   a rectangle given as its four corners, counterclockwise from any, gives the same answer: what is refused, what is kept.
+--                        One that is turned over has the corners of the rectangle with its sides exchanged, counterclockwise; the one call
+--                        refuses it, and the other takes them
+use mathlib.Core.Path.{_≡_}
+use mathlib.Core.List.{List}
+use lib.IntN.{ℤ}
+use Rattle.corners.specs.Corners.{CyrusBeck}
+use Rattle.corners.specs.Rectangles.{RectangleCorners, TurnedOver}
+use Rattle.corners.specs.declared.CornerAnswer.{CornerAnswer}
+use Rattle.grid.specs.declared.Stroke.{Stroke}
+use Rattle.grid.specs.declared.Window.{Window}
+use Rattle.grid.specs.Refusals.{windowOff}
+use Rattle.strokes.specs.Strokes.{Clipping}
+use Rattle.strokes.specs.declared.StrokeAnswer.{StrokeAnswer}
+
+pub record SameAnswer (a : CornerAnswer) (b : StrokeAnswer) : Type 0 where
+  pub number : a .number ≡ b .number
+  pub place : (a .number ≡ windowOff → ⊥) → a .place ≡ b .place
+  pub kept : a .kept ≡ b .kept
+  pub t0 : a .t0 ≡ b .t0
+  pub t1 : a .t1 ≡ b .t1
+
+abbrev pub RectangleAsCorners : Type 0
+RectangleAsCorners = (w : Window) (s : Stroke) (zs : List ℤ) (a : CornerAnswer) (b : StrokeAnswer) → (TurnedOver w → ⊥) → RectangleCorners w zs
+    → CyrusBeck zs s a → Clipping w s b → SameAnswer a b
