@@ -36,7 +36,7 @@ use Rattle.lowest.proofs.Lowest.{by-width}
 use Rattle.outlines.proofs.Passes.{lines-real, cuts-ring}
 use Rattle.outlines.proofs.Promised.{ring-passed, none-passed}
 use Rattle.outlines.proofs.Refusals.{nothing-refused}
-use Rattle.outlines.proofs.Theorems.{one-answer}
+use Rattle.outlines.proofs.Theorems.{outline-unique}
 use Rattle.writing.proofs.Numbers.{numbersOf, numbers-of}
 
 -- ---- one pass
@@ -255,4 +255,4 @@ answer-is w o zs before = go (eqb (outlineRefusal w o zs .number) 0) refl
 
 pub computed : {w : Window} {o : ℕ} {zs : List ℤ} {a : OutlineAnswer} {before after : List ℤ} → Outline w o zs a before after
     → (a ≡ answerOf w o zs (length before)) × (after ≡ outputOf w o zs before)
-computed {w} {o} {zs} {a} {before} {after} h = one-answer w o zs a _ before after _ h (answer-is w o zs before)
+computed {w} {o} {zs} {before = before} h = outline-unique h (answer-is w o zs before)

@@ -6,7 +6,6 @@ use mathlib.Core.Option.{none}
 use Prim.Native.Nat.{ℕ, _≤_}
 use native.Mathlib.Omega.{arith}
 use lib.IntN.{ℤ}
-use lib.ListN.{length}
 use Rattle.grid.specs.Table.{NumbersOnTable}
 use Rattle.grid.specs.declared.Window.{Window}
 use Rattle.rings.specs.Lists.{Turned}
@@ -19,7 +18,7 @@ use Rattle.convex.specs.Corners.{cornersOf}
 use Rattle.passes.specs.Orders.{linesIn}
 use Rattle.passes.specs.Passes.{noCorners}
 use Rattle.writing.specs.Numbers.{RingNumbers, no-corner}
-use Rattle.outlines.specs.Outlines.{SmallDenominators, no-fraction, ByPasses, ring-left, none-left, OutlineClipped}
+use Rattle.outlines.specs.Outlines.{no-fraction, ByPasses, ring-left, none-left, OutlineClipped}
 use Rattle.outlines.proofs.Passes.{cuts-ring, ring-gives, none-gives}
 use Rattle.outlines.proofs.Unique.{gives-unique}
 use Rattle.outlines.proofs.Denominators.{small-given}

@@ -29,7 +29,7 @@ use Rattle.limits.proofs.Sides.{side-line-real}
 use Rattle.limits.proofs.Owned.{Loaded, loaded-of}
 use Rattle.crossings.specs.Outlines.{OutlineOnTable}
 use Rattle.convex.proofs.Places.{count as corner-count}
-use Rattle.remains.specs.Remains.{Held, Passed}
+use Rattle.remains.specs.Remains.{Passed}
 use Rattle.remains.proofs.Pieces.{cut-nothing}
 use Rattle.remains.proofs.Held.{small-in}
 use Rattle.remains.proofs.Loaded.{ring-loaded, loaded-held}

@@ -14,7 +14,7 @@ use Rattle.pen_line.specs.Records.{drawingRoom, LineAdds, LineRefused}
 use Rattle.pen_line.specs.declared.Step.{Step}
 use Rattle.pen_line.specs.declared.Step.the-variants.{Done, Wrong}
 use Rattle.pen_line.proofs.Unique.{adds-unique, adds-or-not, refused-unique}
-use Rattle.pen.specs.Texts.{lineEnd, lineAt, LineWithin, Told, start, next, Becomes}
+use Rattle.pen.specs.Texts.{lineEnd, lineAt, LineWithin, Told, start, next}
 use Rattle.pen.specs.Texts.{EndsAs, drawn, no-line, wrong-line, long-text}
 use Rattle.pen.specs.Laws.{OneOutcome}
 

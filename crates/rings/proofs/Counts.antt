@@ -1,9 +1,8 @@
 -- One pass a line: what is left is what the cuts leave, and the counts on the way are determined, since the cuts of alike rings are alike.
 use mathlib.Core.Path.{_≡_, refl}
-use mathlib.Core.List.{List, [], _∷_}
+use mathlib.Core.List.{List, _∷_}
 use mathlib.Core.Option.{some}
 use Prim.Native.Nat.{ℕ}
-use lib.ListN.{length}
 use Rattle.rings.specs.Points.{Point, Line, Real, Alike}
 use Rattle.rings.specs.Rings.{Ring}
 use Rattle.rings.specs.Cuts.{CutBy, OnePass, Cuts, no-more, cut, Passes, no-pass, pass}

@@ -11,7 +11,7 @@ use Rattle.grid.specs.declared.Window.{Window}
 use Rattle.grid.specs.Sides.{Side, left, right, bottom, top}
 use Rattle.strokes.specs.Laws.{InClosedWindow, StaysInside, FourConditions}
 use Rattle.strokes.specs.Sides.{sideP, sideQ}
-use Rattle.strokes.specs.Strokes.{Keeps, Clipped, Clipping, strokeCallRefusal}
+use Rattle.strokes.specs.Strokes.{Keeps, Clipped, strokeCallRefusal}
 use Rattle.strokes.specs.declared.StrokeAnswer.{StrokeAnswer}
 use Rattle.strokes.proofs.Coordinates.{above-low, below-high, both-sides}
 use Rattle.strokes.proofs.Points.{point-inside}

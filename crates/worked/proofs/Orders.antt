@@ -12,7 +12,7 @@ use Rattle.convex.specs.Corners.{rightCount, countRefusal, convexRefusal}
 use Rattle.convex.proofs.Places.{every-at}
 use Rattle.fraction.specs.Fraction.{lessThan}
 use Rattle.fraction.proofs.Computed.{euclid, lowestOf}
-use Rattle.grid.specs.Calls.{written, answeredBy}
+use Rattle.grid.specs.Calls.{answeredBy}
 use Rattle.grid.specs.Refusals.{first, offTable, noArea, windowRefusal, roomRefusal}
 use Rattle.grid.specs.Table.{onTable, firstOff}
 use Rattle.outlines.specs.Outlines.{badOrder, outlineRefusal}
