@@ -21,7 +21,8 @@ use Rattle.grid.proofs.Calls.{lent-refused, lent-done}
 use Rattle.rings.specs.Lists.{All, ∅, _◂_, Turned}
 use Rattle.rings.specs.Points.{Point, Line, value, In, Over, Out, Real, Proper, Before, lower, level}
 use Rattle.rings.specs.Rings.{Ring, Starts}
-use Rattle.rings.specs.Cuts.{Across, leaves, enters, Kept, stays, goes, Added, crossed, uncrossed, Pass, ends, goes-on, CutBy, empty, round, OnePass, Cuts, cut, gone, Passes, no-pass, pass}
+use Rattle.rings.specs.Cuts.{Across, leaves, enters, Kept, stays, goes, Added, crossed, uncrossed, Pass, ends, goes-on, CutBy, empty, round}
+use Rattle.rings.specs.Cuts.{OnePass, Cuts, cut, gone, Passes, no-pass, pass}
 use Rattle.rings.proofs.Before.{before-asym, before-trans}
 use Rattle.rings.proofs.Lists.{all-zip, all-tail, turned-all}
 use Rattle.rings.proofs.Passes.{meet, meet-crossing, flip-crossing}
@@ -190,7 +191,8 @@ data Counted (hs : List Line) (r : List Point) (ns : List ℕ) : Option (List Po
   none-left : Cuts hs r none → Counted hs r ns none
   ring-left : {t : List Point} → Passes hs r ns t → Counted hs r ns (some t)
 
-more-counted : {h : Line} {hs : List Line} {r s : List Point} {ns : List ℕ} {o : Option (List Point)} → OnePass h r s → 3 ≤ length s → Counted hs s ns o
+more-counted : {h : Line} {hs : List Line} {r s : List Point} {ns : List ℕ} {o : Option (List Point)} → OnePass h r s → 3 ≤ length s
+    → Counted hs s ns o
     → Counted (h ∷ hs) r (length s ∷ ns) o
 more-counted p l (none-left c) = none-left (cut (p .rule) l c)
 more-counted p l (ring-left q) = ring-left (pass p l q)
@@ -212,7 +214,8 @@ passedOf (some t) ns = ns
 unfoldable pub passesOf : Window → ℕ → List ℤ → List ℕ
 passesOf w o zs = passedOf (cutsOf (linesIn o w) (cornersOf zs)) (countsOf (linesIn o w) (cornersOf zs))
 
-outline-of : (w : Window) (o : ℕ) (zs : List ℤ) → o ≤ 23 → NumbersOnTable zs → Ring (cornersOf zs) → OutlineClipped w o zs (outlineOf w o zs) (passesOf w o zs)
+outline-of : (w : Window) (o : ℕ) (zs : List ℤ) → o ≤ 23 → NumbersOnTable zs → Ring (cornersOf zs)
+    → OutlineClipped w o zs (outlineOf w o zs) (passesOf w o zs)
 unfolding outlineOf ringOf passesOf passedOf
 outline-of w o zs h on g = go (counts-of (linesIn o w) (cornersOf zs) (lines-real w h) g)
   where

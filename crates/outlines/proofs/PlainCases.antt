@@ -36,7 +36,8 @@ use Rattle.outlines.proofs.Clear.{left-at, right-at, bottom-at, top-at,
 use Rattle.outlines.proofs.Passes.{lines-real}
 
 -- ---- no side cuts anything off
-cuts-nothing : {hs : List Line} {r : List Point} → Ring r → All Real hs → All (λ h. All (In h) r) hs → Passes hs r (replicate (length hs) (length r)) r
+cuts-nothing : {hs : List Line} {r : List Point} → Ring r → All Real hs → All (λ h. All (In h) r) hs
+    → Passes hs r (replicate (length hs) (length r)) r
 cuts-nothing g ∅ ∅ = no-pass
 cuts-nothing g (real ◂ reals) (i ◂ a) = pass (one-pass real g (cut-nothing i)) (g .three) (cuts-nothing g reals a)
 

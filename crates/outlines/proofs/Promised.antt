@@ -1,5 +1,5 @@
--- What the passes leave is all that the call promises, and it is the only list and the only counts: a ring is determined by its points, and the corners that
--- a pass leaves by those before it.
+-- What the passes leave is all that the call promises, and it is the only list and the only counts: a ring is determined by its points, and the
+-- corners that a pass leaves by those before it.
 use mathlib.Core.Path.{_≡_, refl, sym, subst}
 use mathlib.Core.List.{List, []}
 use mathlib.Core.Option.{none}
@@ -24,8 +24,8 @@ use Rattle.outlines.proofs.Unique.{gives-unique}
 use Rattle.outlines.proofs.Denominators.{small-given}
 
 module _ {o : ℕ} (w : Window) (h : o ≤ 23) (zs : List ℤ) (g : Ring (cornersOf zs)) where
-  pub ring-passed : NumbersOnTable zs → {t s : List Point} {xs : List ℤ} {ns : List ℕ} → Passes (linesIn o w) (cornersOf zs) ns t → Turned t s → Starts s
-      → RingNumbers s xs → OutlineClipped w o zs xs ns
+  pub ring-passed : NumbersOnTable zs → {t s : List Point} {xs : List ℤ} {ns : List ℕ} → Passes (linesIn o w) (cornersOf zs) ns t
+      → Turned t s → Starts s → RingNumbers s xs → OutlineClipped w o zs xs ns
   ring-passed on c u st n =
       let k = ring-gives w h zs g (passes-cuts c) u st n in
       record { gives = k; denominators = small-given on g k; passes = ring-left c u st n }

@@ -60,13 +60,16 @@ any-order w o o′ zs a a′ before after after′ h h′ p q =
 
 -- ---- denominators: what was written is the list that was given, or nothing
 small-written : (ns : List ℕ) {a : OutlineAnswer} {after : List ℤ} (xs before : List ℤ) → SmallDenominators xs
-    → a ≡ answeredBy refusedOutline (gaveOutline ns) xs (length before) → after ≡ written xs before → SmallDenominators (take (a .count) after)
+    → a ≡ answeredBy refusedOutline (gaveOutline ns) xs (length before) → after ≡ written xs before
+    → SmallDenominators (take (a .count) after)
 unfolding answeredBy roomRefusal written
 small-written ns xs before s e f =
-    subst (λ (p : OutlineAnswer × List ℤ). SmallDenominators (take (p .0 .count) (p .1))) (λ i. (sym e i, sym f i)) (go (leb (length xs) (length before)))
+    subst (λ (p : OutlineAnswer × List ℤ). SmallDenominators (take (p .0 .count) (p .1))) (λ i. (sym e i, sym f i))
+    (go (leb (length xs) (length before)))
   where
     go : (b : Bool) → let r = (if b then none else refuse noRoom (length xs)) in
-        SmallDenominators (take ((if eqb (r .number) 0 then gaveOutline ns xs else refusedOutline r) .count) (if b then xs ++ drop (length xs) before else before))
+        SmallDenominators (take ((if eqb (r .number) 0 then gaveOutline ns xs else refusedOutline r) .count)
+        (if b then xs ++ drop (length xs) before else before))
     go true = subst SmallDenominators (sym (take-append-seam xs (drop (length xs) before))) s
     go false = no-fraction
 
@@ -74,7 +77,9 @@ pub denominators : Denominators
 denominators w o zs a before after c = go (eqb (outlineRefusal w o zs .number) 0) refl
   where
     go : (b : Bool) → eqb (outlineRefusal w o zs .number) 0 ≡ b → SmallDenominators (take (a .count) after)
-    go true e = let g = c .done (eqb-true (outlineRefusal w o zs .number) 0 e) .given in small-written _ (g .numbers) before (g .gives .denominators) (g .answer) (g .output)
+    go true e =
+        let g = c .done (eqb-true (outlineRefusal w o zs .number) 0 e) .given in
+        small-written _ (g .numbers) before (g .gives .denominators) (g .answer) (g .output)
     go false e =
         subst (λ (n : ℕ). SmallDenominators (take n after))
         (sym (ap (λ (r : OutlineAnswer). r .count) (c .refused (eqb-false (outlineRefusal w o zs .number) 0 e) .answer))) no-fraction

@@ -8,14 +8,15 @@ ghost use Prim.Native.Nat.{_+_, _*_, _≤_};
 ghost use lib.IntN.{ℤ};
 ghost use lib.ListN.{length};
 ghost use Rattle.whole.specs.Choice.{Decides};
-ghost use Rattle.grid.specs.Calls.{answeredBy, GaveNumbers};
+ghost use Rattle.grid.specs.Calls.{answeredBy};
 ghost use Rattle.grid.specs.Table.{WindowOnTable, NumbersOnTable};
 ghost use Rattle.limits.specs.Sides.{windowOf};
 ghost use Rattle.crossings.specs.Outlines.{OutlineOnTable};
 ghost use Rattle.passes.specs.Passes.{Cutting};
 ghost use Rattle.reach.specs.Reach.{Reaches, ReachOnTable};
 ghost use Rattle.convex.specs.Corners.{mostCorners, rightCount};
-ghost use Rattle.outlines.specs.Outlines.{outlineRefusal, OutlineClipped, refusedOutline, gaveOutline, OutlineDone, Outline};
+ghost use Rattle.outlines.specs.Outlines.{outlineRefusal, refusedOutline, gaveOutline, OutlineDone, Outline};
+ghost use Rattle.outlines.specs.Workers.{GaveCounted};
 
 // The most corners of an outline.
 const MOST_CORNERS: usize = 64;
@@ -131,7 +132,7 @@ fn cut_in(
     requires { ⌜ OutlineOnTable (now outline) ⌝ }
     requires { ⌜ Cutting (windowOf (now numbers)) (now outline) (now cuts) ⌝ }
     requires { ⌜ 2 * length (now outline) + 16 ≤ length (now m) ⌝ }
-    ensures { λ r. ⌜ GaveNumbers (λ xs. OutlineClipped (windowOf (now (numbers .entry))) order (now (outline .entry)) xs (r .passes)) (r .numbers) (now (out .entry)) (now (out .exit)) ⌝ }
+    ensures { λ r. ⌜ GaveCounted (windowOf (now (numbers .entry))) order (now (outline .entry)) r (now (out .entry)) (now (out .exit)) ⌝ }
 {
     let left = passes::run(numbers, cuts, order, outline, m);
     let passes = left.counts;
@@ -156,7 +157,7 @@ fn cut_by_passes(
     requires { ⌜ order ≤ 23 ⌝ }
     requires { ⌜ OutlineOnTable (now outline) ⌝ }
     requires { ⌜ Cutting (windowOf (now numbers)) (now outline) (now cuts) ⌝ }
-    ensures { λ r. ⌜ GaveNumbers (λ xs. OutlineClipped (windowOf (now (numbers .entry))) order (now (outline .entry)) xs (r .passes)) (r .numbers) (now (out .entry)) (now (out .exit)) ⌝ }
+    ensures { λ r. ⌜ GaveCounted (windowOf (now (numbers .entry))) order (now (outline .entry)) r (now (out .entry)) (now (out .exit)) ⌝ }
 {
     if outline.len() <= 24 {
         let mut few = [0i32; 64];

@@ -1,11 +1,12 @@
 -- What the passes are given, and what all four promise.
 --   Cutting w zs cs            at the place of a side of the window w the list cs has false only where no corner of the outline zs lies outside it
---   Running w o zs m p k ns    the first k sides in the order o have left of the outline zs the ring at p in m, which lies inside each line that the outline does,
---                              and ns says how many corners each left on the way; what the others leave of it, all leave of the outline
+--   Running w o zs m p k ns    the first k sides in the order o have left of the outline zs the ring at p in m, which lies inside each line that
+--                              the outline does, and ns says how many corners each left on the way; what the others leave of it, all
+--                              leave of the outline
 --   noCorners                  the counts of four passes, where no area is left
 --   noArea                     what is left then: no place, and no corners
---   Ran w o zs m l             the promise of `run`: one pass a side, in the order o, leaves of the outline zs the ring at l's places in m, and each pass as many
---                              corners as l counts; or no area is left
+--   Ran w o zs m l             the promise of `run`: one pass a side, in the order o, leaves of the outline zs the ring at l's places in m, and
+--                              each pass as many corners as l counts; or no area is left
 use mathlib.Core.Path.{_≡_}
 use mathlib.Core.Bool.{Bool, false}
 use mathlib.Core.List.{List, [], _∷_, _++_}
@@ -34,7 +35,8 @@ pub record Running (w : Window) (o : ℕ) (zs m : List ℤ) (p : Places) (k : �
   pub order : p .from ≤ p .to
   pub room : p .to ≤ length zs / 2 + k
   pub inside : (h : Line) → All (In h) (cornersOf zs) → All (In h) (ringAt m p)
-  pub so-far : (t : List Point) (ks : List ℕ) → Passes (drop k (linesIn o w)) (ringAt m p) ks t → Passes (linesIn o w) (cornersOf zs) (ns ++ ks) t
+  pub so-far : (t : List Point) (ks : List ℕ) → Passes (drop k (linesIn o w)) (ringAt m p) ks t
+      → Passes (linesIn o w) (cornersOf zs) (ns ++ ks) t
   pub none-so-far : Cuts (drop k (linesIn o w)) (ringAt m p) none → Cuts (linesIn o w) (cornersOf zs) none
 
 abbrev pub noCorners : List ℕ

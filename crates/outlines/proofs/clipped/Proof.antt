@@ -10,8 +10,7 @@ use Rattle.grid.specs.Table.{WindowOnTable}
 use Rattle.grid.specs.declared.Window.{Window}
 use Rattle.passes.specs.Passes.{Cutting, noCorners}
 use Rattle.crossings.proofs.Outlines.{outline-ring}
-use Rattle.outlines.specs.Outlines.{OutlineClipped}
-use Rattle.grid.specs.Calls.{GaveNumbers}
+use Rattle.outlines.specs.Workers.{GaveCounted}
 use Rattle.grid.proofs.Calls.{answer-given}
 use Rattle.outlines.proofs.Clear.{cutting, cutting-is}
 use Rattle.outlines.proofs.Giving.{give-ring, give-nothing}
@@ -111,8 +110,7 @@ returns-3 c =
     record {
       counts = done .result .passes;
       given = answer-given (c .given3 .ensures)
-          (subst (λ (w : Window). GaveNumbers (λ xs. OutlineClipped w (s .args .order) (now (s .args .outline)) xs (done .result .passes)) (done .result .numbers)
-          (now (s .args .out)) (done .last .1 .1 .1 .1 .0))
+          (subst (λ (w : Window). GaveCounted w (s .args .order) (now (s .args .outline)) (done .result) (now (s .args .out)) (done .last .1 .1 .1 .1 .0))
           (sym (is-w a)) (done .ensures));
     }
 
