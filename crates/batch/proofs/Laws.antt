@@ -1,4 +1,5 @@
--- The law of specs/Laws.antt: each row has the points of a stroke that the single call keeps, and these stay inside; what is refused has no rows.
+-- The law of specs/Laws.antt: each row has the points of a stroke that the single call keeps, and these stay inside;
+-- what is refused has no rows.
 use mathlib.Core.Path.{_≡_, refl, sym, ap, _∙_, subst, transport}
 use mathlib.Core.Bool.{Bool, true, false}
 use mathlib.Core.List.{List, [], _∷_, _++_}
@@ -23,7 +24,8 @@ use Rattle.batch.specs.Batches as batches
 use Rattle.batch.specs.Laws.{RowInside, RowsStayInside}
 
 -- five numbers further on
-past : (a b c d e : ℤ) (ys : List ℤ) (j i : ℕ) → getD ys (5 * j + i) (pos 0) ≡ getD (a ∷ b ∷ c ∷ d ∷ e ∷ ys) (5 * suc j + i) (pos 0)
+past : (a b c d e : ℤ) (ys : List ℤ) (j i : ℕ)
+    → getD ys (5 * j + i) (pos 0) ≡ getD (a ∷ b ∷ c ∷ d ∷ e ∷ ys) (5 * suc j + i) (pos 0)
 past a b c d e ys j i =
     let five : suc (suc (suc (suc (suc (5 * j + i))))) ≡ 5 * suc j + i = omega arith in
     ap (λ (n : ℕ). getD (a ∷ b ∷ c ∷ d ∷ e ∷ ys) n (pos 0)) five
@@ -32,17 +34,22 @@ rows-inside : {w : Window} (n : ℕ) {ss : List Stroke} {answers : List StrokeAn
     → (rest : List ℤ) (k : ℕ) → 5 * k < length (rows n answers) → RowInside w (rows n answers ++ rest) (5 * k)
 unfolding rows
 rows-inside n batches.none rest k h = absurd (omega arith)
-rows-inside {w} n (batches._and_ {y = a} {ys = answers} p ps) rest k h = go (a .kept) refl k h (rows-inside (suc n) ps rest)
+rows-inside {w} n (batches._and_ {y = a} {ys = answers} p ps) rest k h =
+    go (a .kept) refl k h (rows-inside (suc n) ps rest)
   where
-    go : (b : Bool) → a .kept ≡ b → (k : ℕ)
-        → 5 * k < length ((if b then pos n ∷ a .ax ∷ a .ay ∷ a .bx ∷ a .by ∷ [] else []) ++ rows (suc n) answers)
+    -- its row where b says whether it is kept, and the rows after it
+    all : Bool → List ℤ
+    all b = (if b then pos n ∷ a .ax ∷ a .ay ∷ a .bx ∷ a .by ∷ [] else []) ++ rows (suc n) answers
+
+    go : (b : Bool) → a .kept ≡ b → (k : ℕ) → 5 * k < length (all b)
         → ((j : ℕ) → 5 * j < length (rows (suc n) answers) → RowInside w (rows (suc n) answers ++ rest) (5 * j))
-        → RowInside w (((if b then pos n ∷ a .ax ∷ a .ay ∷ a .bx ∷ a .by ∷ [] else []) ++ rows (suc n) answers) ++ rest) (5 * k)
+        → RowInside w (all b ++ rest) (5 * k)
     go false e k h later = later k h
     go true e zero h later = clipped-inside p e
     go true e (suc j) h later =
         let on = past (pos n) (a .ax) (a .ay) (a .bx) (a .by) (rows (suc n) answers ++ rest) j in
-        transport (λ i. InClosedWindow w (on 1 i) (on 2 i) × InClosedWindow w (on 3 i) (on 4 i)) (later j (omega arith))
+        transport (λ i. InClosedWindow w (on 1 i) (on 2 i) × InClosedWindow w (on 3 i) (on 4 i))
+        (later j (omega arith))
 
 given-inside : {w : Window} {zs : List ℤ} {a : Answer} {before after : List ℤ} → Given (RowsOf w zs) a before after
     → (k : ℕ) → 5 * k < a .count → RowInside w after (5 * k)
@@ -57,8 +64,10 @@ given-inside {w} {a = a} {before = before} {after = after} g k h = go (leb (leng
         let c : answered xs (length before) .count ≡ length xs = simp t in
         let o : written xs before ≡ xs ++ drop (length xs) before = simp t in
         let rest = drop (length xs) before in
-        subst (λ (ys : List ℤ). RowInside w ys (5 * k)) (sym (g .output ∙ o ∙ ap (λ (ys : List ℤ). ys ++ rest) (g .gives .are)))
-        (rows-inside 0 (g .gives .clipped) rest k (omega (arith, c, ap (λ (b : Answer). b .count) (g .answer), ap length (g .gives .are))))
+        let e = g .output ∙ o ∙ ap (λ (ys : List ℤ). ys ++ rest) (g .gives .are) in
+        let l = ap (λ (b : Answer). b .count) (g .answer) in
+        subst (λ (ys : List ℤ). RowInside w ys (5 * k)) (sym e)
+        (rows-inside 0 (g .gives .clipped) rest k (omega (arith, c, l, ap length (g .gives .are))))
     go false t =
         let c : answered xs (length before) .count ≡ 0 = simp t in
         absurd (omega (arith, c, ap (λ (b : Answer). b .count) (g .answer)))

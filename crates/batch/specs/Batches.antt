@@ -4,7 +4,7 @@
 --   rows k answers    the rows of answers counted from k, one after the other
 --   RowsOf w zs xs    xs are the rows of the strokes of the list zs, each with the answer of the single call
 --   batchRefusal w zs what the batch refuses: 2, 3, 5, then 6
---   Batch w zs a before after   the batch's answer, and its output before and after
+--   Batch w zs a before after   what `batch::batch` promises of its answer, and of its output before and after
 --   WroteRows w zs n before after   the rows are written from the front, n numbers in all
 use mathlib.Core.Path.{_≡_}
 use mathlib.Core.List.{List, [], _∷_, _++_}
@@ -39,6 +39,7 @@ pub record RowsOf (w : Window) (zs xs : List ℤ) : Type 0 where
 unfoldable pub batchRefusal : Window → List ℤ → Refusal
 batchRefusal w zs = first (windowRefusal w ∷ strokesRefusal zs ∷ [])
 
+-- A case of `Call`, which says once what every call does with a lent output; only the list is the batch's own.
 abbrev pub Batch : Window → List ℤ → Answer → List ℤ → List ℤ → Type 0
 Batch w zs = Call (batchRefusal w zs) (RowsOf w zs)
 

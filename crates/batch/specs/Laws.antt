@@ -1,5 +1,5 @@
 -- A law of the batch, proved in proofs/Laws.antt.
---   RowInside w xs p   the two points of the row whose first number stands at the place p of xs lie in the closed window
+--   RowInside w xs p   the two points of the row that starts at the place p of xs lie in the closed window
 --   RowsStayInside     the rounded points in the rows that the batch wrote, five numbers each, never leave the window
 use mathlib.Core.List.{List}
 use Prim.Native.Nat.{ℕ, _+_, _*_, _<_}
@@ -12,7 +12,8 @@ use Rattle.batch.specs.Batches.{Batch}
 
 abbrev pub RowInside : Window → List ℤ → ℕ → Type 0
 RowInside w xs p =
-    InClosedWindow w (getD xs (p + 1) (pos 0)) (getD xs (p + 2) (pos 0)) × InClosedWindow w (getD xs (p + 3) (pos 0)) (getD xs (p + 4) (pos 0))
+    InClosedWindow w (getD xs (p + 1) (pos 0)) (getD xs (p + 2) (pos 0))
+    × InClosedWindow w (getD xs (p + 3) (pos 0)) (getD xs (p + 4) (pos 0))
 
 abbrev pub RowsStayInside : Type 0
 RowsStayInside = (w : Window) (zs : List ℤ) (a : Answer) (before after : List ℤ) → Batch w zs a before after

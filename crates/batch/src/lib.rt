@@ -67,6 +67,7 @@ fn write_rows(w: Window, s: &[i32], out: &mut [i32]) -> usize
 }
 
 // The batch. With room for every stroke given one pass is enough; else the answer is counted first.
+// Its statement is `Batch`, specs/Batches.antt.
 pub fn batch(w: Window, s: &[i32], out: &mut [i32]) -> Answer
     ensures { λ r. ⌜ Batch w (now (s .entry)) r (now (out .entry)) (now (out .exit)) ⌝ }
 {

@@ -132,7 +132,8 @@ module _ {w : Window} {s : Stroke} where
 
 -- ---- the laws of the call
 pub never-more-than-four : NeverMoreThanFour
-never-more-than-four w s r p = zero-or-not (strokeCallRefusal w s .number) (λ z. whole-run-few (p .done z)) (λ n. omega (arith, p .refused n))
+never-more-than-four w s r p =
+    zero-or-not (strokeCallRefusal w s .number) (λ z. whole-run-few (p .done z)) (λ n. omega (arith, p .refused n))
 
 pub engines-agree : EnginesAgree
 engines-agree w s r a p q = same-two p q

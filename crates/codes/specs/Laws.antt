@@ -14,4 +14,5 @@ abbrev pub NeverMoreThanFour : Type 0
 NeverMoreThanFour = (w : Window) (s : Stroke) (r : CountedAnswer) → CohenSutherland w s r → r .shortenings ≤ 4
 
 abbrev pub EnginesAgree : Type 0
-EnginesAgree = (w : Window) (s : Stroke) (r : CountedAnswer) (a : StrokeAnswer) → CohenSutherland w s r → Clipping w s a → r .answer ≡ a
+EnginesAgree = (w : Window) (s : Stroke) (r : CountedAnswer) (a : StrokeAnswer)
+    → CohenSutherland w s r → Clipping w s a → r .answer ≡ a

@@ -3,7 +3,8 @@
 --   OnLine w s k f          the stroke's point at f lies on the line of the side k
 --   Shortening w s f g f′ g′  one shortening of the part from f to g leaves that from f′ to g′
 --   Run w s f g n           the rule, run on the part from f to g, ends after n shortenings
---   CohenSutherland w s r   r is right: the answer of any stroke call, and the rule's own count, which is 0 for a refused call
+--   CohenSutherland w s r   what `codes::cohen_sutherland` promises: the answer of any stroke call,
+--                           and the rule's own count, which is 0 for a refused call
 use mathlib.Core.Path.{_≡_}
 use Prim.Native.Nat.{ℕ, suc}
 use lib.IntN.{ℤ, pos}
@@ -33,6 +34,7 @@ pub data Run (w : Window) (s : Stroke) : Fraction → Fraction → ℕ → Type 
   lost : {f g : Fraction} → decided w s f g ≡ missed → Run w s f g 0
   shorten : {f g f′ g′ : Fraction} {n : ℕ} → Shortening w s f g f′ g′ → Run w s f′ g′ n → Run w s f g (suc n)
 
+-- The answer does not depend on the rule, the count does: so the rule's own steps are asked for the count alone.
 pub record CohenSutherland (w : Window) (s : Stroke) (r : CountedAnswer) : Type 0 where
   pub clipping : Clipping w s (r .answer)
   pub refused : (strokeCallRefusal w s .number ≡ 0 → ⊥) → r .shortenings ≡ 0

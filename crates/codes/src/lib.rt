@@ -268,6 +268,7 @@ fn clipped(w: Window, s: Stroke) -> CountedAnswer
 }
 
 // A stroke against a rectangle by the Cohen-Sutherland rule.
+// Its statement is `CohenSutherland`, specs/Steps.antt.
 pub fn cohen_sutherland(w: Window, s: Stroke) -> CountedAnswer
     ensures { λ q. ⌜ CohenSutherland w s q ⌝ }
 {

@@ -1,5 +1,5 @@
--- A rectangle as a corner window, counterclockwise from any of its corners: what is refused is what the rectangle's call refuses,
--- and what is kept are the points of the closed window.
+-- A rectangle as a corner window, counterclockwise from any of its corners: what is refused is what the rectangle's
+-- call refuses, and what is kept are the points of the closed window.
 use mathlib.Core.Path.{_≡_, refl, sym, ap, _∙_}
 use mathlib.Core.Bool.{Bool, true, false}
 use mathlib.Core.List.{List, [], _∷_}
@@ -16,7 +16,8 @@ use Rattle.whole.proofs.Expressions.{Expr, Env, var, con, _⊖_, _⊗_}
 use Rattle.whole.proofs.Certificates.{Cone, ge, gt, ge-by, clash, po, nn, le, lt, _⊞_, _⊠_}
 use Rattle.whole.proofs.Order.{zarith, ≤-total, <→≤}
 use Rattle.fraction.specs.declared.Fraction.{Fraction}
-use Rattle.grid.specs.Refusals.{windowOff, noWindow, refuse, none, first, offTable, noArea, windowRefusal, strokeRefusal}
+use Rattle.grid.specs.Refusals.{windowOff, noWindow, refuse, none, first, offTable, noArea}
+use Rattle.grid.specs.Refusals.{windowRefusal, strokeRefusal}
 use Rattle.grid.specs.Table.{farthest, firstOff, onTable, sides, WindowOnTable}
 use Rattle.grid.specs.declared.Refusal.{Refusal}
 use Rattle.grid.specs.declared.Stroke.{Stroke}
@@ -36,7 +37,8 @@ use Rattle.convex.proofs.Convexity.{convex-same}
 use Rattle.convex.proofs.Places.{side-by}
 use Rattle.spans.specs.Parts.{Time, Part}
 use Rattle.corners.specs.Corners.{cyrusBeckRefusal, pointAt, KeepsIn}
-use Rattle.corners.specs.Rectangles.{RectangleCorners, from-left-bottom, from-right-bottom, from-right-top, from-left-top, TurnedOver}
+use Rattle.corners.specs.Rectangles.{RectangleCorners, from-left-bottom, from-right-bottom, from-right-top}
+use Rattle.corners.specs.Rectangles.{from-left-top, TurnedOver}
 
 -- the window's points, at a fraction of the stroke
 pub record KeepsInWindow (w : Window) (s : Stroke) (n d : ℤ) : Type 0 where
@@ -119,15 +121,18 @@ module _ (w : Window) where
 
   not-left : Flat → Left a b c → ⊥
   unfolding value through
-  not-left (inl f) k = clash (ρ a) (po (side-by l u r u r t (con (pos 1))) (k .left) ⊞ le r l (f .0) ⊠ le u t (f .1)) tt
-  not-left (inr f) k = clash (ρ a) (po (side-by l u r u r t (con (pos 1))) (k .left) ⊞ le l r (f .0) ⊠ le t u (f .1)) tt
+  not-left (inl f) h = clash (ρ a) (po (side-by l u r u r t (con (pos 1))) (h .left) ⊞ le r l (f .0) ⊠ le u t (f .1))
+      tt
+  not-left (inr f) h = clash (ρ a) (po (side-by l u r u r t (con (pos 1))) (h .left) ⊞ le l r (f .0) ⊠ le t u (f .1))
+      tt
 
   flat-refused : {zs : List ℤ} → RectangleCorners w zs → Flat → strictlyConvex (cornersOf zs) ≡ false
   flat-refused {zs} k f = go (strictlyConvex (cornersOf zs)) refl
     where
       go : (v : Bool) → strictlyConvex (cornersOf zs) ≡ v → strictlyConvex (cornersOf zs) ≡ false
       go true e =
-          let ccw = ccw-turned (turned-back (turned k)) (convex-ccw (cornersOf zs) .0 (convex-same (cornersOf zs) .0 e)) in
+          let strictly = convex-same (cornersOf zs) .0 e in
+          let ccw = ccw-turned (turned-back (turned k)) (convex-ccw (cornersOf zs) .0 strictly) in
           absurd (not-left f (all-head (pairs-head (ccw-star ccw))))
       go false e = e
 
@@ -223,7 +228,8 @@ on-or-off (z ∷ zs) = go (onTable z) refl (on-or-off zs)
     go true e (inr h) = inr (omega arith)
     go false e h = inr (omega arith)
 
-off-first : (zs : List ℤ) (rs : List Refusal) → firstOff zs < length zs → first (offTable windowOff zs ∷ rs) ≡ refuse windowOff (firstOff zs)
+off-first : (zs : List ℤ) (rs : List Refusal) → firstOff zs < length zs
+    → first (offTable windowOff zs ∷ rs) ≡ refuse windowOff (firstOff zs)
 unfolding first offTable
 off-first zs rs h = simp (lt-ltb (firstOff zs) (length zs) h)
 
@@ -231,26 +237,35 @@ on-first : {zs : List ℤ} (rs : List Refusal) → All (Within farthest) zs → 
 on-first rs h = goes-on _ _ (ap number (none-off windowOff h))
 
 -- ---- what is refused of a rectangle's corners is what is refused of the rectangle
+-- the same number, and the same place but where a number of the window is off the table, which the two lists have at
+-- different places
+abbrev pub Alike : Refusal → Refusal → Type 0
+Alike q r = (q .number ≡ r .number) × ((q .number ≡ windowOff → ⊥) → q .place ≡ r .place)
+
 module _ {w : Window} {zs : List ℤ} (k : RectangleCorners w zs) where
   all-four : All (Within farthest) zs → All (Within farthest) (sides w)
   all-four h = go (turned-all (turned-back (numbers w k)) h)
     where
-      go : {l b r t : ℤ} → All (Within farthest) (l ∷ b ∷ r ∷ b ∷ r ∷ t ∷ l ∷ t ∷ []) → All (Within farthest) (l ∷ b ∷ r ∷ t ∷ [])
+      go : {l b r t : ℤ} → All (Within farthest) (l ∷ b ∷ r ∷ b ∷ r ∷ t ∷ l ∷ t ∷ [])
+          → All (Within farthest) (l ∷ b ∷ r ∷ t ∷ [])
       go (hl ◂ (hb ◂ (hr ◂ (_ ◂ (_ ◂ (ht ◂ _)))))) = hl ◂ (hb ◂ (hr ◂ (ht ◂ ∅)))
 
   all-corners : All (Within farthest) (sides w) → All (Within farthest) zs
-  all-corners (hl ◂ (hb ◂ (hr ◂ (ht ◂ ∅)))) = turned-all (numbers w k) (hl ◂ (hb ◂ (hr ◂ (hb ◂ (hr ◂ (ht ◂ (hl ◂ (ht ◂ ∅))))))))
+  all-corners (hl ◂ (hb ◂ (hr ◂ (ht ◂ ∅)))) =
+      turned-all (numbers w k) (hl ◂ (hb ◂ (hr ◂ (hb ◂ (hr ◂ (ht ◂ (hl ◂ (ht ◂ ∅))))))))
 
   module _ (s : Stroke) where
     counted : cyrusBeckRefusal zs s ≡ first (offTable windowOff zs ∷ convexRefusal noWindow zs ∷ strokeRefusal s ∷ [])
     unfolding cyrusBeckRefusal first countRefusal rightCount
     counted = simp (turned-length (numbers w k))
 
-    convex-goes-on : strictlyConvex (cornersOf zs) ≡ true → first (convexRefusal noWindow zs ∷ strokeRefusal s ∷ []) ≡ first (strokeRefusal s ∷ [])
+    convex-goes-on : strictlyConvex (cornersOf zs) ≡ true
+        → first (convexRefusal noWindow zs ∷ strokeRefusal s ∷ []) ≡ first (strokeRefusal s ∷ [])
     unfolding first convexRefusal
     convex-goes-on e = simp e
 
-    flat-stops : strictlyConvex (cornersOf zs) ≡ false → first (convexRefusal noWindow zs ∷ strokeRefusal s ∷ []) ≡ refuse noWindow 0
+    flat-stops : strictlyConvex (cornersOf zs) ≡ false
+        → first (convexRefusal noWindow zs ∷ strokeRefusal s ∷ []) ≡ refuse noWindow 0
     unfolding first convexRefusal
     flat-stops e = simp e
 
@@ -272,29 +287,33 @@ module _ {w : Window} {zs : List ℤ} (k : RectangleCorners w zs) where
       where
         go : ((w .left <ℤ w .right) × (w .bottom <ℤ w .top)) ⊎ Flat w → asCorners ≡ asRectangle
         go (inl p) =
-            let fine = window-fine w (record { left = hl; bottom = hb; right = hr; top = ht; wide = p .0; tall = p .1 }) in
-            on-table h ∙ convex-goes-on (convex w (p .0) (p .1) k) ∙ sym (goes-on (windowRefusal w) (strokeRefusal s ∷ []) (sym (ap number fine)))
+            let fine = window-fine w
+            (record { left = hl; bottom = hb; right = hr; top = ht; wide = p .0; tall = p .1 }) in
+            on-table h ∙ convex-goes-on (convex w (p .0) (p .1) k)
+            ∙ sym (goes-on (windowRefusal w) (strokeRefusal s ∷ []) (sym (ap number fine)))
         go (inr f) =
             let four : All (Within farthest) (sides w) = hl ◂ (hb ◂ (hr ◂ (ht ◂ ∅))) in
             let bare = bad-area w (omega (arith, all-on four)) (flat-bare w f) in
             on-table h ∙ flat-stops (flat-refused w k f)
-            ∙ sym (stops-by (on-first (noArea w ∷ []) four ∙ ap (λ (r : Refusal). first (r ∷ [])) bare) (λ z. omega arith))
+            ∙ sym (stops-by (on-first (noArea w ∷ []) four ∙ ap (λ (r : Refusal). first (r ∷ [])) bare)
+            (λ z. omega arith))
 
-    -- the same number, and the same place but where a number of the window is off the table: the two lists have it at different places
-    pub same-refusal : (TurnedOver w → ⊥) → (asCorners .number ≡ asRectangle .number) × ((asCorners .number ≡ windowOff → ⊥) → asCorners .place ≡ asRectangle .place)
+    pub same-refusal : (TurnedOver w → ⊥) → Alike asCorners asRectangle
     unfolding windowRefusal
     same-refusal over = go (on-or-off zs) (on-or-off (sides w))
       where
-        go : All (Within farthest) zs ⊎ (firstOff zs < length zs) → All (Within farthest) (sides w) ⊎ (firstOff (sides w) < length (sides w))
-            → (asCorners .number ≡ asRectangle .number) × ((asCorners .number ≡ windowOff → ⊥) → asCorners .place ≡ asRectangle .place)
+        go : All (Within farthest) zs ⊎ (firstOff zs < length zs)
+            → All (Within farthest) (sides w) ⊎ (firstOff (sides w) < length (sides w)) → Alike asCorners asRectangle
         go (inl h) (inl g) = let e = on-same over h g in (ap number e, λ _. ap (λ (r : Refusal). r .place) e)
         go (inl h) (inr g) = absurd (omega (arith, all-on (all-four h)))
         go (inr h) (inl g) = absurd (omega (arith, all-on (all-corners g)))
         go (inr h) (inr g) =
             let e = counted ∙ off-first zs _ h in
-            (ap number e ∙ sym (ap number (stops-by (off-first (sides w) _ g) (λ z. omega arith))), λ n. absurd (n (ap number e)))
+            let f = stops-by (off-first (sides w) _ g) (λ z. omega arith) in
+            (ap number e ∙ sym (ap number f), λ n. absurd (n (ap number e)))
 
 -- ---- what is kept of the corners is what K, the window's own condition, keeps
-pub rectangle : {w : Window} {s : Stroke} {zs : List ℤ} {K : ℤ → ℤ → Type 0} {kept : Bool} {f g : Fraction} → WindowOnTable w → RectangleCorners w zs
+pub rectangle : {w : Window} {s : Stroke} {zs : List ℤ} {K : ℤ → ℤ → Type 0} {kept : Bool} {f g : Fraction}
+    → WindowOnTable w → RectangleCorners w zs
     → ((n d : ℤ) → KeepsInWindow w s n d ↔ K n d) → Part (KeepsIn (cornersOf zs) s) kept f g → Part K kept f g
 rectangle {w} {s} hw k e p = part-same e (part-same (keeps-same w (hw .wide) (hw .tall) s k) p)

@@ -5,7 +5,7 @@
 --   KeepsIn cs s n d       n/d is a fraction from 0 to 1, and the stroke's point there lies left of or on every edge
 --   blankAnswer r          refused by r, or missed where r is none: not kept, fractions 0/1
 --   CornerClipped cs s a   a is right for corners and a stroke in which nothing is refused
---   CyrusBeck zs s a       a is right, refusals included
+--   CyrusBeck zs s a       what `corners::cyrus_beck` promises: a is right, refusals included
 use mathlib.Core.Path.{_≡_}
 use mathlib.Core.Bool.{false}
 use mathlib.Core.List.{List, [], _∷_}
@@ -45,6 +45,7 @@ pub record CornerClipped (cs : List Point) (s : Stroke) (a : CornerAnswer) : Typ
   pub place : a .place ≡ 0
   pub part : Part (KeepsIn cs s) (a .kept) (a .t0) (a .t1)
 
+-- What is kept is said of points in the plane, as for a rectangle, so that the two kinds of window can be compared.
 pub record CyrusBeck (zs : List ℤ) (s : Stroke) (a : CornerAnswer) : Type 0 where
   pub refused : (cyrusBeckRefusal zs s .number ≡ 0 → ⊥) → a ≡ blankAnswer (cyrusBeckRefusal zs s)
   pub done : cyrusBeckRefusal zs s .number ≡ 0 → CornerClipped (cornersOf zs) s a

@@ -7,10 +7,14 @@ use lib.Signed.{_<ℤ_}
 use Rattle.grid.specs.declared.Window.{Window}
 
 pub data RectangleCorners (w : Window) : List ℤ → Type 0 where
-  from-left-bottom : RectangleCorners w (w .left ∷ w .bottom ∷ w .right ∷ w .bottom ∷ w .right ∷ w .top ∷ w .left ∷ w .top ∷ [])
-  from-right-bottom : RectangleCorners w (w .right ∷ w .bottom ∷ w .right ∷ w .top ∷ w .left ∷ w .top ∷ w .left ∷ w .bottom ∷ [])
-  from-right-top : RectangleCorners w (w .right ∷ w .top ∷ w .left ∷ w .top ∷ w .left ∷ w .bottom ∷ w .right ∷ w .bottom ∷ [])
-  from-left-top : RectangleCorners w (w .left ∷ w .top ∷ w .left ∷ w .bottom ∷ w .right ∷ w .bottom ∷ w .right ∷ w .top ∷ [])
+  from-left-bottom :
+      RectangleCorners w (w .left ∷ w .bottom ∷ w .right ∷ w .bottom ∷ w .right ∷ w .top ∷ w .left ∷ w .top ∷ [])
+  from-right-bottom :
+      RectangleCorners w (w .right ∷ w .bottom ∷ w .right ∷ w .top ∷ w .left ∷ w .top ∷ w .left ∷ w .bottom ∷ [])
+  from-right-top :
+      RectangleCorners w (w .right ∷ w .top ∷ w .left ∷ w .top ∷ w .left ∷ w .bottom ∷ w .right ∷ w .bottom ∷ [])
+  from-left-top :
+      RectangleCorners w (w .left ∷ w .top ∷ w .left ∷ w .bottom ∷ w .right ∷ w .bottom ∷ w .right ∷ w .top ∷ [])
 
 abbrev pub TurnedOver : Window → Type 0
 TurnedOver w = (w .right <ℤ w .left) × (w .top <ℤ w .bottom)

@@ -137,6 +137,7 @@ fn refusal(c: &[i32], s: Stroke) -> Refusal
 }
 
 // What a corner window keeps of a stroke, by the Cyrus-Beck rule. The corners are x y x y .., counterclockwise.
+// Its statement is `CyrusBeck`, specs/Corners.antt.
 pub fn cyrus_beck(corners: &[i32], s: Stroke) -> CornerAnswer
     ensures { λ r. ⌜ CyrusBeck (now (corners .entry)) s r ⌝ }
 {

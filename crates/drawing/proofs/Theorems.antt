@@ -1,5 +1,5 @@
 -- What the contract of the drawing file means; no function's proof needs this file.
---   one-meaning              the law of specs/Laws.antt: by means and means-unique, a byte string has a meaning, and one only
+--   means, means-unique, one-meaning   every byte string has a meaning, and one only: the law of specs/Laws.antt
 --   never-both               so no byte string is both a fault and a drawing
 --   read, read-unique        every call has a result, and one only: answer and output
 --   enough                   a walk of more steps than there are bytes means the same

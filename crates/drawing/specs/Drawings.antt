@@ -12,7 +12,8 @@
 --   told d               the answer for d where nothing but a fault is refused
 --   ReadsAs d a before after   the call on bytes that mean d: its answer a, and its output before and after
 --   Drawable bs room     the bytes mean a drawing whose strokes have room in an output of so many numbers
---   ReadDrawing bs a before after   the call on the bytes bs: its answer a, and its output before and after
+--   ReadDrawing bs a before after   what `drawing::read_drawing` promises on the bytes bs: its answer a,
+--                                   and its output before and after
 use mathlib.Core.Path.{_≡_}
 use mathlib.Core.List.{List, [], _∷_, _++_}
 use Prim.Native.Nat.{ℕ, zero, suc, _+_, _*_, _≤_}
@@ -96,6 +97,7 @@ pub record Drawable (bs : List ℕ) (room : ℕ) : Type 0 where
   pub means : Means bs (drawn window strokes)
   pub has-room : 4 * length strokes ≤ room
 
+-- The meaning comes first and the call second: what bytes mean needs no output, and programs rest on that alone.
 pub record ReadDrawing (bs : List ℕ) (a : DrawingAnswer) (before after : List ℤ) : Type 0 where
   pub drawing : Drawing
   pub means : Means bs drawing

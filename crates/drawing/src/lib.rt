@@ -130,6 +130,7 @@ fn write_strokes(bytes: &[u8], out: &mut [i32])
 }
 
 // Reads a drawing and writes its strokes in order, four numbers each.
+// Its statement is `ReadDrawing`, specs/Drawings.antt.
 pub fn read_drawing(bytes: &[u8], out: &mut [i32]) -> DrawingAnswer
     ensures { λ r. ⌜ ReadDrawing (now (bytes .entry)) r (now (out .entry)) (now (out .exit)) ⌝ }
 {

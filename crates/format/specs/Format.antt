@@ -1,4 +1,5 @@
 -- The bytes of a drawing file: a head with the count of bytes, the version and the window, then records.
+-- A function of src/ gives what the definition of its name says: `head_fault` gives `headFault`, and so on.
 --   numberAt bs at   the number in the four bytes from `at` on, big-endian
 --   floatAt bs at    the f32 in the four bytes from `at` on
 --   windowAt bs      the window of the head, in millimetres

@@ -2,8 +2,8 @@
 --   Divides g z           z is a multiple of g
 --   GreatestCommon a b g  what divides g is what divides both a and b
 --   Lowest f              the denominator of f is positive, and only 1 divides both its numbers
---   LowestOf n d f        f is n/d in lowest terms
---   lessThan f g          f is less than g, by the cross products
+--   LowestOf n d f        what `lowest_small` and `lowest_signed` promise: f is n/d in lowest terms
+--   lessThan f g          what `less` answers: whether f is less than g, by the cross products
 --   Comparable f g        both cross products of f and g fit 64 bits
 use mathlib.Core.Path.{_≡_}
 use mathlib.Core.Bool.{Bool}

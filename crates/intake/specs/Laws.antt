@@ -1,4 +1,4 @@
--- Laws of the intake, proved in proofs/Theorems.antt: numbers of the table go to millimetres and come back as they were.
+-- Laws of the intake, proved in proofs/Theorems.antt: the table's numbers go to millimetres and come back the same.
 --   Back g a             g is a number of the table, and a what `to_millimetres` answers for it
 --   PointThereAndBack    of a point, by `to_millimetres` for each number and `point_to_grid`
 --   WindowThereAndBack   of a window, by `to_millimetres` for each number and `window_to_grid`
@@ -21,5 +21,7 @@ PointThereAndBack = (x y : ℤ) (a b : BackAnswer) (p : PointAnswer) → Back x 
     → PointToGrid (record { x = a .mm; y = b .mm }) p → p ≡ record { number = 0; place = 0; x = x; y = y }
 
 abbrev pub WindowThereAndBack : Type 0
-WindowThereAndBack = (w : Window) (l b r t : BackAnswer) (p : WindowAnswer) → Back (w .left) l → Back (w .bottom) b → Back (w .right) r → Back (w .top) t
-    → WindowToGrid (record { left = l .mm; bottom = b .mm; right = r .mm; top = t .mm }) p → p ≡ record { number = 0; place = 0; window = w }
+WindowThereAndBack = (w : Window) (l b r t : BackAnswer) (p : WindowAnswer)
+    → Back (w .left) l → Back (w .bottom) b → Back (w .right) r → Back (w .top) t
+    → WindowToGrid (record { left = l .mm; bottom = b .mm; right = r .mm; top = t .mm }) p
+    → p ≡ record { number = 0; place = 0; window = w }

@@ -9,10 +9,11 @@
 --   pointFault x y      what is refused in a point whose numbers became x and y: the first faulty one decides, with its index as the place
 --   refusedPoint r      the answer that refuses by r: every other field is 0
 --   pointAnswer x y     the answer for a point whose numbers became x and y
---   PointToGrid p a     a is the answer for the point p
---   windowFault, refusedWindow, windowAnswer, WindowToGrid   the same for a window
+--   PointToGrid p a     what `intake::point_to_grid` promises: a is the answer for the point p
+--   windowFault, refusedWindow, windowAnswer   the same for a window
+--   WindowToGrid w a    what `intake::window_to_grid` promises: a is the answer for the window w
 --   InMillimetres g x   x is the f32 that is exactly g / 32
---   ToMillimetres g a   a is the answer for the way back from g
+--   ToMillimetres g a   what `intake::to_millimetres` promises: a is the answer for the way back from g
 use mathlib.Core.Path.{_≡_}
 use mathlib.Core.Bool.{Bool, true, false, not}
 use mathlib.Core.List.{[], _∷_}
@@ -68,6 +69,7 @@ pointAnswer x y =
     then record { number = 0; place = 0; x = x .grid; y = y .grid }
     else refusedPoint (pointFault x y)
 
+-- Each number is taken by itself; the answer is a function of what they became, in which the first faulty one decides.
 pub record PointToGrid (p : PointMm) (a : PointAnswer) : Type 0 where
   pub x : Coordinate
   pub y : Coordinate
@@ -87,6 +89,7 @@ windowAnswer left bottom right top =
     then record { number = 0; place = 0; window = record { left = left .grid; bottom = bottom .grid; right = right .grid; top = top .grid } }
     else refusedWindow (windowFault left bottom right top)
 
+-- As for a point, with four numbers. Nothing is said of the area: that is the clipping call's.
 pub record WindowToGrid (w : WindowMm) (a : WindowAnswer) : Type 0 where
   pub left : Coordinate
   pub bottom : Coordinate
@@ -104,6 +107,7 @@ pub record InMillimetres (g : ℤ) (x : Float) : Type 0 where
   pub single : T (fits binary32 x)
   pub exact : HasValue x (not (nonNeg g)) (natAbs g) 32
 
+-- No rounding is named, as there is none: g / 32 is an f32, and its exact value is what is asked for.
 pub data ToMillimetres : ℤ → BackAnswer → Type 0 where
   done : {g : ℤ} {x : Float} → onTable g ≡ true → InMillimetres g x → ToMillimetres g (record { number = 0; place = 0; mm = x })
   refused : {g : ℤ} → onTable g ≡ false → ToMillimetres g (record { number = numberOff; place = 0; mm = fin false 0 (pos 0) })

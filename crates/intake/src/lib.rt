@@ -92,6 +92,7 @@ fn refused_point(number: u8, place: usize) -> PointAnswer
 }
 
 // A point's numbers are taken in order, and the first faulty one decides.
+// Its statement is `PointToGrid`, specs/Millimetres.antt.
 pub fn point_to_grid(p: PointMm) -> PointAnswer
     ensures { λ r. ⌜ PointToGrid p r ⌝ }
 {
@@ -128,6 +129,7 @@ fn refused_window(number: u8, place: usize) -> WindowAnswer
 }
 
 // The same for the four numbers of a window. Its area is not tested here.
+// Its statement is `WindowToGrid`, specs/Millimetres.antt.
 pub fn window_to_grid(w: WindowMm) -> WindowAnswer
     ensures { λ r. ⌜ WindowToGrid w r ⌝ }
 {
@@ -160,6 +162,7 @@ pub fn window_to_grid(w: WindowMm) -> WindowAnswer
 }
 
 // A grid number in millimetres, exactly.
+// Its statement is `ToMillimetres`, specs/Millimetres.antt.
 pub fn to_millimetres(g: i32) -> BackAnswer
     ensures { λ r. ⌜ ToMillimetres g r ⌝ }
 {

@@ -3,7 +3,7 @@
 --   InSpan s n d   n/d lies in the span s
 --   ProperSpan s   s lies in 0 to 1, unless it is empty, and its denominators are positive
 --   Sized A s      its numbers are not above A
---   SpanCut p q s r   r is what of s has p·t ≤ q, with numbers no larger than those of s, p and q
+--   SpanCut p q s r   what `cut` promises: r is what of s has p·t ≤ q, with numbers no larger than those of s, p and q
 --   SpanOf A K s   s is proper, its numbers are not above A, and its fractions are those that are kept
 use Prim.Native.Nat.{ℕ, _≤_}
 use lib.IntN.{ℤ, pos, _*ℤ_}

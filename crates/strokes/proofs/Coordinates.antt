@@ -61,7 +61,8 @@ module _ {lo hi a b n d : ℤ} where
   pub below-high : KeepsCoordinate lo hi a b n d → ((b -ℤ a) *ℤ n) ≤ℤ ((hi -ℤ a) *ℤ d)
   below-high k = ge (hi ∷ a ∷ b ∷ n ∷ d ∷ []) ((B ⊖ A) ⊗ N) ((L ⊖ A) ⊗ D) (le X (L ⊗ D) (k .below)) tt
 
-  pub both-sides : (negℤ (b -ℤ a) *ℤ n) ≤ℤ ((a -ℤ lo) *ℤ d) → ((b -ℤ a) *ℤ n) ≤ℤ ((hi -ℤ a) *ℤ d) → KeepsCoordinate lo hi a b n d
+  pub both-sides : (negℤ (b -ℤ a) *ℤ n) ≤ℤ ((a -ℤ lo) *ℤ d) → ((b -ℤ a) *ℤ n) ≤ℤ ((hi -ℤ a) *ℤ d)
+      → KeepsCoordinate lo hi a b n d
   both-sides l h = record {
     above = ge (lo ∷ a ∷ b ∷ n ∷ d ∷ []) (L ⊗ D) X (le (neg (B ⊖ A) ⊗ N) ((A ⊖ L) ⊗ D) l) tt;
     below = ge (hi ∷ a ∷ b ∷ n ∷ d ∷ []) X (L ⊗ D) (le ((B ⊖ A) ⊗ N) ((L ⊖ A) ⊗ D) h) tt;
@@ -74,7 +75,8 @@ pub record CutAcross (lo hi a b : ℤ) (s r : Span) : Type 0 where
   pub part : (n d : ℤ) → pos 0 <ℤ d → InSpan r n d → InSpan s n d
   pub between : (n d : ℤ) → pos 0 <ℤ d → InSpan r n d → KeepsCoordinate lo hi a b n d
 
-pub cut-across : {lo hi a b : ℤ} {s m r : Span} → SpanCut (negℤ (b -ℤ a)) (a -ℤ lo) s m → SpanCut (b -ℤ a) (hi -ℤ a) m r → Sized 32766 r → CutAcross lo hi a b s r
+pub cut-across : {lo hi a b : ℤ} {s m r : Span}
+    → SpanCut (negℤ (b -ℤ a)) (a -ℤ lo) s m → SpanCut (b -ℤ a) (hi -ℤ a) m r → Sized 32766 r → CutAcross lo hi a b s r
 cut-across f g z = record {
   proper = g .proper;
   sized = z;

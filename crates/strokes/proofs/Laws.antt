@@ -1,4 +1,5 @@
--- The laws of specs/Laws.antt: a rounded point of a kept fraction is inside, and the four conditions are those of the two coordinates.
+-- The laws of specs/Laws.antt: a rounded point of a kept fraction is inside, and the four conditions are those of the
+-- two coordinates.
 use mathlib.Core.Path.{_≡_, refl, sym, ap, _∙_}
 use mathlib.Core.Bool.{Bool, true, false}
 use borrow.Author.Tests.{eqb-true, eqb-false}
@@ -26,7 +27,8 @@ clipped-inside p e =
 pub stays-inside : StaysInside
 stays-inside w s a p e = go (eqb (strokeCallRefusal w s .number) 0) refl
   where
-    go : (b : Bool) → eqb (strokeCallRefusal w s .number) 0 ≡ b → InClosedWindow w (a .ax) (a .ay) × InClosedWindow w (a .bx) (a .by)
+    go : (b : Bool) → eqb (strokeCallRefusal w s .number) 0 ≡ b
+        → InClosedWindow w (a .ax) (a .ay) × InClosedWindow w (a .bx) (a .by)
     go true t = clipped-inside (p .done (eqb-true (strokeCallRefusal w s .number) 0 t)) e
     go false t =
         let r = p .refused (eqb-false (strokeCallRefusal w s .number) 0 t) in

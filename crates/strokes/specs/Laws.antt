@@ -1,4 +1,4 @@
--- Laws of the stroke calls on a rectangle. Each is a sentence over every window and every stroke, proved in proofs/Laws.antt.
+-- Laws of the stroke calls on a rectangle, over every window and every stroke; proved in proofs/Laws.antt.
 --   InClosedWindow w x y   the grid point (x, y) lies in the window or on its border
 --   StaysInside       the rounded points of a kept stroke never leave the window
 --   FourConditions    a fraction from 0 to 1 is kept exactly where it satisfies p·t ≤ q for each of the four sides

@@ -1,6 +1,6 @@
 -- A side of a window as a condition on a stroke.
 --   dx s, dy s               how far the stroke goes in x and in y
---   sideP s k, sideQ w s k   the p and the q of the side k: the stroke's point at t is inside the side or on it where p·t ≤ q
+--   sideP s k, sideQ w s k   the p and the q of the side k: at t the stroke is inside the side or on it where p·t ≤ q
 use lib.IntN.{ℤ, negℤ, _-ℤ_}
 use Rattle.grid.specs.declared.Stroke.{Stroke}
 use Rattle.grid.specs.declared.Window.{Window}

@@ -5,7 +5,7 @@
 --   blank r                refused by r, or missed where r is none: not kept, fractions 0/1, points 0
 --   PointAt s f x y        (x, y) is the stroke's point at the fraction f, each coordinate rounded to the grid
 --   Clipped w s a          a is right for a window and a stroke in which nothing is refused
---   Clipping w s a         a is right, refusals included
+--   Clipping w s a         what `strokes::liang_barsky` promises: a is right, refusals included
 use mathlib.Core.Path.{_≡_}
 use mathlib.Core.Bool.{true, false}
 use mathlib.Core.List.{[], _∷_}
@@ -57,6 +57,7 @@ pub record Clipped (w : Window) (s : Stroke) (a : StrokeAnswer) : Type 0 where
   pub finish : a .kept ≡ true → PointAt s (a .t1) (a .bx) (a .by)
   pub missed : a .kept ≡ false → a ≡ blank none
 
+-- What is kept is said of points and not of a rule's steps, so that every engine can promise it, and then they agree.
 pub record Clipping (w : Window) (s : Stroke) (a : StrokeAnswer) : Type 0 where
   pub refused : (strokeCallRefusal w s .number ≡ 0 → ⊥) → a ≡ blank (strokeCallRefusal w s)
   pub done : strokeCallRefusal w s .number ≡ 0 → Clipped w s a

@@ -117,6 +117,7 @@ fn crossing(w: Window, s: Stroke) -> StrokeAnswer
 }
 
 // A stroke against a rectangle. What is in a window on the table is on the table, so that a stroke inside is looked at once.
+// Its statement is `Clipping`, specs/Strokes.antt.
 pub fn liang_barsky(w: Window, s: Stroke) -> StrokeAnswer
     ensures { λ r. ⌜ Clipping w s r ⌝ }
 {

@@ -1,4 +1,5 @@
--- The law of specs/Laws.antt: the two calls refuse alike, and a point lies in the rectangle exactly when it lies in the ring of its four corners.
+-- The law of specs/Laws.antt: the two calls refuse alike, and a point lies in the rectangle exactly when it lies in
+-- the ring of its four corners.
 use mathlib.Core.Path.{_≡_, refl, sym, ap, _∙_}
 use mathlib.Core.Bool.{Bool, true, false}
 use mathlib.Core.Logic.{_↔_}
@@ -7,10 +8,9 @@ use lib.Dec.{eqb}
 use lib.IntN.{ℤ}
 use Rattle.corners.specs.Corners.{cyrusBeckRefusal}
 use Rattle.corners.specs.declared.CornerAnswer.{CornerAnswer}
-use Rattle.corners.proofs.Rectangles.{KeepsInWindow, same-refusal, rectangle}
+use Rattle.corners.proofs.Rectangles.{KeepsInWindow, Alike, same-refusal, rectangle}
 use Rattle.grid.specs.declared.Stroke.{Stroke}
 use Rattle.grid.specs.declared.Window.{Window}
-use Rattle.grid.specs.Refusals.{windowOff}
 use Rattle.grid.proofs.Refusals.{window-on-table}
 use Rattle.spans.proofs.Parts.{part-unique}
 use Rattle.strokes.specs.Strokes.{Keeps, strokeCallRefusal}
@@ -28,8 +28,7 @@ pub rectangle-as-corners : RectangleAsCorners
 unfolding strokeCallRefusal
 rectangle-as-corners w s zs a b over k h p = go (eqb (strokeCallRefusal w s .number) 0) refl
   where
-    same : (cyrusBeckRefusal zs s .number ≡ strokeCallRefusal w s .number)
-        × ((cyrusBeckRefusal zs s .number ≡ windowOff → ⊥) → cyrusBeckRefusal zs s .place ≡ strokeCallRefusal w s .place)
+    same : Alike (cyrusBeckRefusal zs s) (strokeCallRefusal w s)
     same = same-refusal k s over
 
     go : (c : Bool) → eqb (strokeCallRefusal w s .number) 0 ≡ c → SameAnswer a b
@@ -37,15 +36,23 @@ rectangle-as-corners w s zs a b over k h p = go (eqb (strokeCallRefusal w s .num
         let z = eqb-true (strokeCallRefusal w s .number) 0 t in
         let c = h .done (same .0 ∙ z) in
         let d = p .done z in
-        let q = part-unique (rectangle (window-on-table w (nothing-refused w s z .0)) k (keeps-same w s) (c .part)) (d .part) in
-        record { number = c .number ∙ sym (d .number); place = λ _. c .place ∙ sym (d .place); kept = q .0; t0 = q .1; t1 = q .2 }
+        let on = window-on-table w (nothing-refused w s z .0) in
+        let q = part-unique (rectangle on k (keeps-same w s) (c .part)) (d .part) in
+        record {
+          number = c .number ∙ sym (d .number);
+          place = λ _. c .place ∙ sym (d .place);
+          kept = q .0;
+          t0 = q .1;
+          t1 = q .2;
+        }
     go false t =
         let n = eqb-false (strokeCallRefusal w s .number) 0 t in
         let c = h .refused (λ z. n (sym (same .0) ∙ z)) in
         let d = p .refused n in
+        let number = ap (λ (x : CornerAnswer). x .number) c in
         record {
-          number = ap (λ (x : CornerAnswer). x .number) c ∙ same .0 ∙ sym (ap (λ (x : StrokeAnswer). x .number) d);
-          place = λ off. ap (λ (x : CornerAnswer). x .place) c ∙ same .1 (λ e. off (ap (λ (x : CornerAnswer). x .number) c ∙ e))
+          number = number ∙ same .0 ∙ sym (ap (λ (x : StrokeAnswer). x .number) d);
+          place = λ off. ap (λ (x : CornerAnswer). x .place) c ∙ same .1 (λ e. off (number ∙ e))
               ∙ sym (ap (λ (x : StrokeAnswer). x .place) d);
           kept = ap (λ (x : CornerAnswer). x .kept) c ∙ sym (ap (λ (x : StrokeAnswer). x .kept) d);
           t0 = ap (λ (x : CornerAnswer). x .t0) c ∙ sym (ap (λ (x : StrokeAnswer). x .t0) d);

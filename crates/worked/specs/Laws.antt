@@ -1,9 +1,10 @@
 -- A law between two calls, proved in proofs/Agreement.antt.
---   SameAnswer a b       `corners::cyrus_beck` answers by a what `strokes::liang_barsky` answers by b, which also has points. The place of 2 is the
---                        index in the numbers that a call was given, eight for four corners and four for a rectangle, so that it may differ
---   RectangleAsCorners   a rectangle given as its four corners, counterclockwise from any, gives the same answer: what is refused, what is kept.
---                        One that is turned over has the corners of the rectangle with its sides exchanged, counterclockwise; the one call
---                        refuses it, and the other takes them
+--   SameAnswer a b       `corners::cyrus_beck` answers by a what `strokes::liang_barsky` answers by b, without points.
+--                        The place of 2 is an index in the numbers that the call was given, eight for four corners and
+--                        four for a rectangle, and may differ
+--   RectangleAsCorners   a rectangle given as its four corners, counterclockwise from any, has the same answer: the
+--                        same refusal, the same fractions. Left out is a rectangle that is turned over: as it stands
+--                        it is refused by 3, while its corners, counterclockwise all the same, are a window
 use mathlib.Core.Path.{_≡_}
 use mathlib.Core.List.{List}
 use lib.IntN.{ℤ}
@@ -24,5 +25,5 @@ pub record SameAnswer (a : CornerAnswer) (b : StrokeAnswer) : Type 0 where
   pub t1 : a .t1 ≡ b .t1
 
 abbrev pub RectangleAsCorners : Type 0
-RectangleAsCorners = (w : Window) (s : Stroke) (zs : List ℤ) (a : CornerAnswer) (b : StrokeAnswer) → (TurnedOver w → ⊥) → RectangleCorners w zs
-    → CyrusBeck zs s a → Clipping w s b → SameAnswer a b
+RectangleAsCorners = (w : Window) (s : Stroke) (zs : List ℤ) (a : CornerAnswer) (b : StrokeAnswer)
+    → (TurnedOver w → ⊥) → RectangleCorners w zs → CyrusBeck zs s a → Clipping w s b → SameAnswer a b
