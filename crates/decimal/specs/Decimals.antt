@@ -8,7 +8,7 @@
 --   withMinus s text     text after a minus where s is true
 --   Decimal text s n k   text is such a number with its sign, negative where s is true
 --   bitsOf s n k         the bits of the f32 nearest to n / 10^k with that sign, halves to the even one (`lib.Ieee.round`)
---   Reads text r         r is what text is read as: a number's bits, or nothing where it is no number
+--   Reads text r         what `decimal::read` promises: r is what text is read as: a number's bits, or nothing where it is no number
 use mathlib.Core.Path.{_≡_}
 use mathlib.Core.Bool.{Bool, true, _&&_}
 use mathlib.Core.List.{List, [], _∷_, _++_}

@@ -1,6 +1,7 @@
 -- The listing of a drawing.
 --   refusalLine n p      the line of a refusal
---   Listing bytes text   text is the listing of the drawing whose bytes these are: a refusal's line alone, or the strip, the kept strokes and their count
+--   Listing bytes text   what `list` promises to put on its page: text is the listing of the drawing whose bytes these are, a refusal's line
+--                        alone, or the strip, the kept strokes and their count
 use mathlib.Core.List.{List, _++_}
 use Prim.Native.Nat.{ℕ}
 use Rattle.text.specs.Pages.{ascii, refusal}

@@ -1,5 +1,5 @@
 -- The lowest corner of a ring, of those the leftmost: where it stands, how a walk comes there, and the ring started at it.
---   LowestIn r k    of the corners of the ring r none comes before that at place k
+--   LowestIn r k    what `lowest_corner` promises of its answer k: of the corners of the ring r none comes before that at place k
 --   Forward r k     the walk down from the first corner of r forward ends at place k: at the lowest corner, or at the first, where the second does not come before it
 --   startedAt r k   the ring r, started at place k
 use mathlib.Core.List.{List, _++_}

@@ -14,7 +14,7 @@
 --   refusedOutline r       the answer that refuses by r: every other field is 0
 --   gaveOutline ns xs      the answer where xs is given and the passes left as many corners as ns says
 --   OutlineDone w o zs a before after   the same with the output before and after the call: the list is given, or has no room
---   Outline w o zs a before after   the promise of `clip_outline(w, o, zs, out)`, with the output before and after, refusals included
+--   Outline w o zs a before after   what `outlines::clip_outline` promises, with the output before and after, refusals included
 use mathlib.Core.Path.{_≡_}
 use mathlib.Core.List.{List, [], _∷_}
 use mathlib.Core.Logic.{_↔_}

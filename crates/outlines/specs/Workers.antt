@@ -1,5 +1,5 @@
 -- What the workers behind the outline call promise each other.
---   GaveCounted w o zs c before after   the promise of `cut_in`: as many numbers as c counts are written where they have room, and they and
+--   GaveCounted w o zs c before after   what `cut_in` promises: as many numbers as c counts are written where they have room, and they and
 --                                       the counts of the passes are right
 use mathlib.Core.List.{List}
 use Prim.Native.Nat.{ℕ}

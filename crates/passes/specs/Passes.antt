@@ -5,7 +5,7 @@
 --                              leave of the outline
 --   noCorners                  the counts of four passes, where no area is left
 --   noArea                     what is left then: no place, and no corners
---   Ran w o zs m l             the promise of `run`: one pass a side, in the order o, leaves of the outline zs the ring at l's places in m, and
+--   Ran w o zs m l             what `run` promises: one pass a side, in the order o, leaves of the outline zs the ring at l's places in m, and
 --                              each pass as many corners as l counts; or no area is left
 use mathlib.Core.Path.{_≡_}
 use mathlib.Core.Bool.{Bool, false}

@@ -1,6 +1,6 @@
 -- The picture of a drawing.
 --   picture w zs n xs k   the picture of a drawing that is cut: its strip w, the numbers zs of its n strokes, and the rows xs of the k that are kept
---   Picture bytes text    text is the picture of the drawing whose bytes these are, or of its refusal
+--   Picture bytes text    what `draw` promises to put on its page: text is the picture of the drawing whose bytes these are, or of its refusal
 use mathlib.Core.List.{List, _++_}
 use Prim.Native.Nat.{ℕ, _/_}
 use lib.IntN.{ℤ}

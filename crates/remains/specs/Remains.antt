@@ -1,6 +1,6 @@
 -- What one pass promises.
 --   Held w zs m p              the corners at the places p of the memory m are a ring, traced
---   Passed w zs k m p m′ p′    the promise of a pass (`first_pass::pass`, `later_pass::pass`): along the side k it leaves of the ring at p in m
+--   Passed w zs k m p m′ p′    what a pass promises (`first_pass::pass`, `later_pass::pass`): along the side k it leaves of the ring at p in m
 --                              that at p′ in m′, which is traced and ends at most one place later
 use mathlib.Core.List.{List}
 use Prim.Native.Nat.{suc, _≤_}

@@ -2,7 +2,8 @@
 --   WroteFraction n d k before after   n/d in lowest terms is written at place k, the numerator before the denominator
 --   Wrote r before after               the numbers of the corners r are written from the front, and the rest is as it was
 --   StartedNumbers r xs                xs are the numbers of the ring r, started
---   GaveRing r n before after          the n numbers of the ring r, started, are given into an output
+--   GaveRing r n before after          what `writing::give_ring` and `uncut::give_whole` promise: the n numbers of the ring r, started, are
+--                                      given into an output
 use mathlib.Core.Path.{_≡_}
 use mathlib.Core.List.{List, [], _∷_}
 use Prim.Native.Nat.{ℕ}
