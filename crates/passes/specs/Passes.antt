@@ -4,7 +4,7 @@
 --                              the outline does, and ns says how many corners each left on the way; what the others leave of it, all
 --                              leave of the outline
 --   noCorners                  the counts of four passes, where no area is left
---   noArea                     what is left then: no place, and no corners
+--   nothingLeft                what is left then: no place, and no corners
 --   Ran w o zs m l             what `run` promises: one pass a side, in the order o, leaves of the outline zs the ring at l's places in m, and
 --                              each pass as many corners as l counts; or no area is left
 use mathlib.Core.Path.{_≡_}
@@ -42,12 +42,12 @@ pub record Running (w : Window) (o : ℕ) (zs m : List ℤ) (p : Places) (k : �
 abbrev pub noCorners : List ℕ
 noCorners = 0 ∷ 0 ∷ 0 ∷ 0 ∷ []
 
-abbrev pub noArea : Leftover
-noArea = record { places = places 0 0; counts = noCorners }
+abbrev pub nothingLeft : Leftover
+nothingLeft = record { places = places 0 0; counts = noCorners }
 
 -- the ring does not depend on the order, but the counts on the way do: so a program that runs another order is refused
 pub data Ran (w : Window) (o : ℕ) (zs m : List ℤ) : Leftover → Type 0 where
-  no-area : Cuts (linesIn o w) (cornersOf zs) none → Ran w o zs m noArea
+  no-area : Cuts (linesIn o w) (cornersOf zs) none → Ran w o zs m nothingLeft
   area : {l : Leftover} → l .places .from ≤ l .places .to → 4 * l .places .to ≤ length m → 3 ≤ l .places .to - l .places .from
       → l .places .to - l .places .from ≤ length (cornersOf zs) + 4
       → Passes (linesIn o w) (cornersOf zs) (l .counts) (ringAt m (l .places))

@@ -10,7 +10,7 @@ ghost use Rattle.limits.specs.Sides.{windowOf};
 ghost use Rattle.crossings.specs.Outlines.{OutlineOnTable};
 ghost use Rattle.passes.specs.Orders.{sidesIn, sideIn, packed};
 ghost use Rattle.passes.specs.Turns.{InOrder, Underway, Completed};
-ghost use Rattle.passes.specs.Passes.{Cutting, noArea, Ran};
+ghost use Rattle.passes.specs.Passes.{Cutting, nothingLeft, Ran};
 
 // The sides in each of the 24 orders, the first in the lowest two bits: 0 left, 1 right, 2 bottom, 3 top.
 const SIDES: [u8; 24] = [
@@ -77,7 +77,7 @@ pub struct Leftover {
 
 // No area is left.
 fn nothing() -> Leftover
-    ensures { λ r. ⌜ r ≡ noArea ⌝ }
+    ensures { λ r. ⌜ r ≡ nothingLeft ⌝ }
 {
     Leftover {
         places: Places { from: 0, to: 0 },

@@ -35,7 +35,7 @@ use Rattle.rings.proofs.Passes.{meet}
 use Rattle.spans.proofs.Computed.{cutBy}
 use Rattle.strokes.specs.Strokes.{strokeCallRefusal}
 use Rattle.strokes.proofs.Computed.{acrossOf, spanOf, clippedOf, answerOf as strokeAnswerOf}
-use Rattle.worked.specs.Examples.{ten, zeros, Outcome, expected, Answered, Holds, StrokeHolds, OutlineHolds, table}
+use Rattle.worked.specs.Examples.{ten, zeros, Verdict, expected, Answered, Holds, StrokeHolds, OutlineHolds, table}
 
 -- a stroke: both calls' answers are the computed one
 stroke-holds : {s : Stroke} {r : CountedAnswer} → countedOf ten s ≡ r → StrokeHolds s r
@@ -47,7 +47,7 @@ stroke-holds {s} e =
     }
 
 -- an outline: in any order what is computed in order 0
-outline-holds : {zs : List ℤ} {e : Outcome}
+outline-holds : {zs : List ℤ} {e : Verdict}
     → ringAnswer (answerOf ten 0 zs 32) ≡ expected e .0 → outputOf ten 0 zs (zeros 32) ≡ expected e .1 → OutlineHolds zs e
 outline-holds {zs} {e} p q = record {
   in-order = λ o l. let c = answer-is ten o zs (zeros 32) in let k = is o l c in record {

@@ -1,21 +1,21 @@
 -- The worked examples A to L, all against the window 0 0 10 10, in one table.
 --   table         the examples in their order
 --   Example       a stroke, by its two ends, and what both stroke calls answer, the count of shortenings included;
---                 or an outline, by its corners, and its outcome
---   Outcome       a ring, by its corners; no area; or refused, by the refusal's number
+--                 or an outline, by its corners, and its verdict
+--   Verdict       a ring, by its corners; no area; or refused, by the refusal's number
 --   Holds e       the calls' statements hold of this answer and of no other; of an outline's, in every order
 --   TheOnly P x   P holds of x, and of nothing else
 --   StrokeHolds, OutlineHolds   what Holds says of a stroke, and of an outline
 --   ten           the window of all of them;  zeros n: a list of n zeros
 --   coordinates ps   the numbers of the points ps;  ringNumbers cs: those of a ring's corners, four a corner
---   expected e    the outline call's answer where e is the outcome, but for the counts of the passes, and its output: 32 numbers, zeros
+--   expected e    the outline call's answer where e is the verdict, but for the counts of the passes, and its output: 32 numbers, zeros
 --                 before the call
 --   Answered o zs r   r is such an answer to the outline zs in the order o, with its output. What the passes leave on the way depends
 --                 on the order, and is in no example
 -- The words of the table:
 --   + n, - n      the whole number n, and n below 0
 --   n over d      the fraction n/d
---   at x y        a ring's corner with whole coordinates
+--   corner x y    a ring's corner with whole coordinates
 --   kept t u p q n   both stroke calls' answer: kept from t to u, with the rounded points p and q, after n shortenings
 --   missedAfter n    both stroke calls' answer: missed, after n shortenings
 use mathlib.Core.Path.{_≡_}
@@ -40,14 +40,14 @@ pub record TheOnly {A : Type 0} (P : A → Type 0) (x : A) : Type 0 where
   pub holds : P x
   pub only : (y : A) → P y → y ≡ x
 
-pub data Outcome : Type 0 where
-  ring : List (Fraction × Fraction) → Outcome
-  no-area : Outcome
-  refused : ℕ → Outcome
+pub data Verdict : Type 0 where
+  ring : List (Fraction × Fraction) → Verdict
+  no-area : Verdict
+  refused : ℕ → Verdict
 
 pub data Example : Type 0 where
   stroke : ℤ × ℤ → ℤ × ℤ → CountedAnswer → Example
-  outline : List (ℤ × ℤ) → Outcome → Example
+  outline : List (ℤ × ℤ) → Verdict → Example
 
 abbrev pub ten : Window
 ten = record { left = pos 0; bottom = pos 0; right = pos 10; top = pos 10 }
@@ -69,7 +69,7 @@ abbrev pub ringNumbers : List (Fraction × Fraction) → List ℤ
 ringNumbers [] = []
 ringNumbers (c ∷ cs) = c .0 .num ∷ c .0 .den ∷ c .1 .num ∷ c .1 .den ∷ ringNumbers cs
 
-abbrev pub expected : Outcome → Answer × List ℤ
+abbrev pub expected : Verdict → Answer × List ℤ
 expected (ring cs) = (givesAll (ringNumbers cs), written (ringNumbers cs) (zeros 32))
 expected no-area = (givesAll [], zeros 32)
 expected (refused n) = (refusedBy (refuse n 0), zeros 32)
@@ -79,7 +79,7 @@ pub record Answered (o : ℕ) (zs : List ℤ) (r : Answer × List ℤ) : Type 0 
   pub promised : let a = r .0 in
       Outline ten o zs (record { number = a .number; place = a .place; count = a .count; passes = passes }) (zeros 32) (r .1)
 
-pub record OutlineHolds (zs : List ℤ) (e : Outcome) : Type 0 where
+pub record OutlineHolds (zs : List ℤ) (e : Verdict) : Type 0 where
   pub in-order : (o : ℕ) → o ≤ lastOrder → TheOnly (Answered o zs) (expected e)
 
 -- ---- both
@@ -100,8 +100,8 @@ infix 90 _over_
 abbrev pub _over_ : ℕ → ℕ → Fraction
 n over d = record { num = pos n; den = pos d }
 
-abbrev pub at : ℕ → ℕ → Fraction × Fraction
-at x y = (x over 1, y over 1)
+abbrev pub corner : ℕ → ℕ → Fraction × Fraction
+corner x y = (x over 1, y over 1)
 
 abbrev pub kept : Fraction → Fraction → ℕ × ℕ → ℕ × ℕ → ℕ → CountedAnswer
 kept t u p q n = record {
@@ -140,12 +140,12 @@ table =
     ∷ stroke (+ 11, + 10) (+ 11, + 10) (missedAfter 0)
     -- H
     ∷ outline ((+ 5, - 2) ∷ (+ 12, + 5) ∷ (+ 5, + 12) ∷ (- 2, + 5) ∷ [])
-    (ring (at 3 0 ∷ at 7 0 ∷ at 10 3 ∷ at 10 7 ∷ at 7 10 ∷ at 3 10 ∷ at 0 7 ∷ at 0 3 ∷ []))
+    (ring (corner 3 0 ∷ corner 7 0 ∷ corner 10 3 ∷ corner 10 7 ∷ corner 7 10 ∷ corner 3 10 ∷ corner 0 7 ∷ corner 0 3 ∷ []))
     -- I
     ∷ outline ((- 1, + 0) ∷ (+ 2, + 1) ∷ (- 1, + 2) ∷ [])
-    (ring ((0 over 1, 1 over 3) ∷ at 2 1 ∷ (0 over 1, 5 over 3) ∷ []))
+    (ring ((0 over 1, 1 over 3) ∷ corner 2 1 ∷ (0 over 1, 5 over 3) ∷ []))
     -- J
-    ∷ outline ((- 5, + 0) ∷ (+ 15, + 0) ∷ (+ 5, + 20) ∷ []) (ring (at 0 0 ∷ at 10 0 ∷ at 10 10 ∷ at 0 10 ∷ []))
+    ∷ outline ((- 5, + 0) ∷ (+ 15, + 0) ∷ (+ 5, + 20) ∷ []) (ring (corner 0 0 ∷ corner 10 0 ∷ corner 10 10 ∷ corner 0 10 ∷ []))
     -- K
     ∷ outline ((- 4, + 0) ∷ (+ 0, + 2) ∷ (- 4, + 4) ∷ []) no-area
     -- L
