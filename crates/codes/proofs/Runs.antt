@@ -18,8 +18,7 @@ use Rattle.grid.specs.declared.Stroke.{Stroke}
 use Rattle.grid.specs.declared.Window.{Window}
 use Rattle.grid.specs.Sides.{Side, left, right, bottom, top, placeOf, sideAt}
 use Rattle.spans.specs.Parts.{zeroth, unit}
-use Rattle.strokes.specs.Strokes.{Clipping, strokeCallRefusal}
-use Rattle.strokes.specs.declared.StrokeAnswer.{StrokeAnswer}
+use Rattle.strokes.specs.Strokes.{strokeCallRefusal}
 use Rattle.strokes.proofs.Unique.{clipping-unique}
 use Rattle.codes.specs.Codes.{past, code, decision}
 use Rattle.codes.specs.Laws.{NeverMoreThanFour, EnginesAgree}
@@ -127,13 +126,10 @@ module _ {w : Window} {s : Stroke} where
       let c = zero-or-not (strokeCallRefusal w s .number) (λ z. run-unique (p .done z) (q .done z)) (λ n. p .refused n ∙ sym (q .refused n)) in
       λ i. record { answer = a i; shortenings = c i }
 
-  pub same-two : {r : CountedAnswer} {a : StrokeAnswer} → CohenSutherland w s r → Clipping w s a → r .answer ≡ a
-  same-two p q = clipping-unique (p .clipping) q
-
 -- ---- the laws of the call
 pub never-more-than-four : NeverMoreThanFour
 never-more-than-four w s r p =
     zero-or-not (strokeCallRefusal w s .number) (λ z. whole-run-few (p .done z)) (λ n. omega (arith, p .refused n))
 
 pub engines-agree : EnginesAgree
-engines-agree w s r a p q = same-two p q
+engines-agree w s r a p q = clipping-unique (p .clipping) q

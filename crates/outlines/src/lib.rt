@@ -201,7 +201,7 @@ fn clipped(w: Window, order: u32, outline: &[i32], reach: Window, out: &mut [i32
 }
 
 // What a window keeps of a strictly convex outline, cut along the window's sides in one of the 24 orders. The outline is x y x y ..,
-// counterclockwise; the ring is written as four numbers a corner.
+// counterclockwise; the ring is written as four numbers a corner. Its statement is `Outline`, specs/Outlines.antt.
 pub fn clip_outline(w: Window, order: u32, outline: &[i32], out: &mut [i32]) -> OutlineAnswer
     ensures { λ r. ⌜ Outline w order (now (outline .entry)) r (now (out .entry)) (now (out .exit)) ⌝ }
 {

@@ -10,7 +10,7 @@ use Rattle.codes.specs.Codes.{code, decision}
 use Rattle.codes.specs.declared.CountedAnswer.{CountedAnswer}
 use Rattle.codes.specs.Steps.{CohenSutherland}
 use Rattle.codes.proofs.Computed.{meetingOf, stepOf, countOf, countedOf, countedOf-is, computed}
-use Rattle.codes.proofs.Runs.{same-two}
+use Rattle.codes.proofs.Runs.{engines-agree}
 use Rattle.convex.specs.Corners.{cornersOf, every, next, joins, isLeft, strictlyConvex}
 use Rattle.convex.specs.Corners.{rightCount, countRefusal, convexRefusal}
 use Rattle.fraction.specs.Fraction.{lessThan}
@@ -42,7 +42,7 @@ stroke-holds : {s : Stroke} {r : CountedAnswer} → countedOf ten s ≡ r → St
 stroke-holds {s} e =
     let c = subst (CohenSutherland ten s) e (countedOf-is ten s) in
     record {
-      liang-barsky = record { holds = c .clipping; only = λ a h. sym (same-two c h) };
+      liang-barsky = record { holds = c .clipping; only = λ a h. sym (engines-agree ten s _ a c h) };
       cohen-sutherland = record { holds = c; only = λ r h. computed h ∙ e };
     }
 

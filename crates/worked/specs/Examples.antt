@@ -8,10 +8,10 @@
 --   StrokeHolds, OutlineHolds   what Holds says of a stroke, and of an outline
 --   ten           the window of all of them;  zeros n: a list of n zeros
 --   coordinates ps   the numbers of the points ps;  ringNumbers cs: those of a ring's corners, four a corner
---   expected e    the outline call's answer where e is the verdict, but for the counts of the passes, and its output: 32 numbers, zeros
---                 before the call
---   Answered o zs r   r is such an answer to the outline zs in the order o, with its output. What the passes leave on the way depends
---                 on the order, and is in no example
+--   expected e    the outline call's answer where e is the verdict, but for the counts of the passes, and its output:
+--                 32 numbers, zeros before the call
+--   Answered o zs r   r is such an answer to the outline zs in the order o, with its output. What the passes leave on
+--                 the way depends on the order, and is in no example
 -- The words of the table:
 --   + n, - n      the whole number n, and n below 0
 --   n over d      the fraction n/d
@@ -77,7 +77,8 @@ expected (refused n) = (refusedBy (refuse n 0), zeros 32)
 pub record Answered (o : ℕ) (zs : List ℤ) (r : Answer × List ℤ) : Type 0 where
   pub passes : List ℕ
   pub promised : let a = r .0 in
-      Outline ten o zs (record { number = a .number; place = a .place; count = a .count; passes = passes }) (zeros 32) (r .1)
+      let b = record { number = a .number; place = a .place; count = a .count; passes = passes } in
+      Outline ten o zs b (zeros 32) (r .1)
 
 pub record OutlineHolds (zs : List ℤ) (e : Verdict) : Type 0 where
   pub in-order : (o : ℕ) → o ≤ lastOrder → TheOnly (Answered o zs) (expected e)
@@ -140,12 +141,14 @@ table =
     ∷ stroke (+ 11, + 10) (+ 11, + 10) (missedAfter 0)
     -- H
     ∷ outline ((+ 5, - 2) ∷ (+ 12, + 5) ∷ (+ 5, + 12) ∷ (- 2, + 5) ∷ [])
-    (ring (corner 3 0 ∷ corner 7 0 ∷ corner 10 3 ∷ corner 10 7 ∷ corner 7 10 ∷ corner 3 10 ∷ corner 0 7 ∷ corner 0 3 ∷ []))
+    (ring (corner 3 0 ∷ corner 7 0 ∷ corner 10 3 ∷ corner 10 7
+    ∷ corner 7 10 ∷ corner 3 10 ∷ corner 0 7 ∷ corner 0 3 ∷ []))
     -- I
     ∷ outline ((- 1, + 0) ∷ (+ 2, + 1) ∷ (- 1, + 2) ∷ [])
     (ring ((0 over 1, 1 over 3) ∷ corner 2 1 ∷ (0 over 1, 5 over 3) ∷ []))
     -- J
-    ∷ outline ((- 5, + 0) ∷ (+ 15, + 0) ∷ (+ 5, + 20) ∷ []) (ring (corner 0 0 ∷ corner 10 0 ∷ corner 10 10 ∷ corner 0 10 ∷ []))
+    ∷ outline ((- 5, + 0) ∷ (+ 15, + 0) ∷ (+ 5, + 20) ∷ [])
+    (ring (corner 0 0 ∷ corner 10 0 ∷ corner 10 10 ∷ corner 0 10 ∷ []))
     -- K
     ∷ outline ((- 4, + 0) ∷ (+ 0, + 2) ∷ (- 4, + 4) ∷ []) no-area
     -- L
