@@ -10,6 +10,7 @@
 --   coordinates ps   the numbers of the points ps;  ringNumbers cs: those of a ring's corners, four a corner
 --   expected e    the outline call's answer where e is the verdict, but for the counts of the passes, and its output:
 --                 32 numbers, zeros before the call
+--   withPasses ns a   the outline call's answer that is a but for the counts, which are ns
 --   Answered o zs r   r is such an answer to the outline zs in the order o, with its output. What the passes leave on
 --                 the way depends on the order, and is in no example
 -- The words of the table:
@@ -33,6 +34,7 @@ use Rattle.grid.specs.declared.Window.{Window}
 use Rattle.grid.specs.Calls.{written, refusedBy, givesAll}
 use Rattle.grid.specs.Refusals.{refuse, none}
 use Rattle.outlines.specs.Outlines.{lastOrder, Outline}
+use Rattle.outlines.specs.declared.OutlineAnswer.{OutlineAnswer}
 use Rattle.strokes.specs.Strokes.{Clipping, blank}
 
 -- `only` alone would hold of a statement that nothing satisfies, `holds` alone of one that leaves the answer open
@@ -74,11 +76,12 @@ expected (ring cs) = (givesAll (ringNumbers cs), written (ringNumbers cs) (zeros
 expected no-area = (givesAll [], zeros 32)
 expected (refused n) = (refusedBy (refuse n 0), zeros 32)
 
+abbrev pub withPasses : List ℕ → Answer → OutlineAnswer
+withPasses ns a = record { number = a .number; place = a .place; count = a .count; passes = ns }
+
 pub record Answered (o : ℕ) (zs : List ℤ) (r : Answer × List ℤ) : Type 0 where
   pub passes : List ℕ
-  pub promised : let a = r .0 in
-      let b = record { number = a .number; place = a .place; count = a .count; passes = passes } in
-      Outline ten o zs b (zeros 32) (r .1)
+  pub promised : Outline ten o zs (withPasses passes (r .0)) (zeros 32) (r .1)
 
 pub record OutlineHolds (zs : List ℤ) (e : Verdict) : Type 0 where
   pub in-order : (o : ℕ) → o ≤ lastOrder → TheOnly (Answered o zs) (expected e)
