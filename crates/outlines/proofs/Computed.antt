@@ -37,7 +37,7 @@ use Rattle.lowest.proofs.Lowest.{by-width}
 use Rattle.outlines.proofs.Passes.{lines-real, cuts-ring}
 use Rattle.outlines.proofs.Promised.{ring-passed, none-passed}
 use Rattle.outlines.proofs.Refusals.{nothing-refused}
-use Rattle.outlines.proofs.Theorems.{outline-unique}
+use Rattle.outlines.proofs.Theorems.{one-outline-answer}
 use Rattle.writing.proofs.Numbers.{numbersOf, numbers-of}
 
 -- ---- one pass
@@ -194,7 +194,7 @@ data Counted (hs : List Line) (r : List Point) (ns : List ℕ) : Option (List Po
 more-counted : {h : Line} {hs : List Line} {r s : List Point} {ns : List ℕ} {o : Option (List Point)} → OnePass h r s → 3 ≤ length s
     → Counted hs s ns o
     → Counted (h ∷ hs) r (length s ∷ ns) o
-more-counted p l (none-left c) = none-left (cut (p .rule) l c)
+more-counted p l (none-left c) = none-left (cut p l c)
 more-counted p l (ring-left q) = ring-left (pass p l q)
 
 counts-of : (hs : List Line) (r : List Point) → All Real hs → Ring r → Counted hs r (countsOf hs r) (cutsOf hs r)
@@ -205,7 +205,7 @@ counts-of (h ∷ hs) r (real ◂ a) g =
     let p = one-pass real g (cut-of h r) in
     by-test (leb 3 (length s)) (Counted (h ∷ hs) r (length s ∷ countsOf hs s))
     (λ e. let l = leb-true 3 (length s) e in more-counted p l (counts-of hs s a (p .promise .ring l)))
-    (λ e. none-left (gone (cut-of h r) (omega (arith, leb-false 3 (length s) e))))
+    (λ e. none-left (gone p (omega (arith, leb-false 3 (length s) e))))
 
 unfoldable pub passedOf : Option (List Point) → List ℕ → List ℕ
 passedOf none ns = noCorners
@@ -258,4 +258,4 @@ answer-is w o zs before = go (eqb (outlineRefusal w o zs .number) 0) refl
 
 pub computed : {w : Window} {o : ℕ} {zs : List ℤ} {a : OutlineAnswer} {before after : List ℤ} → Outline w o zs a before after
     → (a ≡ answerOf w o zs (length before)) × (after ≡ outputOf w o zs before)
-computed {w} {o} {zs} {before = before} h = outline-unique h (answer-is w o zs before)
+computed {w} {o} {zs} {a} {before} {after} h = one-outline-answer w o zs a _ before after _ h (answer-is w o zs before)

@@ -48,7 +48,7 @@ module _ {o : ℕ} (w : Window) (h : o ≤ 23) where
           corners = s;
           ring = l .ring;
           starts = st;
-          few = let a = cuts-length lines-real g c in let b = turned-length u in let e = lines-length o w h in omega arith;
+          few = let a = cuts-length c in let b = turned-length u in let e = lines-length o w h in omega arith;
           points = λ p _. (
             λ i. let k = l .points p .0 i in record { outline = k .0; window = lines-window p .0 (k .1) },
             λ k. l .points p .1 (k .outline, lines-window p .1 (k .window)),

@@ -15,15 +15,14 @@ use Rattle.grid.specs.declared.Refusal.{Refusal}
 use Rattle.grid.specs.declared.Window.{Window}
 use Rattle.grid.proofs.Calls.{answered-read, lent-unique, call-unique}
 use Rattle.outlines.specs.Outlines.{badOrder, outlineRefusal, OutlineGives, SmallDenominators, no-fraction, refusedOutline, gaveOutline, Outline}
-use Rattle.outlines.specs.Laws.{ringAnswer, AnyOrder, Denominators}
+use Rattle.outlines.specs.Laws.{ringAnswer, OneOutlineAnswer, AnyOrder, Denominators}
 use Rattle.outlines.specs.declared.OutlineAnswer.{OutlineAnswer}
 use Rattle.outlines.proofs.Refusals.{nothing-refused}
 use Rattle.outlines.proofs.Unique.{gives-unique}
 use Rattle.outlines.proofs.Promised.{clipped-unique}
 
-pub outline-unique : {w : Window} {o : ℕ} {zs : List ℤ} {a b : OutlineAnswer} {before after after′ : List ℤ}
-    → Outline w o zs a before after → Outline w o zs b before after′ → (a ≡ b) × (after ≡ after′)
-outline-unique {w} {o} {zs} {before = before} p q =
+pub one-outline-answer : OneOutlineAnswer
+one-outline-answer w o zs a b before after after′ p q =
     lent-unique
     (λ z x y.
     let t = nothing-refused w o zs z in

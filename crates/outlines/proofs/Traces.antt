@@ -128,4 +128,4 @@ module _ (R : Point → Point → Type 0) (Q : Point → Type 0) where
 
   pub cuts-traced : {hs : List Line} {r s : List Point} → All Traced hs → Edges R r → Cuts hs r (some s) → Edges R s
   cuts-traced a e no-more = e
-  cuts-traced (t ◂ a) e (cut c l m) = cuts-traced a (cut-traced t e c) m
+  cuts-traced (t ◂ a) e (cut c l m) = cuts-traced a (cut-traced t e (c .rule)) m

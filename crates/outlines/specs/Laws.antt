@@ -1,5 +1,6 @@
 -- What is so of every answer of the outline call.
 --   ringAnswer a   what the answer a says of the ring: all but the counts of the passes
+--   OneOutlineAnswer   two answers to one input are equal, and so are the outputs: every field, refusals too
 --   AnyOrder       in any two of the 24 orders the ring is the same, corner for corner
 --   Denominators   no denominator that the call wrote passes 32,766
 use mathlib.Core.Path.{_≡_}
@@ -14,6 +15,11 @@ use Rattle.outlines.specs.declared.OutlineAnswer.{OutlineAnswer}
 
 abbrev pub ringAnswer : OutlineAnswer → Answer
 ringAnswer a = record { number = a .number; place = a .place; count = a .count }
+
+abbrev pub OneOutlineAnswer : Type 0
+OneOutlineAnswer =
+    (w : Window) (o : ℕ) (zs : List ℤ) (a b : OutlineAnswer) (before after after′ : List ℤ)
+    → Outline w o zs a before after → Outline w o zs b before after′ → (a ≡ b) × (after ≡ after′)
 
 abbrev pub AnyOrder : Type 0
 AnyOrder =

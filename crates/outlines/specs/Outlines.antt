@@ -13,7 +13,8 @@
 --   OutlineClipped w o zs xs ns   xs and ns are right for a window, an order and an outline in which nothing is refused
 --   refusedOutline r       the answer that refuses by r: every other field is 0
 --   gaveOutline ns xs      the answer where xs is given and the passes left as many corners as ns says
---   OutlineDone w o zs a before after   the same with the output before and after the call: the list is given, or has no room
+--   OutlineDone w o zs a before after   the answer a and the output before and after the call, where nothing of these is refused:
+--                          numbers and counts that are right are given, or the numbers have no room
 --   Outline w o zs a before after   what `outlines::clip_outline` promises, with the output before and after, refusals included
 use mathlib.Core.Path.{_≡_}
 use mathlib.Core.List.{List, [], _∷_}
@@ -88,7 +89,7 @@ pub data ByPasses (w : Window) (o : ℕ) (zs : List ℤ) : List ℤ → List ℕ
 
 -- ---- the call
 -- `gives` says what the numbers are, whatever program finds them; `passes` how they are found. The ring is the same in every
--- order, but the corners on the way are not: their counts show a caller that the passes ran in the order that he gave
+-- order, but the corners on the way need not be: by their counts a caller sees in which order the passes ran
 pub record OutlineClipped (w : Window) (o : ℕ) (zs xs : List ℤ) (ns : List ℕ) : Type 0 where
   pub gives : OutlineGives w zs xs
   pub denominators : SmallDenominators xs

@@ -79,7 +79,7 @@ module _ {w : Window} {o : ℕ} {zs m m′ : List ℤ} {p p′ : Places} {k : �
   count = ring-length m′ (p′ .from) (p′ .to - p′ .from)
 
   pub run-gone : p′ .to - p′ .from < 3 → Cuts (linesIn o w) (cornersOf zs) none
-  run-gone h = none-goes-on (gone (c .pass .rule) (omega (arith, count)))
+  run-gone h = none-goes-on (gone (c .pass) (omega (arith, count)))
 
   pub run-more : 3 ≤ p′ .to - p′ .from → Running w o zs m′ p′ (k + 1) (ns ++ ((p′ .to - p′ .from) ∷ []))
   run-more h =
@@ -93,7 +93,7 @@ module _ {w : Window} {o : ℕ} {zs m m′ : List ℤ} {p p′ : Places} {k : �
         so-far = λ t ks d.
             transport (λ j. Passes (linesIn o w) (cornersOf zs) ((ap (λ (n : ℕ). ns ++ (n ∷ ks)) count ∙ sym (append-assoc ns ((p′ .to - p′ .from) ∷ []) ks)) j) t)
             (goes-on t (length (ringAt m′ p′) ∷ ks) (pass (c .pass) l (subst (λ (hs : List Line). Passes hs (ringAt m′ p′) ks t) next d)));
-        none-so-far = λ d. none-goes-on (cut (c .pass .rule) l (subst (λ (hs : List Line). Cuts hs (ringAt m′ p′) none) next d));
+        none-so-far = λ d. none-goes-on (cut (c .pass) l (subst (λ (hs : List Line). Cuts hs (ringAt m′ p′) none) next d));
       }
 
 -- the first k sides in an order, of which none cuts: each leaves all corners

@@ -1,8 +1,8 @@
 -- What the passes are given, and what all four promise.
 --   Cutting w zs cs            at the place of a side of the window w the list cs has false only where no corner of the outline zs lies outside it
 --   Running w o zs m p k ns    the first k sides in the order o have left of the outline zs the ring at p in m, which lies inside each line that
---                              the outline does, and ns says how many corners each left on the way; what the others leave of it, all
---                              leave of the outline
+--                              the outline does, and ns says how many corners each left on the way; what the remaining sides leave
+--                              of that ring, all four leave of the outline
 --   noCorners                  the counts of four passes, where no area is left
 --   nothingLeft                what is left then: no place, and no corners
 --   Ran w o zs m l             what `run` promises: one pass a side, in the order o, leaves of the outline zs the ring at l's places in m, and
@@ -45,7 +45,7 @@ noCorners = 0 ∷ 0 ∷ 0 ∷ 0 ∷ []
 abbrev pub nothingLeft : Leftover
 nothingLeft = record { places = places 0 0; counts = noCorners }
 
--- the ring does not depend on the order, but the counts on the way do: so a program that runs another order is refused
+-- the ring does not depend on the order, but the counts on the way may: by them it can be seen in which order the passes ran
 pub data Ran (w : Window) (o : ℕ) (zs m : List ℤ) : Leftover → Type 0 where
   no-area : Cuts (linesIn o w) (cornersOf zs) none → Ran w o zs m nothingLeft
   area : {l : Leftover} → l .places .from ≤ l .places .to → 4 * l .places .to ≤ length m → 3 ≤ l .places .to - l .places .from

@@ -2,7 +2,7 @@
 --   InOrder o t             the turn t is a place in the order o, and has the sides from there on packed
 --   Underway w o zs t m p cs   the passes up to that of the turn t in the order o have left of the outline zs the ring at p in m; how many
 --                              corners each left stands at the front of cs
---   Completed w zs t m p cs m′ l   in every order that is under way so, all passes have left l in m′
+--   Completed w zs t m p cs m′ l   in every order in which Underway holds of t, m, p and cs, all four passes have left l in m′
 use mathlib.Core.Path.{_≡_}
 use mathlib.Core.List.{List}
 use Prim.Native.Nat.{ℕ, _+_, _≤_}

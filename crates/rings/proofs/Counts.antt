@@ -14,7 +14,7 @@ one-pass real g c = record { rule = c; promise = one-cut real g c }
 
 pub passes-cuts : {hs : List Line} {r t : List Point} {ns : List ℕ} → Passes hs r ns t → Cuts hs r (some t)
 passes-cuts no-pass = no-more
-passes-cuts (pass p l q) = cut (p .rule) l (passes-cuts q)
+passes-cuts (pass p l q) = cut p l (passes-cuts q)
 
 pub counts-unique : {hs : List Line} {r r′ t t′ : List Point} {ns ns′ : List ℕ} → Alike r r′ → Passes hs r ns t → Passes hs r′ ns′ t′ → ns ≡ ns′
 counts-unique a no-pass no-pass = refl

@@ -10,12 +10,13 @@ use lib.ListN.{length}
 use Rattle.rings.specs.Lists.{All, ∅, _◂_, Turned}
 use Rattle.rings.specs.Points.{Point, Line, In, Real, Alike}
 use Rattle.rings.specs.Rings.{Ring, InRing, Starts}
-use Rattle.rings.specs.Cuts.{CutBy, Inside, Cuts, no-more, cut, gone, Remainder, NoArea, Outcome, area, no-area, Result, none-left, started, Agree, neither, both}
+use Rattle.rings.specs.Cuts.{OnePass, Inside, Cuts, no-more, cut, gone, Remainder, NoArea, Outcome, area, no-area, Result, none-left, started, Agree, neither, both}
 use Rattle.rings.proofs.Lists.{all-head, all-tail, all-map, edges-turned, turned-back}
 use Rattle.rings.proofs.Linear.{ccw-of-convex}
 use Rattle.rings.proofs.Fan.{corners-in}
 use Rattle.rings.proofs.Passes.{some-cut}
-use Rattle.rings.proofs.OneCut.{few-on, one-cut}
+use Rattle.rings.proofs.OneCut.{few-on}
+use Rattle.rings.proofs.Counts.{one-pass}
 use Rattle.rings.proofs.Unique.{same-points-alike}
 use Rattle.rings.proofs.Start.{turned-ring, start}
 
@@ -35,13 +36,13 @@ further h k (area l) =
 
 pub all-cuts : {hs : List Line} {r : List Point} {o : Option (List Point)} → All Real hs → Ring r → Cuts hs r o → Outcome hs r o
 all-cuts q g no-more = area (record { ring = g; points = λ p. (λ i. (i, ∅), λ k. k .0) })
-all-cuts (q ◂ qs) g (cut {h} c l m) = let k = one-cut q g c in further h (k .points l) (all-cuts qs (k .ring l) m)
-all-cuts (q ◂ qs) g (gone {h} c l) = no-area (record { line = h; real = q; flat = λ p i a. one-cut q g c .flat l p i (all-head a) })
+all-cuts (q ◂ qs) g (cut {h} c l m) = let k = c .promise in further h (k .points l) (all-cuts qs (k .ring l) m)
+all-cuts (q ◂ qs) g (gone {h} c l) = no-area (record { line = h; real = q; flat = λ p i a. c .promise .flat l p i (all-head a) })
 
 -- at most one corner more a line
-pub cuts-length : {hs : List Line} {r t : List Point} → All Real hs → Ring r → Cuts hs r (some t) → length t ≤ length r + length hs
-cuts-length q g no-more = omega arith
-cuts-length (q ◂ qs) g (cut c l m) = let k = one-cut q g c in let a = k .short in let b = cuts-length qs (k .ring l) m in omega arith
+pub cuts-length : {hs : List Line} {r t : List Point} → Cuts hs r (some t) → length t ≤ length r + length hs
+cuts-length no-more = omega arith
+cuts-length (cut c l m) = let a = c .promise .short in let b = cuts-length m in omega arith
 
 remainder : {hs : List Line} {r t : List Point} → Outcome hs r (some t) → Remainder hs r t
 remainder (area l) = l
@@ -50,16 +51,17 @@ flatness : {hs : List Line} {r : List Point} → Outcome hs r none → NoArea hs
 flatness (no-area n) = n
 
 -- ---- there is a result
-some-cuts : (hs : List Line) (r : List Point) → (o : Option (List Point)) × Cuts hs r o
-some-cuts [] r = (some r, no-more)
-some-cuts (h ∷ hs) r = let c = some-cut h r in go (c .0) (c .1) (decLe 3 (length (c .0))) (some-cuts hs (c .0))
+some-cuts : (hs : List Line) (r : List Point) → All Real hs → Ring r → (o : Option (List Point)) × Cuts hs r o
+some-cuts [] r q g = (some r, no-more)
+some-cuts (h ∷ hs) r (q ◂ qs) g = let c = some-cut h r in go (c .0) (one-pass q g (c .1)) (some-cuts hs (c .0) qs) (decLe 3 (length (c .0)))
   where
-    go : (s : List Point) → CutBy h r s → Dec (3 ≤ length s) → (o : Option (List Point)) × Cuts hs s o → (o : Option (List Point)) × Cuts (h ∷ hs) r o
-    go s c (yes l) m = (m .0, cut c l (m .1))
-    go s c (no l) m = (none, gone c (omega arith))
+    go : (s : List Point) → OnePass h r s → (Ring s → (o : Option (List Point)) × Cuts hs s o) → Dec (3 ≤ length s)
+        → (o : Option (List Point)) × Cuts (h ∷ hs) r o
+    go s c more (yes l) = let m = more (c .promise .ring l) in (m .0, cut c l (m .1))
+    go s c more (no l) = (none, gone c (omega arith))
 
 pub some-result : (hs : List Line) (r : List Point) → All Real hs → Ring r → (o : Option (List Point)) × Result hs r o
-some-result hs r q g = let c = some-cuts hs r in go (c .0) (c .1)
+some-result hs r q g = let c = some-cuts hs r q g in go (c .0) (c .1)
   where
     go : (o : Option (List Point)) → Cuts hs r o → (o : Option (List Point)) × Result hs r o
     go none c = (none, none-left c)

@@ -63,7 +63,7 @@ pass-join = passes.pass-join
 pub all-cuts : {hs : List Line} {r : List Point} {o : Option (List Point)} → All Real hs → Ring r → Cuts hs r o → Outcome hs r o
 all-cuts = orders.all-cuts
 
-pub cuts-length : {hs : List Line} {r t : List Point} → All Real hs → Ring r → Cuts hs r (some t) → length t ≤ length r + length hs
+pub cuts-length : {hs : List Line} {r t : List Point} → Cuts hs r (some t) → length t ≤ length r + length hs
 cuts-length = orders.cuts-length
 
 -- ---- one pass a line

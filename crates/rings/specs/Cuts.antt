@@ -6,12 +6,11 @@
 --   Added h u v s     s is what h adds between u and v: a crossing if they lie across h, else nothing
 --   Pass h u r z s    s is what h leaves of the walk from u, by way of r, to z, not counting z
 --   CutBy h r s       s is what h leaves of the closed list r
---   OneCut h r s      what one cut promises: of every s with CutBy h r s, where r is a ring and h is real
---   OnePass h r s     s is what one pass along h leaves of r: by the rule, and with what one cut promises
+--   OneCut h r s      what one cut promises of what it leaves; where r is a ring and h is real, it follows from CutBy
+--   OnePass h r s     s is what one pass along h leaves of r: by the rule, and as one cut promises
 --   Inside hs p       p lies inside each of the lines hs or on it
---   Cuts hs r o       o is what the lines hs in turn leave of r: none as soon as fewer than three corners are left
---   Passes hs r ns t  a pass along each of the lines hs in turn leaves the ring t of r; ns says how many corners each pass
---                     left, never fewer than three
+--   Cuts hs r o       o is what a pass along each of the lines hs in turn leaves of r: none as soon as one leaves fewer than three corners
+--   Passes hs r ns t  the same where a ring t is left in the end; ns says how many corners each pass left
 --   Remainder hs r t  t is a ring, of exactly the points of r that lie inside hs
 --   NoArea hs r       the points of r that lie inside hs all lie on one line
 --   Outcome hs r o    o is a ring, the remainder, or none and there is no area
@@ -87,8 +86,8 @@ Inside hs p = All (λ h. In h p) hs
 
 pub data Cuts : List Line → List Point → Option (List Point) → Type 0 where
   no-more : {r : List Point} → Cuts [] r (some r)
-  cut : {h : Line} {hs : List Line} {r s : List Point} {o : Option (List Point)} → CutBy h r s → 3 ≤ length s → Cuts hs s o → Cuts (h ∷ hs) r o
-  gone : {h : Line} {hs : List Line} {r s : List Point} → CutBy h r s → length s ≤ 2 → Cuts (h ∷ hs) r none
+  cut : {h : Line} {hs : List Line} {r s : List Point} {o : Option (List Point)} → OnePass h r s → 3 ≤ length s → Cuts hs s o → Cuts (h ∷ hs) r o
+  gone : {h : Line} {hs : List Line} {r s : List Point} → OnePass h r s → length s ≤ 2 → Cuts (h ∷ hs) r none
 
 -- the counts depend on the order of the lines, as the ring that is left in the end does not
 pub data Passes : List Line → List Point → List ℕ → List Point → Type 0 where

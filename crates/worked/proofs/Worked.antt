@@ -28,14 +28,15 @@ use Rattle.outlines.specs.Laws.{ringAnswer}
 use Rattle.outlines.specs.declared.OutlineAnswer.{OutlineAnswer}
 use Rattle.outlines.proofs.Theorems.{any-order}
 use Rattle.passes.specs.Orders.{sidesIn, linesIn}
-use Rattle.rings.specs.Lists.{All, ∅, _◂_}
+use Rattle.rings.specs.Lists.{∅, _◂_}
 use Rattle.rings.specs.Points.{value, through}
 use Rattle.rings.specs.Windows.{left-side, right-side, bottom-side, top-side}
 use Rattle.rings.proofs.Passes.{meet}
 use Rattle.spans.proofs.Computed.{cutBy}
 use Rattle.strokes.specs.Strokes.{strokeCallRefusal}
 use Rattle.strokes.proofs.Computed.{acrossOf, spanOf, clippedOf, answerOf as strokeAnswerOf}
-use Rattle.worked.specs.Examples.{ten, zeros, Verdict, expected, Answered, Holds, StrokeHolds, OutlineHolds, table}
+use Rattle.worked.specs.Examples.{ten, zeros, Verdict, expected, Answered, StrokeHolds, OutlineHolds, table}
+use Rattle.worked.specs.Laws.{Worked}
 
 -- a stroke: both calls' answers are the computed one
 stroke-holds : {s : Stroke} {r : CountedAnswer} → countedOf ten s ≡ r → StrokeHolds s r
@@ -62,7 +63,7 @@ outline-holds {zs} {e} p q = record {
         let k = any-order ten o 0 zs a (answerOf ten 0 zs 32) (zeros 32) after (outputOf ten 0 zs (zeros 32)) l (omega arith) h (answer-is ten 0 zs (zeros 32)) in
         (k .0 ∙ p, k .1 ∙ q)
 
-pub worked : All Holds table
+pub worked : Worked
 unfolding table countedOf countOf stepOf meetingOf code decision trailingZeros
     strokeCallRefusal strokeRefusal strokeAnswerOf clippedOf spanOf acrossOf cutBy lessThan roundedAt towards
     euclid lowestOf answerOf outputOf answeredBy roomRefusal written outlineOf passesOf passedOf countsOf ringOf cutsOf cutOf passOf

@@ -1,4 +1,5 @@
--- A law between two calls, proved in proofs/Agreement.antt.
+-- Laws over several calls, proved in proofs/Worked.antt and proofs/Agreement.antt.
+--   Worked               the worked examples A to L: each answer in the table satisfies the statements, and no other does
 --   SameAnswer a b       `corners::cyrus_beck` answers by a what `strokes::liang_barsky` answers by b, without points.
 --                        The place of 2 is an index in the numbers that the call was given, eight for four corners and
 --                        four for a rectangle, and may differ
@@ -16,6 +17,11 @@ use Rattle.grid.specs.declared.Window.{Window}
 use Rattle.grid.specs.Refusals.{windowOff}
 use Rattle.strokes.specs.Strokes.{Clipping}
 use Rattle.strokes.specs.declared.StrokeAnswer.{StrokeAnswer}
+use Rattle.rings.specs.Lists.{All}
+use Rattle.worked.specs.Examples.{Holds, table}
+
+abbrev pub Worked : Type 0
+Worked = All Holds table
 
 pub record SameAnswer (a : CornerAnswer) (b : StrokeAnswer) : Type 0 where
   pub number : a .number ≡ b .number

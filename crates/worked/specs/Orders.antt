@@ -1,8 +1,8 @@
 -- That the passes of an outline run in the order given can be seen: the ring is the same in every order, but the corners
 -- on the way are not.
 --   hexagon     an outline of which every order of the sides leaves other corners on the way
---   OrderSeen   no answer for the hexagon is right in two orders. So a program that runs another order than the one given
---               does not keep what `outlines::clip_outline` promises, whatever ring it gives
+--   OrderSeen   no answer for the hexagon is right in two orders. So a program that cuts it in another order than the one
+--               given, be it always order 0, does not keep what `outlines::clip_outline` promises, whatever ring it gives
 use mathlib.Core.Path.{_≡_}
 use mathlib.Core.List.{List, [], _∷_}
 use Prim.Native.Nat.{ℕ, _≤_}
