@@ -144,6 +144,14 @@ typedef struct {
     size_t count; /* how many numbers were written */
 } gerlyantu_answer;
 
+/* passes[k] is how many corners the k-th pass left, in the order asked for; without area all four are 0. */
+typedef struct {
+    uint8_t number;
+    size_t place;
+    size_t count; /* how many numbers were written */
+    uint8_t passes[4];
+} gerlyantu_outline_answer;
+
 typedef struct {
     uint8_t number;
     size_t place;
@@ -193,9 +201,13 @@ gerlyantu_corner_answer gerlyantu_cyrus_beck(const int32_t *corners, size_t leng
  * counterclockwise from its lowest corner, of those the leftmost, four numbers a corner: x and y as fractions in lowest terms, numerator before
  * denominator. A ring has at most four corners more than its outline, so 272 numbers are always room enough. Without area the call is done and
  * writes 0 numbers.
+ * passes tells how many corners each pass left, which may differ from order to order, as the ring does not. A side
+ * that cuts nothing off leaves as many corners as there were, so an outline that lies inside whole has its own count
+ * four times.
  * Refusals: 2 (index in the window), 3 (0), 4 (0), 5 for a length that is odd or not of 3 to 64 corners (0), 6 (index in the outline), 7 (0),
  * 8 (numbers needed). */
-gerlyantu_answer gerlyantu_clip_outline(gerlyantu_window w, uint32_t order, const int32_t *outline, size_t length, int32_t *out, size_t room);
+gerlyantu_outline_answer gerlyantu_clip_outline(
+    gerlyantu_window w, uint32_t order, const int32_t *outline, size_t length, int32_t *out, size_t room);
 
 /* ---- drawings */
 

@@ -15,6 +15,7 @@ struct Window { i32 left, bottom, right, top; };
 struct Stroke { i32 x1, y1, x2, y2; };
 struct Fraction { i64 num, den; };
 struct Answer { u8 number; usize place; usize count; };
+struct OutlineAnswer { u8 number; usize place; usize count; u8 passes[4]; };
 struct StrokeAnswer { u8 number; usize place; u8 kept; struct Fraction t0, t1; i32 ax, ay, bx, by; };
 struct CountedAnswer { struct StrokeAnswer answer; u32 shortenings; };
 struct CornerAnswer { u8 number; usize place; u8 kept; struct Fraction t0, t1; };
@@ -30,7 +31,8 @@ struct DrawingAnswer { u8 number; usize place; struct Window window; usize count
     struct CountedAnswer prefix##_cohen_sutherland(struct Window w, struct Stroke s); \
     struct Answer prefix##_batch(struct Window w, const i32 *strokes, usize count, i32 *out, usize room); \
     struct CornerAnswer prefix##_cyrus_beck(const i32 *corners, usize count, struct Stroke s); \
-    struct Answer prefix##_clip_outline(struct Window w, u32 order, const i32 *outline, usize count, i32 *out, usize room); \
+    struct OutlineAnswer \
+    prefix##_clip_outline(struct Window w, u32 order, const i32 *outline, usize count, i32 *out, usize room); \
     struct PointAnswer prefix##_point_to_grid(struct PointMm p); \
     struct WindowAnswer prefix##_window_to_grid(struct WindowMm w); \
     struct BackAnswer prefix##_to_millimetres(i32 g); \
@@ -39,8 +41,10 @@ struct DrawingAnswer { u8 number; usize place; struct Window window; usize count
 CALLS(gerlyantu)
 CALLS(tuned)
 // The same without the test of convexity: for outlines that are known to be strictly convex.
-struct Answer tuned_clip_convex(struct Window w, u32 order, const i32 *outline, usize count, i32 *out, usize room);
+struct OutlineAnswer
+tuned_clip_convex(struct Window w, u32 order, const i32 *outline, usize count, i32 *out, usize room);
 // The same by four passes that look at every corner, without a rectangle round the outline first.
-struct Answer tuned_clip_plainly(struct Window w, u32 order, const i32 *outline, usize count, i32 *out, usize room);
+struct OutlineAnswer
+tuned_clip_plainly(struct Window w, u32 order, const i32 *outline, usize count, i32 *out, usize room);
 
 #endif

@@ -3,7 +3,7 @@
 
 double cos(double), sin(double);
 
-typedef struct Answer OutlineCall(struct Window, u32, const i32 *, usize, i32 *, usize);
+typedef struct OutlineAnswer OutlineCall(struct Window, u32, const i32 *, usize, i32 *, usize);
 
 enum { OUTLINES = 2048, ROOM = 4 * 68 };
 enum Kind { WHOLE, CUT, OUTSIDE, KINDS };
@@ -89,22 +89,27 @@ static struct Outlines *outlines_of(usize all, usize n, int k) {
 static void run_outlines(const void *inputs, Call *call) {
     const struct Outlines *in = inputs;
     for (usize i = 0; i < in->many; i++) {
-        struct Answer a = ((OutlineCall *)call)(in->w[i], in->order[i], in->c[i], in->count, out[0], ROOM);
+        struct OutlineAnswer a = ((OutlineCall *)call)(in->w[i], in->order[i], in->c[i], in->count, out[0], ROOM);
         USED(a);
     }
+}
+
+// Whether two answers are the same in all fields, and so are the two outputs.
+static int alike(struct OutlineAnswer a, struct OutlineAnswer b) {
+    return a.number == b.number && a.place == b.place && a.count == b.count
+        && !memcmp(a.passes, b.passes, sizeof a.passes) && !memcmp(out[0], out[1], sizeof out[0]);
 }
 
 static void check_outline(struct Window w, u32 order, const i32 *c, usize count, usize room, int convex) {
     if (traced) return;
     for (usize i = 0; i < ROOM + 8; i++) out[0][i] = out[1][i] = 7000000 + (i32)i;
-    struct Answer a = gerlyantu_clip_outline(w, order, c, count, out[0], room), b = tuned_clip_outline(w, order, c, count, out[1], room);
-    check(a.number == b.number && a.place == b.place && a.count == b.count && !memcmp(out[0], out[1], sizeof out[0]), "an outline");
+    struct OutlineAnswer a = gerlyantu_clip_outline(w, order, c, count, out[0], room);
+    check(alike(a, tuned_clip_outline(w, order, c, count, out[1], room)), "an outline");
     if (!convex) return;
     OutlineCall *const untested[] = { tuned_clip_convex, tuned_clip_plainly };
     for (int k = 0; k < 2; k++) {
         for (usize i = 0; i < ROOM + 8; i++) out[1][i] = 7000000 + (i32)i;
-        b = untested[k](w, order, c, count, out[1], room);
-        check(a.number == b.number && a.place == b.place && a.count == b.count && !memcmp(out[0], out[1], sizeof out[0]), "a convex outline");
+        check(alike(a, untested[k](w, order, c, count, out[1], room)), "a convex outline");
     }
 }
 

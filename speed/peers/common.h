@@ -26,7 +26,7 @@ inline StrokeInput stroke_input(Window w, Stroke s) { return { w, s, gerlyantu_l
 
 inline std::vector<i32> ring(Window w, const std::vector<i32> &c) {
     std::vector<i32> out(4 * 68);
-    Answer a = gerlyantu_clip_outline(w, 0, c.data(), c.size(), out.data(), out.size());
+    OutlineAnswer a = gerlyantu_clip_outline(w, 0, c.data(), c.size(), out.data(), out.size());
     if (a.number != 0) { std::fprintf(stderr, "an input is refused\n"); std::exit(1); }
     out.resize(a.count);
     return out;
@@ -199,7 +199,7 @@ inline const std::vector<Edge> &edges() {
 
 inline std::string ours_at_edge(const Edge &e) {
     std::vector<i32> out(4 * 68);
-    Answer a = gerlyantu_clip_outline({ 0, 0, 10, 10 }, 0, e.c.data(), e.c.size(), out.data(), out.size());
+    OutlineAnswer a = gerlyantu_clip_outline({ 0, 0, 10, 10 }, 0, e.c.data(), e.c.size(), out.data(), out.size());
     if (a.number) return "refused " + std::to_string(a.number);
     return a.count ? std::to_string(a.count / 4) + " corners" : "no area";
 }

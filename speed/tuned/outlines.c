@@ -211,13 +211,27 @@ static inline void write_corners(const struct Corner *r, usize n, i32 *out) {
     }
 }
 
-// The outline as it is, from its lowest corner on.
-static inline struct Answer give_whole(const i32 *c, usize n, usize low, i32 *restrict out, usize room) {
-    if (UNLIKELY(room < 2 * n)) return (struct Answer){ 8, 2 * n, 0 };
+// One count of corners for all four passes.
+static inline void all_alike(u8 passes[4], usize corners) {
+    u32 four = (u32)corners * 0x01010101;
+    __builtin_memcpy(passes, &four, sizeof four);
+}
+
+static inline struct OutlineAnswer refused(u8 number, usize place) {
+    return (struct OutlineAnswer){ number, place, 0, { 0 } };
+}
+
+static inline struct OutlineAnswer no_area(void) { return refused(0, 0); }
+
+// The outline as it is, from its lowest corner on: every side leaves all its corners.
+static inline struct OutlineAnswer give_whole(const i32 *c, usize n, usize low, i32 *restrict out, usize room) {
+    if (UNLIKELY(room < 2 * n)) return refused(8, 2 * n);
     i32 *to = out;
     for (usize i = low; i < n; i += 2, to += 4) { to[0] = c[i]; to[1] = 1; to[2] = c[i + 1]; to[3] = 1; }
     for (usize i = 0; i < low; i += 2, to += 4) { to[0] = c[i]; to[1] = 1; to[2] = c[i + 1]; to[3] = 1; }
-    return (struct Answer){ 0, 0, 2 * n };
+    struct OutlineAnswer a = { 0, 0, 2 * n, { 0 } };
+    all_alike(a.passes, n / 2);
+    return a;
 }
 
 // Whether p lies lower than q, or as low and further left.
@@ -226,8 +240,12 @@ static inline i32 before(const struct Corner *p, const struct Corner *q) {
     return a < b || (a == b && (i64)p->x * q->dx < (i64)q->x * p->dx);
 }
 
-static struct Answer give(const struct Corner *r, usize n, i32 *restrict out, usize room) {
-    if (UNLIKELY(room < 4 * n)) return (struct Answer){ 8, 4 * n, 0 };
+// Writes the ring, and what the answer is to have beside the counts of the passes.
+static void give(struct OutlineAnswer *restrict a, const struct Corner *r, usize n, i32 *restrict out, usize room) {
+    if (UNLIKELY(room < 4 * n)) {
+        *a = refused(8, 4 * n);
+        return;
+    }
     const struct Corner *low = r;
     while (low + 1 < r + n && before(low + 1, low)) low++;
     if (low == r && before(r + n - 1, r))
@@ -235,64 +253,84 @@ static struct Answer give(const struct Corner *r, usize n, i32 *restrict out, us
     usize start = low - r;
     write_corners(low, n - start, out);
     write_corners(r, start, out + 4 * (n - start));
-    return (struct Answer){ 0, 0, 4 * n };
+    a->number = 0;
+    a->place = 0;
+    a->count = 4 * n;
 }
 
-static inline __attribute__((always_inline)) struct Answer
+static inline __attribute__((always_inline)) struct OutlineAnswer
 clip(struct Window w, u32 order, const i32 *c, usize n, i32 *restrict out, usize room, i32 tested) {
     if (!good_window(w)) {
         struct Refusal r = window_refusal(w);
-        return (struct Answer){ r.number, r.place, 0 };
+        return refused(r.number, r.place);
     }
-    if (UNLIKELY(order > 23)) return (struct Answer){ 4, 0, 0 };
-    if (UNLIKELY(n % 2 != 0 || n < 6 || n > 128)) return (struct Answer){ 5, 0, 0 };
+    if (UNLIKELY(order > 23)) return refused(4, 0);
+    if (UNLIKELY(n % 2 != 0 || n < 6 || n > 128)) return refused(5, 0);
     struct Extent e;
     if (tested) {
-        if (any_off(c, n)) return (struct Answer){ 6, first_off(c), 0 };
-        if (!strictly_convex(c, n, &e)) return (struct Answer){ 7, 0, 0 };
+        if (any_off(c, n)) return refused(6, first_off(c));
+        if (!strictly_convex(c, n, &e)) return refused(7, 0);
     } else {
         extent_of(c, n, &e);
         if (UNLIKELY(e.least_x < -FARTHEST || e.least_y < -FARTHEST || e.most_x > FARTHEST || e.most_y > FARTHEST))
-            return (struct Answer){ 6, first_off(c), 0 };
+            return refused(6, first_off(c));
     }
     u32 cutting = (e.least_x < w.left) | (e.most_x > w.right) << 1 | (e.least_y < w.bottom) << 2 | (e.most_y > w.top) << 3;
     if (cutting == 0) return give_whole(c, n, tested ? e.low : lowest_corner(c, n), out, room);
-    if (e.most_x <= w.left || e.least_x >= w.right || e.most_y <= w.bottom || e.least_y >= w.top) return (struct Answer){ 0, 0, 0 };
+    if (e.most_x <= w.left || e.least_x >= w.right || e.most_y <= w.bottom || e.least_y >= w.top) return no_area();
     struct Corner memory[72], *ring = memory;
     struct Job j = { { w.left, w.right, w.bottom, w.top }, c, n };
-    const u8 *sides = orders[order], *last = sides + 4;
-    while (!(cutting >> *sides & 1)) sides++;
-    usize left = first_pass(&j, *sides, ring);
+    const u8 *sides = orders[order];
+    usize k = 0;
+    while (!(cutting >> sides[k] & 1)) k++;
+    // each count goes where the caller finds it; the sides before the first pass left all corners
+    struct OutlineAnswer a;
+    all_alike(a.passes, n / 2);
+    usize left = first_pass(&j, sides[k], ring);
     for (;;) {
-        if (left < 3) return (struct Answer){ 0, 0, 0 };
-        if (++sides == last) break;
-        if (cutting >> *sides & 1) left = pass(&j, *sides, &ring, left);
+        if (left < 3) {
+            a = no_area();
+            return a;
+        }
+        a.passes[k] = (u8)left;
+        if (++k == 4) break;
+        if (cutting >> sides[k] & 1) left = pass(&j, sides[k], &ring, left);
     }
-    return give(ring, left, out, room);
+    give(&a, ring, left, out, room);
+    return a;
 }
 
-struct Answer tuned_clip_outline(struct Window w, u32 order, const i32 *c, usize n, i32 *restrict out, usize room) {
+struct OutlineAnswer
+tuned_clip_outline(struct Window w, u32 order, const i32 *c, usize n, i32 *restrict out, usize room) {
     return clip(w, order, c, n, out, room, 1);
 }
 
-struct Answer tuned_clip_convex(struct Window w, u32 order, const i32 *c, usize n, i32 *restrict out, usize room) {
+struct OutlineAnswer
+tuned_clip_convex(struct Window w, u32 order, const i32 *c, usize n, i32 *restrict out, usize room) {
     return clip(w, order, c, n, out, room, 0);
 }
 
-struct Answer tuned_clip_plainly(struct Window w, u32 order, const i32 *c, usize n, i32 *restrict out, usize room) {
+struct OutlineAnswer
+tuned_clip_plainly(struct Window w, u32 order, const i32 *c, usize n, i32 *restrict out, usize room) {
     if (!good_window(w)) {
         struct Refusal r = window_refusal(w);
-        return (struct Answer){ r.number, r.place, 0 };
+        return refused(r.number, r.place);
     }
-    if (UNLIKELY(order > 23)) return (struct Answer){ 4, 0, 0 };
-    if (UNLIKELY(n % 2 != 0 || n < 6 || n > 128)) return (struct Answer){ 5, 0, 0 };
-    if (any_off(c, n)) return (struct Answer){ 6, first_off(c), 0 };
+    if (UNLIKELY(order > 23)) return refused(4, 0);
+    if (UNLIKELY(n % 2 != 0 || n < 6 || n > 128)) return refused(5, 0);
+    if (any_off(c, n)) return refused(6, first_off(c));
     struct Corner memory[72], *ring = memory;
     struct Job j = { { w.left, w.right, w.bottom, w.top }, c, n };
     usize left = load(ring, c, 0, n) - ring;
+    struct OutlineAnswer a;
     for (usize k = 0; k < 4; k++) {
         left = pass(&j, orders[order][k], &ring, left);
-        if (left < 3) return (struct Answer){ 0, 0, 0 };
+        if (left < 3) {
+            a = no_area();
+            return a;
+        }
+        a.passes[k] = (u8)left;
     }
-    return give(ring, left, out, room);
+    give(&a, ring, left, out, room);
+    return a;
 }

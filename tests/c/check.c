@@ -21,6 +21,12 @@ void wrote(const char *file, int line, const char *what, const int32_t *out, con
     }
 }
 
+int64_t in_one(const uint8_t passes[4]) {
+    int64_t one = 0;
+    for (size_t k = 0; k < 4; k++) one = 100 * one + passes[k];
+    return one;
+}
+
 static int32_t lent(size_t i) {
     return 7000000 + (int32_t)i;
 }
@@ -56,12 +62,28 @@ void parabola(int32_t *out, size_t corners) {
     }
 }
 
+/* Half the edges of a quarter of the round outline, by rising slope; the other quarters are this one turned. */
+static const int32_t edges[16][2] = {{6, 1}, {5, 1}, {4, 1}, {3, 1}, {5, 2}, {2, 1}, {3, 2}, {4, 3},
+                                     {3, 4}, {2, 3}, {1, 2}, {2, 5}, {1, 3}, {1, 4}, {1, 5}, {1, 6}};
+
+void round_outline(int32_t *out) {
+    int32_t x = 0, y = 0;
+    for (size_t i = 0; i < GERLYANTU_OUTLINE_CORNERS; i++) {
+        const int32_t a = edges[i % 16][0], b = edges[i % 16][1];
+        const int32_t turned[4][2] = {{a, b}, {-b, a}, {-a, -b}, {b, -a}};
+        out[2 * i] = x;
+        out[2 * i + 1] = y;
+        x += 2 * turned[i / 16][0], y += 2 * turned[i / 16][1];
+    }
+}
+
 int main(void) {
     check_millimetres();
     check_strokes();
     check_batches();
     check_corners();
     check_outlines();
+    check_passes();
     check_drawings();
     printf("linked: %d checks, %d failed\n", checks, failed);
     return failed == 0 ? 0 : 1;

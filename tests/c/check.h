@@ -16,6 +16,9 @@ void wrote(const char *file, int line, const char *what, const int32_t *out, con
 #define LEFT(out, from, end) left(__FILE__, __LINE__, #out, out, from, end)
 void left(const char *file, int line, const char *what, const int32_t *out, size_t from, size_t end);
 
+/* The corners that four passes left as one number, two digits a pass: one check then tells all four. */
+int64_t in_one(const uint8_t passes[4]);
+
 /* Fills out with numbers that no call writes. */
 void lend(int32_t *out, size_t end);
 
@@ -26,9 +29,14 @@ float float_of(uint32_t bits);
 /* A strictly convex outline: `corners` points of the parabola y = x * x, counterclockwise from (0, 0). */
 void parabola(int32_t *out, size_t corners);
 
+/* A strictly convex outline of 64 corners that goes all round, counterclockwise from (0, 0), its lowest; all its
+ * numbers are even. */
+void round_outline(int32_t *out);
+
 void check_millimetres(void);
 void check_strokes(void);
 void check_batches(void);
 void check_corners(void);
 void check_outlines(void);
+void check_passes(void);
 void check_drawings(void);

@@ -81,6 +81,13 @@ FIELD(gerlyantu_answer, number, 0, 1);
 FIELD(gerlyantu_answer, place, 8, 8);
 FIELD(gerlyantu_answer, count, 16, 8);
 
+SIZE(gerlyantu_outline_answer, 32);
+FIELD(gerlyantu_outline_answer, number, 0, 1);
+FIELD(gerlyantu_outline_answer, place, 8, 8);
+FIELD(gerlyantu_outline_answer, count, 16, 8);
+FIELD(gerlyantu_outline_answer, passes, 24, 4);
+FIELD(gerlyantu_outline_answer, passes[3], 27, 1);
+
 SIZE(gerlyantu_drawing_answer, 40);
 FIELD(gerlyantu_drawing_answer, number, 0, 1);
 FIELD(gerlyantu_drawing_answer, place, 8, 8);
