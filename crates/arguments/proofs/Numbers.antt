@@ -23,14 +23,16 @@ use Rattle.words.specs.declared.Read.{Read}
 use Rattle.arguments.specs.Arguments.{numbersIn, firstEnd, Numbers, firstWindow, PairIs, ReadPair}
 use Rattle.arguments.specs.declared.Pair.{Pair}
 
-pub not-read : {text : List ℕ} {out : List ℤ} {r : Read} → Into (numbersIn text) out r → r .whole ≡ false → Numbers text out 0
+pub not-read : {text : List ℕ} {out : List ℤ} {r : Read} → Into (numbersIn text) out r → r .whole ≡ false →
+    Numbers text out 0
 not-read h e = record {
   within = omega arith;
   front = λ l. absurd (omega arith);
   all = λ zs k l. absurd (omega (arith, h .without e zs k));
 }
 
-pub read : {text : List ℕ} {out : List ℤ} {r : Read} → Into (numbersIn text) out r → r .whole ≡ true → Numbers text out (r .count)
+pub read : {text : List ℕ} {out : List ℤ} {r : Read} → Into (numbersIn text) out r → r .whole ≡ true →
+    Numbers text out (r .count)
 read h e = record {
   within = h .within;
   front = λ l. h .whole e;

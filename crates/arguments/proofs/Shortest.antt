@@ -1,4 +1,5 @@
--- A number takes two bytes or more, since a word that is a number is not empty: words and the spaces before them are as long as the text.
+-- A number takes two bytes or more, since a word that is a number is not empty: words and the spaces before them are
+-- as long as the text.
 use mathlib.Core.Path.{_≡_, refl, sym, ap, _∙_}
 use mathlib.Core.Bool.{Bool, true, false}
 use mathlib.Core.List.{List, [], _∷_}
@@ -30,7 +31,8 @@ unfolding weight words
 words-weigh [] = omega arith
 words-weigh (b ∷ l) = go (eqb b 32) (words-weigh l)
   where
-    go : (t : Bool) → weight (words l) ≡ suc (length l) → weight (if t then [] ∷ words l else onto b (words l)) ≡ suc (suc (length l))
+    go : (t : Bool) → weight (words l) ≡ suc (length l) → weight (if t then [] ∷ words l else onto b (words l)) ≡ suc
+        (suc (length l))
     go true e = omega arith
     go false e = longer b (length l) (words l) e
 
@@ -43,8 +45,10 @@ unfolding weight integers
 numbers-weigh [] zs h = let none-left : zs ≡ [] = cc in rw none-left (omega arith)
 numbers-weigh (w ∷ ws) zs h = word w (asInteger (numeral w)) refl (integers ws) refl h (numbers-weigh ws)
   where
-    word : (w : List ℕ) (r : Integer) → asInteger (numeral w) ≡ r → (o : Option (List ℤ)) → integers ws ≡ o → andInteger r o ≡ some zs →
-        ((ys : List ℤ) → integers ws ≡ some ys → 2 * length ys ≤ weight ws) → 2 * length zs ≤ suc (length w) + weight ws
+    word : (w : List ℕ) (r : Integer) → asInteger (numeral w) ≡ r → (o : Option (List ℤ)) → integers ws ≡ o →
+        andInteger r o ≡ some zs →
+        ((ys : List ℤ) → integers ws ≡ some ys → 2 * length ys ≤ weight ws) → 2 * length zs ≤ suc
+        (length w) + weight ws
     word w Integer.Bad e o k h i = let z : _≡_ {A = ℕ} 0 1 = cc in absurd (omega arith)
     word w (Integer.Is z) e none k h i = let z : _≡_ {A = ℕ} 0 1 = cc in absurd (omega arith)
     word [] (Integer.Is z) e (some ys) k h i = absurd (empty e)

@@ -1,6 +1,7 @@
 -- What the arguments of a line are: the numbers of the text after its word.
 --   numbersIn text       the numbers that the text's words are, where each is one that an i32 holds
---   Numbers text out n   the text's numbers are the first n of out; n is 0 where the text is something else, or has more than out has places for
+--   Numbers text out n   the text's numbers are the first n of out; n is 0 where the text is something else, or has
+--                        more than out has places for
 --   firstEnd text        where the first argument ends, at the next space; 0 where there is none
 --   firstWord text       the first argument, without the byte before it;  behindFirst text: the text behind it
 --   firstWindow zs       the window of the first four numbers of a list
@@ -39,7 +40,12 @@ abbrev pub behindFirst : List ℕ → List ℕ
 behindFirst text = drop (firstEnd text) text
 
 abbrev pub firstWindow : List ℤ → Window
-firstWindow zs = record { left = getD zs 0 (pos 0); bottom = getD zs 1 (pos 0); right = getD zs 2 (pos 0); top = getD zs 3 (pos 0) }
+firstWindow zs = record {
+  left = getD zs 0 (pos 0);
+  bottom = getD zs 1 (pos 0);
+  right = getD zs 2 (pos 0);
+  top = getD zs 3 (pos 0);
+}
 
 abbrev pub PairIs : List ℕ → Window → Stroke → Type 0
 PairIs text w s = numbersIn text ≡ some (sides w ++ ends s)

@@ -1,5 +1,6 @@
 -- What the reply to batch says.
---   BatchLine most text after r   r is the reply to the text after the word, with `after` in the output, where M + 5 is at most `most`
+--   BatchLine most text after r   r is the reply to the text after the word, with `after` in the output, where M + 5
+--                                 is at most `most`
 use mathlib.Core.List.{List}
 use Prim.Native.Nat.{ℕ}
 use lib.IntN.{ℤ}
@@ -11,4 +12,5 @@ use Rattle.replies.specs.declared.Reply.{Reply}
 
 abbrev pub BatchLine : ℕ → List ℕ → List ℤ → Reply → Type 0
 BatchLine most text after =
-    Replies (AsksList most text) (λ x. Tells (λ a. Lends (Batch (x .window) (x .list) a) (take (x .room) after)) answerFields (x .room))
+    Replies (AsksList most text)
+    (λ x. Tells (λ a. Lends (Batch (x .window) (x .list) a) (take (x .room) after)) answerFields (x .room))

@@ -18,10 +18,12 @@ use Rattle.replies.specs.Replies.{to-call, to-none}
 use Rattle.replies.specs.declared.Reply.{Reply}
 use Rattle.drawing_commands.specs.Lines.{DrawArguments, AsksDrawing, DrawLine}
 
-pub behind : (text : List ℕ) {first : ℕ} → first ≡ firstEnd text → take (length text - (first + 1)) (drop (first + 1) text) ≡ drop 1 (behindFirst text)
+pub behind : (text : List ℕ) {first : ℕ} → first ≡ firstEnd text → take (length text - (first + 1))
+    (drop (first + 1) text) ≡ drop 1 (behindFirst text)
 behind text {first} e = rest-of (first + 1) text ∙ sym (drop-drop 1 first text) ∙ ap (λ k. drop 1 (drop k text)) e
 
-pub no-file : (text : List ℕ) {bs : List ℕ} → length text ≤ firstEnd text → bytes (drop 1 (behindFirst text)) ≡ some bs → ⊥
+pub no-file : (text : List ℕ) {bs : List ℕ} → length text ≤ firstEnd text → bytes
+    (drop 1 (behindFirst text)) ≡ some bs → ⊥
 unfolding bytes
 no-file text h e = let nothing = rw (drop-of-length-le text h) at e in let z : _≡_ {A = ℕ} 0 1 = cc in omega arith
 
@@ -33,7 +35,8 @@ two-digits [] bs h = let none-left : bs ≡ [] = cc in rw none-left (omega arith
 two-digits (a ∷ []) bs h = let z : _≡_ {A = ℕ} 0 1 = cc in absurd (omega arith)
 two-digits (a ∷ b ∷ w) bs h = go (ltb (digitOf a) 16 && ltb (digitOf b) 16) (pairs w) refl h (two-digits w)
   where
-    go : (t : Bool) (o : Option (List ℕ)) → pairs w ≡ o → (if t then and (digitOf a * 16 + digitOf b) o else none) ≡ some bs →
+    go : (t : Bool) (o : Option (List ℕ)) → pairs w ≡ o →
+        (if t then and (digitOf a * 16 + digitOf b) o else none) ≡ some bs →
         ((cs : List ℕ) → pairs w ≡ some cs → 2 * length cs ≤ length w) → 2 * length bs ≤ suc (suc (length w))
     go false o e h i = let z : _≡_ {A = ℕ} 0 1 = cc in absurd (omega arith)
     go true none e h i = let z : _≡_ {A = ℕ} 0 1 = cc in absurd (omega arith)
@@ -43,13 +46,15 @@ half : (w bs : List ℕ) → bytes w ≡ some bs → 2 * length bs ≤ length w
 unfolding bytes
 half w bs h = go (eqb (length w) 0) (hasMinus w) (eqb (length w) 1) h
   where
-    go : (s t u : Bool) → (if s then none else if t then (if u then some [] else none) else pairs w) ≡ some bs → 2 * length bs ≤ length w
+    go : (s t u : Bool) → (if s then none else if t then (if u then some [] else none) else pairs w) ≡ some bs →
+        2 * length bs ≤ length w
     go true t u h = let z : _≡_ {A = ℕ} 0 1 = cc in absurd (omega arith)
     go false true true h = let none-left : bs ≡ [] = cc in rw none-left (omega arith)
     go false true false h = let z : _≡_ {A = ℕ} 0 1 = cc in absurd (omega arith)
     go false false u h = two-digits w bs h
 
-pub widened : {text : List ℕ} {after : List ℤ} {r : Reply} → length text < 512 → DrawLine 256 text after r → DrawLine 70000 text after r
+pub widened : {text : List ℕ} {after : List ℤ} {r : Reply} → length text < 512 → DrawLine 256 text after r →
+    DrawLine 70000 text after r
 widened h (to-call x a t) = to-call x (record { room = a .room; file = a .file; few = omega (arith, a .few) }) t
 widened {text} h (to-none n s) = to-none (λ x a. n x (short x a)) s
   where
@@ -57,5 +62,11 @@ widened {text} h (to-none n s) = to-none (λ x a. n x (short x a)) s
     short x a = record {
       room = a .room;
       file = a .file;
-      few = omega (arith, half _ (x .file) (a .file), length-drop 1 (behindFirst text), length-drop (firstEnd text) text);
+      few = omega (
+        arith,
+        half _ (x .file) (a .file),
+        length-drop 1 (behindFirst text),
+        length-drop
+            (firstEnd text) text,
+      );
     }

@@ -31,4 +31,5 @@ pub record AsksDrawing (most : ℕ) (text : List ℕ) (x : DrawArguments) : Type
 
 abbrev pub DrawLine : ℕ → List ℕ → List ℤ → Reply → Type 0
 DrawLine most text after =
-    Replies (AsksDrawing most text) (λ x. Tells (λ a. Lends (ReadDrawing (x .file) a) (take (x .room) after)) drawingFields (x .room))
+    Replies (AsksDrawing most text)
+    (λ x. Tells (λ a. Lends (ReadDrawing (x .file) a) (take (x .room) after)) drawingFields (x .room))

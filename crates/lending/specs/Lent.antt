@@ -6,7 +6,8 @@
 --   AsksRoom text n    the first argument is the room n
 --   ListArguments      what a line with a list asks of: a room, a window, and a list of numbers
 --   AsksList most text x   the text is ROOM l b r t M and M numbers, of x, and M + 5 is at most `most`
---   ReadList text out r    r is what the text with a list was read as, with all but the room in out, or says that it is no such text
+--   ReadList text out r    r is what the text with a list was read as, with all but the room in out, or says that it
+--                          is no such text
 use mathlib.Core.Path.{_≡_}
 use mathlib.Core.List.{List, _∷_, _++_}
 use mathlib.Core.Option.{some}
@@ -53,5 +54,6 @@ pub record AsksList (most : ℕ) (text : List ℕ) (x : ListArguments) : Type 0 
   pub few : length (x .list) + 5 ≤ most
 
 pub record ReadList (text : List ℕ) (out : List ℤ) (r : Listed) : Type 0 where
-  pub list : 5 ≤ r .end → AsksList (length out) text (record { room = r .room; window = firstWindow out; list = take (r .end - 5) (drop 5 out) })
+  pub list : 5 ≤ r .end → AsksList (length out) text
+      (record { room = r .room; window = firstWindow out; list = take (r .end - 5) (drop 5 out) })
   pub no-list : r .end < 5 → (x : ListArguments) → AsksList (length out) text x → ⊥

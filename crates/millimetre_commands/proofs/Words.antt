@@ -23,7 +23,8 @@ eight : (w : List ℕ) {x : Float} → single w ≡ Single.Is x → length w ≡
 unfolding single
 eight w {x} h = go (eqb (length w) 8) refl h
   where
-    go : (t : Bool) → eqb (length w) 8 ≡ t → (if t then withBits (upTo 0xffff_ffff (wordValue 16 w)) else Single.Bad) ≡ Single.Is x → length w ≡ 8
+    go : (t : Bool) → eqb (length w) 8 ≡ t →
+        (if t then withBits (upTo 0xffff_ffff (wordValue 16 w)) else Single.Bad) ≡ Single.Is x → length w ≡ 8
     go true e h = eqb-true _ _ e
     go false e h = let z : _≡_ {A = ℕ} 0 1 = cc in absurd (omega arith)
 
@@ -34,11 +35,13 @@ front (one w {text} h s) = rw (take-at w text 8 (eight w h)) h
 behind : {text : List ℕ} {x : Float} {xs : List Float} → Singles text (x ∷ xs) → Singles (drop 9 text) xs
 behind (one w {text} h s) = rw (drop-at w text 8 (eight w h)) s
 
-put : {x : Float} {xs : List Float} (text : List ℕ) → 9 ≤ length text → singleAt text ≡ Single.Is x → Singles (drop 9 text) xs → Singles text (x ∷ xs)
+put : {x : Float} {xs : List Float} (text : List ℕ) → 9 ≤ length text → singleAt text ≡ Single.Is x → Singles
+    (drop 9 text) xs → Singles text (x ∷ xs)
 put [] l h s = absurd (omega arith)
 put {x} {xs} (b ∷ text) l h s = go (eqb b 32) refl h
   where
-    go : (t : Bool) → eqb b 32 ≡ t → (if t then single (take 8 text) else Single.Bad) ≡ Single.Is x → Singles (b ∷ text) (x ∷ xs)
+    go : (t : Bool) → eqb b 32 ≡ t → (if t then single (take 8 text) else Single.Bad) ≡ Single.Is x → Singles
+        (b ∷ text) (x ∷ xs)
     go true e h = rw (eqb-true b 32 e) (rw (take-append-drop 8 text) at (one (take 8 text) h s))
     go false e h = let z : _≡_ {A = ℕ} 0 1 = cc in absurd (omega arith)
 
@@ -55,7 +58,8 @@ module _ (text : List ℕ) (p : ℕ) {x : Float} {xs : List Float} where
   pub next-at : Singles (drop p text) (x ∷ xs) → Singles (drop (p + 9) text) xs
   next-at s = rw (drop-drop 9 p text) at (behind s)
 
-  pub put-at : p + 9 ≤ length text → singleAt (drop p text) ≡ Single.Is x → Singles (drop (p + 9) text) xs → Singles (drop p text) (x ∷ xs)
+  pub put-at : p + 9 ≤ length text → singleAt (drop p text) ≡ Single.Is x → Singles (drop (p + 9) text) xs → Singles
+      (drop p text) (x ∷ xs)
   put-at l h s = put (drop p text) (simp length-drop (omega arith)) h (rw (drop-drop 9 p text) s)
 
 pub end-at : (text : List ℕ) (p : ℕ) → length text ≤ p → Singles (drop p text) []

@@ -44,7 +44,8 @@ singleAt text = if eqb (getD text 0 0) 32 then single (take 8 (drop 1 text)) els
 
 pub data Singles : List ℕ → List Float → Type 0 where
   empty : Singles [] []
-  one : (w : List ℕ) {text : List ℕ} {x : Float} {xs : List Float} → single w ≡ Single.Is x → Singles text xs → Singles (32 ∷ w ++ text) (x ∷ xs)
+  one : (w : List ℕ) {text : List ℕ} {x : Float} {xs : List Float} → single w ≡ Single.Is x → Singles text xs →
+      Singles (32 ∷ w ++ text) (x ∷ xs)
 
 abbrev pub AsksPoint : List ℕ → PointMm → Type 0
 AsksPoint text p = Singles text (p .x ∷ p .y ∷ [])

@@ -1,4 +1,5 @@
--- One field more leaves the earlier ones as they are, since it is put behind them; and a number is its sign and its size.
+-- One field more leaves the earlier ones as they are, since it is put behind them; and a number is its sign and its
+-- size.
 use mathlib.Core.Path.{_≡_, refl, ap, _∙_}
 use mathlib.Core.Bool.{Bool, true, false}
 use mathlib.Core.List.{List}
@@ -52,7 +53,12 @@ counted e h = record { count = h .count ∙ e; fields = h .fields; behind = h .b
 -- what a part of a reply adds, it adds to what was said
 pub after : {r s : Reply} {n k : ℕ} {fs : Fields} (m : ℕ) (more : Fields → Fields) →
     Says r n fs k → Says s (r .count + m) (more (said r)) (r .room) → Says s (n + m) (more fs) k
-after m more h t = record { count = t .count ∙ ap (λ n. n + m) (h .count); fields = t .fields ∙ ap more (h .fields); behind = t .behind ∙ h .behind }
+after m more h t = record {
+  count = t .count ∙ ap (λ n. n + m) (h .count);
+  fields = t .fields ∙ ap more
+      (h .fields);
+  behind = t .behind ∙ h .behind;
+}
 
 pub next : {r s : Reply} {n k : ℕ} {fs : Fields} {f : Field} →
     Says r n fs k → Says s (r .count + 1) (said r and f) (r .room) → Says s (n + 1) (fs and f) k
@@ -66,6 +72,7 @@ next-signed {z = z} w f h t = rw (back w z f) at (next h t)
 
 -- and a bool by its byte
 pub next-flag : {r s : Reply} {n k : ℕ} {fs : Fields} (b : Bool) →
-    Says r n fs k → Says s (r .count + 1) (said r and natural (boolByte b)) (r .room) → Says s (n + 1) (fs and flag b) k
+    Says r n fs k → Says s (r .count + 1) (said r and natural (boolByte b)) (r .room) → Says s (n + 1)
+    (fs and flag b) k
 next-flag true h t = next h t
 next-flag false h t = next h t

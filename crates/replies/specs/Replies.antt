@@ -7,9 +7,11 @@
 --   fieldOf form size          the field that a form and a size are: 1 is a minus, 2 are bits, all else is plain
 --   firstFields n forms sizes  the first n fields of these forms and sizes
 --   said r                     what the reply r says: its fields
---   Says r n fs room           the reply r says fs, which are n fields, and behind them come so many numbers of the lent output
+--   Says r n fs room           the reply r says fs, which are n fields, and behind them come so many numbers of the
+--                              lent output
 --   Tells Right fields room r  the same of a call's answer: of one that is right, the reply says the fields
---   Replies Asks Answers r     r is the reply to a line: what it asks for is answered, and where it asks for nothing, nothing is said
+--   Replies Asks Answers r     r is the reply to a line: what it asks for is answered, and where it asks for nothing,
+--                              nothing is said
 use mathlib.Core.Path.{_≡_}
 use Prim.Native.Nat.{ℕ, zero, suc}
 use mathlib.Core.Bool.{Bool}

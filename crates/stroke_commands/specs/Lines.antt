@@ -1,7 +1,9 @@
 -- What the replies to lb, cs and cb say.
 --   withPart fs kept t0 t1   the fields fs and K n0 d0 n1 d1
---   strokeFields a     N P K n0 d0 n1 d1 ax ay bx by;  countedFields a: the same and S;  cornerFields a: N P K n0 d0 n1 d1
---   PairArguments      what lb and cs ask of: a window and a stroke;  CornerArguments, cb: the numbers of a window's corners, and a stroke
+--   strokeFields a     N P K n0 d0 n1 d1 ax ay bx by;  countedFields a: the same and S;  cornerFields a: N P K n0 d0
+--                      n1 d1
+--   PairArguments      what lb and cs ask of: a window and a stroke;  CornerArguments, cb: the numbers of a window's
+--                      corners, and a stroke
 --   AsksPair text p    the text is l b r t x1 y1 x2 y2 of these
 --   AsksCorners text c the text is M c1 .. cM x1 y1 x2 y2 of these, M at most 64
 --   Lb, Cs, Cb text r  r is the reply to the text after the word
@@ -29,7 +31,8 @@ use Rattle.replies.specs.declared.Reply.{Reply}
 -- ---- the fields
 
 abbrev pub withPart : Fields → Bool → Fraction → Fraction → Fields
-withPart fs kept t0 t1 = fs and flag kept and number (t0 .num) and number (t0 .den) and number (t1 .num) and number (t1 .den)
+withPart fs kept t0 t1 = fs and flag kept and number (t0 .num) and number (t0 .den) and number (t1 .num) and number
+    (t1 .den)
 
 abbrev pub strokeFields : StrokeAnswer → Fields
 strokeFields a =

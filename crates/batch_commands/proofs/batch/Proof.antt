@@ -1,4 +1,4 @@
--- `batch_commands::batch` meets its contract: a short line has no more numbers than the small memory takes. Assumes nothing.
+-- `batch_commands::batch` meets its contract: a short line has few numbers. Assumes nothing.
 use Rattle.batch_commands.proofs.Short.{widened}
 use borrow.Author.Needs.{needs}
 use Rattle.batch_commands.proofs.batch.Statement.{statement}

@@ -1,4 +1,4 @@
--- `batch_commands::cut` meets its contract: the output is prepared, and the reply says the call's answer. Assumes nothing.
+-- `batch_commands::cut` meets its contract: the output is prepared, and the reply says the answer. Assumes nothing.
 use native.Mathlib.Omega.{arith}
 use Rattle.replies.proofs.Fields.{next}
 use Rattle.replies.proofs.Lines.{tells}
@@ -28,7 +28,12 @@ returns c =
     let s = next (c .before .begin .ensures) (c .natural .ensures) in (
       omega (arith, s .count),
       tells (called .batch .result)
-          (record { before = prepared .prepare .last .0; same = search needs; prepared = prepared .prepare .ensures; call = called .batch .ensures }) s,
+          (record {
+            before = prepared .prepare .last .0;
+            same = search needs;
+            prepared = prepared .prepare .ensures;
+            call = called .batch .ensures;
+          }) s,
     )
 
 pub cut-spec : {M : Type 1} → statement M

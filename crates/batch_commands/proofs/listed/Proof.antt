@@ -21,8 +21,11 @@ same-length c = search needs
 
 returns : tie.Need-returns
 returns c =
-    let read = c .before .before .before .read-list in
-    (search needs, no-call (λ x a. read .ensures .1 .1 .no-list (search needs) x (rw (read .kept .1 .0) a)) (c .unknown .ensures))
+    let read = c .before .before .before .read-list in (
+      search needs,
+      no-call (λ x a. read .ensures .1 .1 .no-list (search needs) x (rw (read .kept .1 .0) a))
+          (c .unknown .ensures),
+    )
 
 first-window-requires : tie.Need-first-window-requires
 first-window-requires c κs = search needs
@@ -61,10 +64,12 @@ returns-2 c =
     let read = there .before .before .before .before .read-list in
     let start = there .before .before .before .before .before .before .before in
     let room : length (c .before .before .cut .last .1 .1 .0) ≡ read .result .room =
-    c .before .before .cut .kept .1 .1 .0 ∙ part-length (read .result .room) (now (start .args .lent)) (omega (arith, read .ensures .0, start .pre .1)) in (
+    c .before .before .cut .kept .1 .1 .0 ∙ part-length (read .result .room) (now (start .args .lent))
+    (omega (arith, read .ensures .0, start .pre .1)) in (
       search needs,
       to-call _ (rw (read .kept .1 .0) at (read .ensures .1 .1 .list (search needs)))
-          (with-lent (λ a h. lent-front _ _ room (rw (window .ensures) at h)) (c .before .before .cut .ensures .1) (c .lent2 .ensures)),
+          (with-lent (λ a h. lent-front _ _ room (rw (window .ensures) at h)) (c .before .before .cut .ensures .1)
+          (c .lent2 .ensures)),
     )
 
 pub listed-spec : {M : Type 1} → statement M

@@ -1,4 +1,4 @@
--- `drawing_commands::draw` meets its contract: a short line has no more bytes than the small memory takes. Assumes nothing.
+-- `drawing_commands::draw` meets its contract: a short line has few bytes. Assumes nothing.
 use Rattle.drawing_commands.proofs.Files.{widened}
 use borrow.Author.Needs.{needs}
 use Rattle.drawing_commands.proofs.draw.Statement.{statement}

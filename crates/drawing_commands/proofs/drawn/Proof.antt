@@ -25,8 +25,10 @@ room : (c : tie.After-read-room) → c .read-room .result ≡ asRoom (unsigned m
 room c = room-read (textOf c) (c .before .before .first-end .ensures .1) (c .read-room .ensures)
 
 file : (c : tie.After-read-bytes) →
-    Into (bytes (drop 1 (behindFirst (textOf (c .before .before .before .before .before))))) (c .read-bytes .last .1 .0) (c .read-bytes .result)
-file c = let lent = c .before .before .before .before .before in rw (behind (textOf lent) (lent .before .before .first-end .ensures .1)) at (c .read-bytes .ensures)
+    Into (bytes (drop 1 (behindFirst (textOf (c .before .before .before .before .before)))))
+    (c .read-bytes .last .1 .0) (c .read-bytes .result)
+file c = let lent = c .before .before .before .before .before in rw
+    (behind (textOf lent) (lent .before .before .first-end .ensures .1)) at (c .read-bytes .ensures)
 
 first-end-requires : tie.Need-first-end-requires
 first-end-requires c κs = search needs
@@ -47,15 +49,24 @@ unknown-requires : tie.Need-unknown-requires
 unknown-requires c κs = search needs
 
 returns : tie.Need-returns
-returns c = (search needs, no-call (λ x a. no-room (textOf (c .before .before)) (room (c .before .before)) (search needs) (a .room)) (c .unknown .ensures))
+returns c = (
+  search needs,
+  no-call
+      (λ x a. no-room (textOf (c .before .before)) (room (c .before .before)) (search needs) (a .room))
+      (c .unknown .ensures),
+)
 
 unknown-requires-2 : tie.Need-unknown-requires-2
 unknown-requires-2 c κs = search needs
 
 returns-2 : tie.Need-returns-2
 returns-2 c =
-    let lent = c .before .before .before in
-    (search needs, no-call (λ x a. no-file (textOf lent) (omega (arith, lent .before .before .first-end .ensures .1)) (a .file)) (c .unknown2 .ensures))
+    let lent = c .before .before .before in (
+      search needs,
+      no-call
+          (λ x a. no-file (textOf lent) (omega (arith, lent .before .before .first-end .ensures .1)) (a .file))
+          (c .unknown2 .ensures),
+    )
 
 add-read-bytes : tie.Need-add-read-bytes
 add-read-bytes c = search needs
@@ -80,8 +91,16 @@ same-length c = search needs
 
 returns-3 : tie.Need-returns-3
 returns-3 c =
-    let read = c .before .before .before .before .before in
-    (search needs, no-call (λ x a. omega (arith, file read .without (not-true _ (c .before .if3 .taken)) _ (a .file), a .few, read .read-bytes .kept .1 .0)) (c .unknown3 .ensures))
+    let read = c .before .before .before .before .before in (
+      search needs,
+      no-call
+          (λ x a. omega (
+            arith,
+            file read .without (not-true _ (c .before .if3 .taken)) _ (a .file),
+            a .few,
+            read .read-bytes .kept .1 .0,
+          )) (c .unknown3 .ensures),
+    )
 
 sub-read : tie.Need-sub-read
 sub-read c = search needs
@@ -122,14 +141,21 @@ returns-4 c =
     let n = read .read-bytes .result .count in
     let all : n - 0 ≡ n = omega arith in
     let long : length (c .before .before .read .last .1 .0) ≡ lent .read-room .result =
-    c .before .before .read .kept .1 .0 ∙ part-length (lent .read-room .result) (now (start .args .lent)) (omega (arith, start .pre)) in (
+    c .before .before .read .kept .1 .0 ∙ part-length (lent .read-room .result) (now (start .args .lent))
+    (omega (arith, start .pre)) in (
       search needs,
       to-call _ (record {
         room = asks-room (textOf lent) (room lent) (search needs);
         file = file read .whole (not-false _ (tested .if3 .left));
-        few = omega (arith, length-take-le n (read .read-bytes .last .1 .0) (file read .within), file read .within, read .read-bytes .kept .1 .0);
+        few = omega (
+          arith,
+          length-take-le n (read .read-bytes .last .1 .0) (file read .within),
+          file read .within,
+          read .read-bytes .kept .1 .0,
+        );
       })
-          (with-lent (λ a h. lent-front _ _ long (rw all at h)) (c .before .before .read .ensures .1) (c .lent2 .ensures)),
+          (with-lent (λ a h. lent-front _ _ long (rw all at h)) (c .before .before .read .ensures .1)
+          (c .lent2 .ensures)),
     )
 
 pub drawn-spec : {M : Type 1} → statement M

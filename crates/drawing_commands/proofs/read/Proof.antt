@@ -1,4 +1,4 @@
--- `drawing_commands::read` meets its contract: the output is prepared, and the reply says the call's answer. Assumes nothing.
+-- `drawing_commands::read` meets its contract: the output is prepared, and the reply says the answer. Assumes nothing.
 use native.Mathlib.Omega.{arith}
 use Rattle.replies.specs.Replies.{withWindow}
 use Rattle.replies.proofs.Fields.{after, next}
@@ -31,10 +31,16 @@ returns c =
     let called = begun .before .before .before in
     let prepared = called .before .before .before in
     let a = called .read-drawing .result in
-    let s = next (after 4 (λ fs. withWindow fs (a .window)) (begun .begin .ensures) (c .before .window2 .ensures)) (c .natural .ensures) in (
+    let s = next (after 4 (λ fs. withWindow fs (a .window)) (begun .begin .ensures) (c .before .window2 .ensures))
+    (c .natural .ensures) in (
       omega (arith, s .count),
       tells a
-          (record { before = prepared .prepare .last .0; same = search needs; prepared = prepared .prepare .ensures; call = called .read-drawing .ensures }) s,
+          (record {
+            before = prepared .prepare .last .0;
+            same = search needs;
+            prepared = prepared .prepare .ensures;
+            call = called .read-drawing .ensures;
+          }) s,
     )
 
 pub read-spec : {M : Type 1} → statement M

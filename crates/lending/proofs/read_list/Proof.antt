@@ -20,7 +20,8 @@ room : (c : tie.After-read-room) → c .read-room .result ≡ asRoom (unsigned m
 room c = room-read (textOf c) (c .before .before .first-end .ensures .1) (c .read-room .ensures)
 
 numbers : (c : tie.After-read-numbers) →
-    Numbers (behindFirst (now (c .before .before .before .before .before .before .before .before .args .rest))) (c .read-numbers .last .1 .0) (c .read-numbers .result)
+    Numbers (behindFirst (now (c .before .before .before .before .before .before .before .before .args .rest)))
+    (c .read-numbers .last .1 .0) (c .read-numbers .result)
 numbers c =
     let first = c .before .before .before .before .before .before .first-end in
     let text = now (c .before .before .before .before .before .before .before .before .args .rest) in
@@ -45,7 +46,15 @@ no-list-requires : tie.Need-no-list-requires
 no-list-requires c κs = search needs
 
 returns : tie.Need-returns
-returns c = (search needs, (search needs, no-list (λ x a. no-room (textOf (c .before .before)) (room (c .before .before)) (search needs) (a .room)) (c .no-list .ensures .1)))
+returns c = (
+  search needs,
+  (
+    search needs,
+    no-list
+        (λ x a. no-room (textOf (c .before .before)) (room (c .before .before)) (search needs) (a .room))
+        (c .no-list .ensures .1),
+  ),
+)
 
 sub-read-numbers : tie.Need-sub-read-numbers
 sub-read-numbers c = search needs
@@ -66,7 +75,14 @@ same-length : tie.Need-same-length
 same-length c = search needs
 
 returns-2 : tie.Need-returns-2
-returns-2 c = (search needs, (search needs, no-list (too-few _ (numbers (c .before .before .before)) (search needs)) (c .no-list2 .ensures .1)))
+returns-2 c = (
+  search needs,
+  (
+    search needs,
+    no-list (too-few _ (numbers (c .before .before .before)) (search needs))
+        (c .no-list2 .ensures .1),
+  ),
+)
 
 slice-copy-out-if3 : tie.Need-slice-copy-out-if3
 slice-copy-out-if3 c = search needs
@@ -81,7 +97,15 @@ same-length-2 : tie.Need-same-length-2
 same-length-2 c = search needs
 
 returns-3 : tie.Need-returns-3
-returns-3 c = (search needs, (search needs, no-list (other-count _ (numbers (c .before .before .before .before .before)) (λ e. count-no _ _ (c .before .if3 .taken) e)) (c .no-list3 .ensures .1)))
+returns-3 c = (
+  search needs,
+  (
+    search needs,
+    no-list
+        (other-count _ (numbers (c .before .before .before .before .before))
+        (λ e. count-no _ _ (c .before .if3 .taken) e)) (c .no-list3 .ensures .1),
+  ),
+)
 
 same-length-3 : tie.Need-same-length-3
 same-length-3 c = search needs

@@ -10,14 +10,16 @@ use Rattle.lending.proofs.read_room.Statement.{statement}
 use Rattle.lending.proofs.read_room.Tie as tie
 
 read : (c : tie.After-read-unsigned) →
-    c .read-unsigned .result ≡ unsigned mostRoom (numeral (drop 1 (now (c .before .before .before .before .args .argument))))
-read c = c .read-unsigned .ensures ∙ ap (λ w. unsigned mostRoom (numeral w)) (rest-of 1 (now (c .before .before .before .before .args .argument)))
+    c .read-unsigned .result ≡ unsigned mostRoom
+    (numeral (drop 1 (now (c .before .before .before .before .args .argument))))
+read c = c .read-unsigned .ensures ∙ ap (λ w. unsigned mostRoom (numeral w))
+    (rest-of 1 (now (c .before .before .before .before .args .argument)))
 
 add-result : tie.Need-add-result
 add-result c = search needs
 
 returns : tie.Need-returns
-returns c = no-word (now (c .before .before .args .argument)) (search needs)
+returns c = ap asRoom (no-word mostRoom (now (c .before .before .args .argument)) (search needs))
 
 sub-read-unsigned : tie.Need-sub-read-unsigned
 sub-read-unsigned c = search needs

@@ -19,13 +19,18 @@ use Rattle.millimetre_commands.proofs.back.Tie as tie
 -- what was read is what the line asks of
 asked : (c : tie.After-read-integer) {r : Integer} → c .read-integer .result ≡ r →
     asInteger (numeral (drop 1 (now (c .before .before .before .before .args .rest)))) ≡ r
-asked c e = ap (λ w. asInteger (numeral w)) (sym (behind-first (now (c .before .before .before .before .args .rest)))) ∙ sym (c .read-integer .ensures) ∙ e
+asked c e = ap (λ w. asInteger (numeral w))
+    (sym (behind-first (now (c .before .before .before .before .args .rest)))) ∙ sym (c .read-integer .ensures) ∙ e
 
 unknown-requires : tie.Need-unknown-requires
 unknown-requires c κs = search needs
 
 returns : tie.Need-returns
-returns c = (search needs, no-call (λ g. no-word (now (c .before .before .before .args .rest)) (search needs)) (c .unknown .ensures))
+returns c = (
+  search needs,
+  no-call (λ g. no-word (now (c .before .before .before .args .rest)) (search needs))
+      (c .unknown .ensures),
+)
 
 sub-read-integer : tie.Need-sub-read-integer
 sub-read-integer c = search needs
@@ -54,11 +59,19 @@ unknown-requires-2 c κs = search needs
 returns-2 : tie.Need-returns-2
 returns-2 c =
     let g = c .before .before .g .given in
-    let same = toZ-ofZ {w = w32} (record { sfits = c .before .known-told .given .0 .1 }) in
-    (search needs, to-call _ (asked (c .before .before .before .before) (g .1) ∙ ap Integer.Is (sym same)) (c .millimetres .ensures .1))
+    let same = toZ-ofZ {w = w32} (record { sfits = c .before .known-told .given .0 .1 }) in (
+      search needs,
+      to-call _ (asked (c .before .before .before .before) (g .1) ∙ ap Integer.Is (sym same))
+          (c .millimetres .ensures .1),
+    )
 
 returns-3 : tie.Need-returns-3
-returns-3 c = (search needs, no-call (λ g h. let e = asked (c .before .before .before) (c .before .enum-told .given .1) in let z : _≡_ {A = ℕ} 0 1 = cc in omega arith) (c .unknown2 .ensures))
+returns-3 c = (
+  search needs,
+  no-call
+      (λ g h. let e = asked (c .before .before .before) (c .before .enum-told .given .1) in let z : _≡_ {A = ℕ} 0 1 =
+      cc in omega arith) (c .unknown2 .ensures),
+)
 
 pub back-spec : {M : Type 1} → statement M
 back-spec =

@@ -21,8 +21,12 @@ bits-requires c κs = search needs
 
 returns : tie.Need-returns
 returns c =
-    let called = c .before .before .before in
-    (search needs, tells (called .to-millimetres .result) (rw (toZ-ofZ (called .before .fits .g)) at (called .to-millimetres .ensures)) (next (c .before .before .begin .ensures) (c .bits .ensures)))
+    let called = c .before .before .before in (
+      search needs,
+      tells (called .to-millimetres .result)
+          (rw (toZ-ofZ (called .before .fits .g)) at (called .to-millimetres .ensures))
+          (next (c .before .before .begin .ensures) (c .bits .ensures)),
+    )
 
 pub millimetres-spec : {M : Type 1} → statement M
 millimetres-spec =

@@ -31,8 +31,11 @@ unknown-requires-2 c κs = search needs
 returns-2 : tie.Need-returns-2
 returns-2 c =
     let at = c .before .before .before in
-    let text = now (at .before .before .before .args .rest) in
-    (search needs, no-call (λ p s. not-bad text 0 (sym (at .single-at .ensures) ∙ c .before .enum-told .given .1) s) (c .unknown2 .ensures))
+    let text = now (at .before .before .before .args .rest) in (
+      search needs,
+      no-call (λ p s. not-bad text 0 (sym (at .single-at .ensures) ∙ c .before .enum-told .given .1) s)
+          (c .unknown2 .ensures),
+    )
 
 single-at-requires-2 : tie.Need-single-at-requires-2
 single-at-requires-2 c κs = search needs
@@ -49,8 +52,12 @@ unknown-requires-3 c κs = search needs
 returns-3 : tie.Need-returns-3
 returns-3 c =
     let at = c .before .before .before in
-    let text = now (at .before .before .before .before .before .before .before .args .rest) in
-    (search needs, no-call (λ p s. not-bad text 9 (sym (at .single-at2 .ensures) ∙ c .before .enum-told2 .given .1) (next-at text 0 s)) (c .unknown3 .ensures))
+    let text = now (at .before .before .before .before .before .before .before .args .rest) in (
+      search needs,
+      no-call
+          (λ p s. not-bad text 9 (sym (at .single-at2 .ensures) ∙ c .before .enum-told2 .given .1) (next-at text 0 s))
+          (c .unknown3 .ensures),
+    )
 
 point-to-grid-requires : tie.Need-point-to-grid-requires
 point-to-grid-requires c κs = search needs
@@ -77,9 +84,11 @@ returns-4 c =
     let a = called .point-to-grid .result in (
       search needs,
       to-call _ (put-at text 0 (search needs) (sym (at1 .single-at .ensures) ∙ x .x .given .1)
-          (put-at text 9 (search needs) (sym (at2 .single-at2 .ensures) ∙ y .y .given .1) (end-at text 18 (search needs))))
+          (put-at text 9 (search needs) (sym (at2 .single-at2 .ensures) ∙ y .y .given .1)
+          (end-at text 18 (search needs))))
           (tells a (called .point-to-grid .ensures)
-          (next-signed w32 (c .before .struct-told2 .given .1 .1 .1 .0 .1) (next-signed w32 (a1 .before .struct-told .given .1 .1 .0 .1) (begun .begin .ensures)
+          (next-signed w32 (c .before .struct-told2 .given .1 .1 .1 .0 .1)
+          (next-signed w32 (a1 .before .struct-told .given .1 .1 .0 .1) (begun .begin .ensures)
           (a1 .integer .ensures)) (c .integer2 .ensures))),
     )
 

@@ -32,8 +32,11 @@ unknown-requires-2 c κs = search needs
 returns-2 : tie.Need-returns-2
 returns-2 c =
     let at = c .before .before .before in
-    let text = now (at .before .before .before .args .rest) in
-    (search needs, no-call (λ p s. not-bad text 0 (sym (at .single-at .ensures) ∙ c .before .enum-told .given .1) s) (c .unknown2 .ensures))
+    let text = now (at .before .before .before .args .rest) in (
+      search needs,
+      no-call (λ p s. not-bad text 0 (sym (at .single-at .ensures) ∙ c .before .enum-told .given .1) s)
+          (c .unknown2 .ensures),
+    )
 
 single-at-requires-2 : tie.Need-single-at-requires-2
 single-at-requires-2 c κs = search needs
@@ -50,8 +53,12 @@ unknown-requires-3 c κs = search needs
 returns-3 : tie.Need-returns-3
 returns-3 c =
     let at = c .before .before .before in
-    let text = now (at .before .before .before .before .before .before .before .args .rest) in
-    (search needs, no-call (λ p s. not-bad text 9 (sym (at .single-at2 .ensures) ∙ c .before .enum-told2 .given .1) (next-at text 0 s)) (c .unknown3 .ensures))
+    let text = now (at .before .before .before .before .before .before .before .args .rest) in (
+      search needs,
+      no-call
+          (λ p s. not-bad text 9 (sym (at .single-at2 .ensures) ∙ c .before .enum-told2 .given .1) (next-at text 0 s))
+          (c .unknown3 .ensures),
+    )
 
 single-at-requires-3 : tie.Need-single-at-requires-3
 single-at-requires-3 c κs = search needs
@@ -68,8 +75,12 @@ unknown-requires-4 c κs = search needs
 returns-4 : tie.Need-returns-4
 returns-4 c =
     let at = c .before .before .before in
-    let text = now (at .before .before .before .before .before .before .before .before .before .before .before .args .rest) in
-    (search needs, no-call (λ p s. not-bad text 18 (sym (at .single-at3 .ensures) ∙ c .before .enum-told3 .given .1) (next-at text 9 (next-at text 0 s))) (c .unknown4 .ensures))
+    let text = now (at .before .before .before .before .before .before .before .before .before .before .before .args .rest) in (
+      search needs,
+      no-call
+          (λ p s. not-bad text 18 (sym (at .single-at3 .ensures) ∙ c .before .enum-told3 .given .1)
+          (next-at text 9 (next-at text 0 s))) (c .unknown4 .ensures),
+    )
 
 single-at-requires-4 : tie.Need-single-at-requires-4
 single-at-requires-4 c κs = search needs
@@ -86,8 +97,12 @@ unknown-requires-5 c κs = search needs
 returns-5 : tie.Need-returns-5
 returns-5 c =
     let at = c .before .before .before in
-    let text = now (at .before .before .before .before .before .before .before .before .before .before .before .before .before .before .before .args .rest) in
-    (search needs, no-call (λ p s. not-bad text 27 (sym (at .single-at4 .ensures) ∙ c .before .enum-told4 .given .1) (next-at text 18 (next-at text 9 (next-at text 0 s)))) (c .unknown5 .ensures))
+    let text = now (at .before .before .before .before .before .before .before .before .before .before .before .before .before .before .before .args .rest) in (
+      search needs,
+      no-call
+          (λ p s. not-bad text 27 (sym (at .single-at4 .ensures) ∙ c .before .enum-told4 .given .1)
+          (next-at text 18 (next-at text 9 (next-at text 0 s)))) (c .unknown5 .ensures),
+    )
 
 window-to-grid-requires : tie.Need-window-to-grid-requires
 window-to-grid-requires c κs = search needs
@@ -116,7 +131,8 @@ returns-6 c =
       to-call _ (put-at text 0 (search needs) (sym (at1 .single-at .ensures) ∙ l .left .given .1)
           (put-at text 9 (search needs) (sym (at2 .single-at2 .ensures) ∙ b .bottom .given .1)
           (put-at text 18 (search needs) (sym (at3 .single-at3 .ensures) ∙ r .right .given .1)
-          (put-at text 27 (search needs) (sym (at4 .single-at4 .ensures) ∙ t .top .given .1) (end-at text 36 (search needs))))))
+          (put-at text 27 (search needs) (sym (at4 .single-at4 .ensures) ∙ t .top .given .1)
+          (end-at text 36 (search needs))))))
           (tells a (called .window-to-grid .ensures) s),
     )
 

@@ -23,8 +23,11 @@ unknown-requires c κs = search needs
 
 returns : tie.Need-returns
 returns c =
-    let read = c .before .before .before in
-    (search needs, no-call (too-few _ (read .read-numbers .ensures .1) (search needs) (search needs)) (c .unknown .ensures))
+    let read = c .before .before .before in (
+      search needs,
+      no-call (too-few _ (read .read-numbers .ensures .1) (search needs) (search needs))
+          (c .unknown .ensures),
+    )
 
 sub-end : tie.Need-sub-end
 sub-end c = search needs
@@ -43,8 +46,12 @@ unknown-requires-2 c κs = search needs
 
 returns-2 : tie.Need-returns-2
 returns-2 c =
-    let read = c .before .before .before .before .before in
-    (search needs, no-call (other-count _ (read .read-numbers .ensures .1) (search needs) (λ e. count-no _ _ (c .before .if2 .taken) (e ∙ ap pos (omega arith)))) (c .unknown2 .ensures))
+    let read = c .before .before .before .before .before in (
+      search needs,
+      no-call
+          (other-count _ (read .read-numbers .ensures .1) (search needs)
+          (λ e. count-no _ _ (c .before .if2 .taken) (e ∙ ap pos (omega arith)))) (c .unknown2 .ensures),
+    )
 
 slice-aggregate-stroke-at : tie.Need-slice-aggregate-stroke-at
 slice-aggregate-stroke-at c = search needs
@@ -78,8 +85,10 @@ returns-3 c =
     let tested = there .before .before in
     let read = tested .before .before .before .before in (
       search needs,
-      to-call _ (asks-corners _ (read .read-numbers .ensures .1) (search needs) (omega arith) (count-yes _ _ (search needs) (omega arith) (tested .if2 .left) ∙ ap pos (omega arith)))
-          (tells a (rw (there .stroke-at .ensures) at (called .cyrus-beck .ensures)) (after 5 (λ fs. withPart fs (a .kept) (a .t0) (a .t1)) (c .before .begin .ensures) (c .part .ensures))),
+      to-call _ (asks-corners _ (read .read-numbers .ensures .1) (search needs) (omega arith)
+          (count-yes _ _ (search needs) (omega arith) (tested .if2 .left) ∙ ap pos (omega arith)))
+          (tells a (rw (there .stroke-at .ensures) at (called .cyrus-beck .ensures))
+          (after 5 (λ fs. withPart fs (a .kept) (a .t0) (a .t1)) (c .before .begin .ensures) (c .part .ensures))),
     )
 
 pub cb-spec : {M : Type 1} → statement M

@@ -15,8 +15,12 @@ unknown-requires c κs = search needs
 
 returns : tie.Need-returns
 returns c =
-    let read = c .before .before .before in
-    (search needs, no-call (λ x. read .read-pair .ensures .no-pair (not-true _ (c .before .if1 .taken)) (x .window) (x .stroke)) (c .unknown .ensures))
+    let read = c .before .before .before in (
+      search needs,
+      no-call
+          (λ x. read .read-pair .ensures .no-pair (not-true _ (c .before .if1 .taken)) (x .window) (x .stroke))
+          (c .unknown .ensures),
+    )
 
 cohen-sutherland-requires : tie.Need-cohen-sutherland-requires
 cohen-sutherland-requires c κs = search needs
@@ -36,7 +40,8 @@ returns-2 c =
     let done = called .before in (
       search needs,
       to-call _ (done .before .before .read-pair .ensures .pair (not-false _ (done .if1 .left)))
-          (tells (called .cohen-sutherland .result) (called .cohen-sutherland .ensures) (next (c .before .before .answered .ensures) (c .natural .ensures))),
+          (tells (called .cohen-sutherland .result) (called .cohen-sutherland .ensures)
+          (next (c .before .before .answered .ensures) (c .natural .ensures))),
     )
 
 pub cs-spec : {M : Type 1} → statement M

@@ -14,8 +14,12 @@ unknown-requires c κs = search needs
 
 returns : tie.Need-returns
 returns c =
-    let read = c .before .before .before in
-    (search needs, no-call (λ x. read .read-pair .ensures .no-pair (not-true _ (c .before .if1 .taken)) (x .window) (x .stroke)) (c .unknown .ensures))
+    let read = c .before .before .before in (
+      search needs,
+      no-call
+          (λ x. read .read-pair .ensures .no-pair (not-true _ (c .before .if1 .taken)) (x .window) (x .stroke))
+          (c .unknown .ensures),
+    )
 
 liang-barsky-requires : tie.Need-liang-barsky-requires
 liang-barsky-requires c κs = search needs
@@ -27,7 +31,8 @@ returns-2 : tie.Need-returns-2
 returns-2 c =
     let done = c .before .before in (
       search needs,
-      to-call _ (done .before .before .read-pair .ensures .pair (not-false _ (done .if1 .left))) (tells _ (c .before .liang-barsky .ensures) (c .answered .ensures)),
+      to-call _ (done .before .before .read-pair .ensures .pair (not-false _ (done .if1 .left)))
+          (tells _ (c .before .liang-barsky .ensures) (c .answered .ensures)),
     )
 
 pub lb-spec : {M : Type 1} → statement M

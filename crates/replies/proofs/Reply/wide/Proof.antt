@@ -19,7 +19,8 @@ field-requires c κs = search needs
 minus : (c : tie.Then1) → fieldOf 1 (c .before .size .result) ≡ number (c .before .before .args .z)
 minus c =
     let f = c .before .before .fits .z in
-    ap (fieldOf 1) (c .before .size .ensures ∙ ap natAbs (toZ-ofZ f)) ∙ below-0 _ (lt-taken w64 f (sfits-lit {z = pos 0} tt) (c .if1 .taken))
+    ap (fieldOf 1) (c .before .size .ensures ∙ ap natAbs (toZ-ofZ f)) ∙ below-0 _
+    (lt-taken w64 f (sfits-lit {z = pos 0} tt) (c .if1 .taken))
 
 returns : tie.Need-returns
 returns c = rw (minus (c .before)) at (c .field .ensures)
@@ -30,7 +31,8 @@ field-requires-2 c κs = search needs
 plain : (c : tie.Else1) → fieldOf 0 (c .before .size .result) ≡ number (c .before .before .args .z)
 plain c =
     let f = c .before .before .fits .z in
-    ap (fieldOf 0) (c .before .size .ensures ∙ ap natAbs (toZ-ofZ f)) ∙ from-0 _ (lt-left w64 f (sfits-lit {z = pos 0} tt) (c .if1 .left))
+    ap (fieldOf 0) (c .before .size .ensures ∙ ap natAbs (toZ-ofZ f)) ∙ from-0 _
+    (lt-left w64 f (sfits-lit {z = pos 0} tt) (c .if1 .left))
 
 returns-2 : tie.Need-returns-2
 returns-2 c = rw (plain (c .before)) at (c .field2 .ensures)

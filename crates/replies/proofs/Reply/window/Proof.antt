@@ -23,8 +23,11 @@ returns c =
     let a = c .before .before .before .before .before .before in
     let f = a .before .struct-told .given in
     counted (omega arith)
-    (next-signed w32 (f .1 .1 .1 .0 .1) (next-signed w32 (f .1 .1 .0 .1) (next-signed w32 (f .1 .0 .1) (next-signed w32 (f .0 .1) (itself _) (a .integer .ensures))
-    (c .before .before .before .before .integer2 .ensures)) (c .before .before .integer3 .ensures)) (c .integer4 .ensures))
+    (next-signed w32 (f .1 .1 .1 .0 .1)
+    (next-signed w32 (f .1 .1 .0 .1)
+    (next-signed w32 (f .1 .0 .1) (next-signed w32 (f .0 .1) (itself _) (a .integer .ensures))
+    (c .before .before .before .before .integer2 .ensures)) (c .before .before .integer3 .ensures))
+    (c .integer4 .ensures))
 
 pub window-spec : {M : Type 1} → statement M
 window-spec =
