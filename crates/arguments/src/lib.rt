@@ -1,6 +1,8 @@
 // The arguments of a line: its text after the command's word, each argument with a space before it.
+ghost use mathlib.Core.Path.{_≡_};
 ghost use Prim.Native.Nat.{_≤_};
 ghost use lib.ListN.{length};
+ghost use Rattle.arguments.specs.Arguments.{firstEnd, Numbers, firstWindow, ReadPair};
 use grid::Stroke;
 use grid::Window;
 
@@ -22,6 +24,7 @@ pub fn word_number(word: &[u8]) -> u64 {
 // Where the first argument ends; 0 where there is none.
 pub fn first_end(rest: &[u8]) -> usize
     ensures { λ r. ⌜ r ≤ length (now (rest .entry)) ⌝ }
+    ensures { λ r. ⌜ r ≡ firstEnd (now (rest .entry)) ⌝ }
 {
     if rest.len() == 0 {
         return 0;
@@ -32,6 +35,7 @@ pub fn first_end(rest: &[u8]) -> usize
 // Puts the numbers of a text at the front of numbers, and says how many there are; 0 where the text is something else.
 pub fn read_numbers(rest: &[u8], numbers: &mut [i32]) -> usize
     ensures { λ r. ⌜ r ≤ length (now (numbers .entry)) ⌝ }
+    ensures { λ r. ⌜ Numbers (now (rest .entry)) (now (numbers .exit)) r ⌝ }
 {
     let read = words::read_integers(rest, numbers);
     if !read.whole {
@@ -43,6 +47,7 @@ pub fn read_numbers(rest: &[u8], numbers: &mut [i32]) -> usize
 // The window of the first four numbers.
 pub fn first_window(numbers: &[i32]) -> Window
     requires { ⌜ 4 ≤ length (now numbers) ⌝ }
+    ensures { λ r. ⌜ r ≡ firstWindow (now (numbers .entry)) ⌝ }
 {
     Window {
         left: numbers[0],
@@ -59,7 +64,9 @@ pub struct Pair {
     pub stroke: Stroke,
 }
 
-pub fn read_pair(rest: &[u8]) -> Pair {
+pub fn read_pair(rest: &[u8]) -> Pair
+    ensures { λ r. ⌜ ReadPair (now (rest .entry)) r ⌝ }
+{
     let mut numbers = [0i32; 8];
     let whole = read_numbers(rest, &mut numbers) == 8;
     let window = first_window(&numbers);

@@ -1,6 +1,10 @@
 // The commands of a list of strokes: batch.
 ghost use Prim.Native.Nat.{_≤_};
 ghost use lib.ListN.{length};
+ghost use Rattle.replies.specs.Replies.{answerFields, Tells};
+ghost use Rattle.lending.specs.Lent.{Lends};
+ghost use Rattle.batch.specs.Batches.{Batch};
+ghost use Rattle.batch_commands.specs.Lines.{BatchLine};
 use grid::Window;
 use replies::Reply;
 
@@ -11,6 +15,7 @@ pub const BATCH: u64 = 0x1_62_61_74_63_68;
 fn cut(w: Window, strokes: &[i32], lent: &mut [i32]) -> Reply
     requires { ⌜ length (now lent) ≤ 40960 ⌝ }
     ensures { λ r. ⌜ r .count ≤ 16 ⌝ }
+    ensures { λ r. ⌜ Tells (λ a. Lends (Batch w (now (strokes .entry)) a) (now (lent .exit))) answerFields 0 r ⌝ }
 {
     lending::prepare(lent);
     let a = batch::batch(w, strokes, lent);
@@ -22,6 +27,7 @@ fn listed(rest: &[u8], numbers: &mut [i32], lent: &mut [i32]) -> Reply
     requires { ⌜ length (now numbers) ≤ 20005 ⌝ }
     requires { ⌜ 40960 ≤ length (now lent) ⌝ }
     ensures { λ r. ⌜ r .count ≤ 16 ⌝ }
+    ensures { λ r. ⌜ BatchLine (length (now (numbers .entry))) (now (rest .entry)) (now (lent .exit)) r ⌝ }
 {
     let list = lending::read_list(rest, numbers);
     let room = list.room;
@@ -37,6 +43,7 @@ fn listed(rest: &[u8], numbers: &mut [i32], lent: &mut [i32]) -> Reply
 pub fn batch(rest: &[u8], lent: &mut [i32]) -> Reply
     requires { ⌜ 40960 ≤ length (now lent) ⌝ }
     ensures { λ r. ⌜ r .count ≤ 16 ⌝ }
+    ensures { λ r. ⌜ BatchLine 20005 (now (rest .entry)) (now (lent .exit)) r ⌝ }
 {
     // A number takes two bytes or more, and to clear 20,005 places for a few takes longer than all else.
     if rest.len() < 512 {

@@ -1,6 +1,10 @@
 // The commands of a drawing: draw.
 ghost use Prim.Native.Nat.{_≤_};
 ghost use lib.ListN.{length};
+ghost use Rattle.replies.specs.Replies.{Tells};
+ghost use Rattle.lending.specs.Lent.{Lends};
+ghost use Rattle.drawing.specs.Drawings.{ReadDrawing};
+ghost use Rattle.drawing_commands.specs.Lines.{drawingFields, DrawLine};
 use lending::MOST_ROOM;
 use replies::Reply;
 
@@ -11,6 +15,7 @@ pub const DRAW: u64 = 0x1_64_72_61_77;
 fn read(file: &[u8], lent: &mut [i32]) -> Reply
     requires { ⌜ length (now lent) ≤ 40960 ⌝ }
     ensures { λ r. ⌜ r .count ≤ 16 ⌝ }
+    ensures { λ r. ⌜ Tells (λ a. Lends (ReadDrawing (now (file .entry)) a) (now (lent .exit))) drawingFields 0 r ⌝ }
 {
     lending::prepare(lent);
     let a = drawing::read_drawing(file, lent);
@@ -24,6 +29,7 @@ fn read(file: &[u8], lent: &mut [i32]) -> Reply
 fn drawn(rest: &[u8], bytes: &mut [u8], lent: &mut [i32]) -> Reply
     requires { ⌜ 40960 ≤ length (now lent) ⌝ }
     ensures { λ r. ⌜ r .count ≤ 16 ⌝ }
+    ensures { λ r. ⌜ DrawLine (length (now (bytes .entry))) (now (rest .entry)) (now (lent .exit)) r ⌝ }
 {
     let first = arguments::first_end(rest);
     let room = lending::read_room(&rest[0..first]);
@@ -45,6 +51,7 @@ fn drawn(rest: &[u8], bytes: &mut [u8], lent: &mut [i32]) -> Reply
 pub fn draw(rest: &[u8], lent: &mut [i32]) -> Reply
     requires { ⌜ 40960 ≤ length (now lent) ⌝ }
     ensures { λ r. ⌜ r .count ≤ 16 ⌝ }
+    ensures { λ r. ⌜ DrawLine 70000 (now (rest .entry)) (now (lent .exit)) r ⌝ }
 {
     // A byte takes two digits, and to clear 70,000 places for a few takes longer than all else.
     if rest.len() < 512 {

@@ -1,15 +1,18 @@
 // The output that a line lends: how many numbers it has, what they hold before the call, and the list behind a window that goes with it.
 ghost use mathlib.Core.Path.{_≡_};
 ghost use Prim.Native.Nat.{_≤_};
-ghost use lib.ListN.{length};
-ghost use Rattle.lending.specs.Lent.{Prepared};
+ghost use lib.ListN.{length, drop};
+ghost use Rattle.words.specs.Words.{numeral, unsigned};
+ghost use Rattle.lending.specs.Lent.{Prepared, asRoom, ReadList};
 use words::Natural;
 
 // The most numbers of a lent output.
 pub const MOST_ROOM: usize = 40960;
 
 // How many numbers are lent, by an argument; more than the most where it does not say.
-pub fn read_room(argument: &[u8]) -> usize {
+pub fn read_room(argument: &[u8]) -> usize
+    ensures { λ r. ⌜ r ≡ asRoom (unsigned 40960 (numeral (drop 1 (now (argument .entry))))) ⌝ }
+{
     if argument.len() == 0 {
         return MOST_ROOM + 1;
     }
@@ -48,6 +51,7 @@ pub fn read_list(rest: &[u8], numbers: &mut [i32]) -> Listed
     requires { ⌜ length (now numbers) ≤ 20005 ⌝ }
     ensures { λ r. ⌜ r .room ≤ 40960 ⌝ }
     ensures { λ r. ⌜ r .end ≤ length (now (numbers .entry)) ⌝ }
+    ensures { λ r. ⌜ ReadList (now (rest .entry)) (now (numbers .exit)) r ⌝ }
 {
     let first = arguments::first_end(rest);
     let room = read_room(&rest[0..first]);

@@ -1,6 +1,10 @@
 // The commands of the intake: mm2, mm4 and back.
+ghost use mathlib.Core.Path.{_≡_};
 ghost use Prim.Native.Nat.{_+_, _≤_};
-ghost use lib.ListN.{length};
+ghost use lib.ListN.{length, drop};
+ghost use Rattle.replies.specs.Replies.{Tells};
+ghost use Rattle.intake.specs.Millimetres.{ToMillimetres};
+ghost use Rattle.millimetre_commands.specs.Lines.{backFields, singleAt, Mm2, Mm4, Back};
 use intake::PointMm;
 use intake::WindowMm;
 use replies::Reply;
@@ -17,6 +21,7 @@ pub const BACK: u64 = 0x1_62_61_63_6b;
 // The f32 after the space at p.
 fn single_at(rest: &[u8], p: usize) -> Single
     requires { ⌜ p + 9 ≤ length (now rest) ⌝ }
+    ensures { λ r. ⌜ r ≡ singleAt (drop p (now (rest .entry))) ⌝ }
 {
     if rest[p] != b' ' {
         return Single::Bad;
@@ -27,6 +32,7 @@ fn single_at(rest: &[u8], p: usize) -> Single
 // mm2 H H: N P x y
 fn mm2(rest: &[u8]) -> Reply
     ensures { λ r. ⌜ r .count ≤ 16 ⌝ }
+    ensures { λ r. ⌜ Mm2 (now (rest .entry)) r ⌝ }
 {
     if rest.len() != 18 {
         return replies::unknown();
@@ -44,6 +50,7 @@ fn mm2(rest: &[u8]) -> Reply
 // mm4 H H H H: N P l b r t
 fn mm4(rest: &[u8]) -> Reply
     ensures { λ r. ⌜ r .count ≤ 16 ⌝ }
+    ensures { λ r. ⌜ Mm4 (now (rest .entry)) r ⌝ }
 {
     if rest.len() != 36 {
         return replies::unknown();
@@ -72,6 +79,7 @@ fn mm4(rest: &[u8]) -> Reply
 // N P H of a grid number in millimetres
 fn millimetres(g: i32) -> Reply
     ensures { λ r. ⌜ r .count ≤ 16 ⌝ }
+    ensures { λ r. ⌜ Tells (ToMillimetres g) backFields 0 r ⌝ }
 {
     let a = intake::to_millimetres(g);
     replies::begin(a.number, a.place).bits(f32::to_bits(a.mm))
@@ -80,6 +88,7 @@ fn millimetres(g: i32) -> Reply
 // back g: N P H
 fn back(rest: &[u8]) -> Reply
     ensures { λ r. ⌜ r .count ≤ 16 ⌝ }
+    ensures { λ r. ⌜ Back (now (rest .entry)) r ⌝ }
 {
     if rest.len() == 0 {
         return replies::unknown();

@@ -1,6 +1,12 @@
 // The commands of an outline: outline.
+ghost use mathlib.Core.Path.{_≡_};
 ghost use Prim.Native.Nat.{_≤_};
-ghost use lib.ListN.{length};
+ghost use lib.ListN.{length, drop};
+ghost use Rattle.words.specs.Words.{numeral, unsigned};
+ghost use Rattle.replies.specs.Replies.{Tells};
+ghost use Rattle.lending.specs.Lent.{Lends};
+ghost use Rattle.outlines.specs.Outlines.{Outline};
+ghost use Rattle.outline_commands.specs.Lines.{outlineFields, asOrder, OutlineLine};
 use grid::Window;
 use replies::Reply;
 use words::Natural;
@@ -14,7 +20,9 @@ enum Order {
     Is(u32),
 }
 
-fn read_order(argument: &[u8]) -> Order {
+fn read_order(argument: &[u8]) -> Order
+    ensures { λ r. ⌜ r ≡ asOrder (unsigned 0xffff_ffff (numeral (drop 1 (now (argument .entry))))) ⌝ }
+{
     if argument.len() == 0 {
         return Order::Bad;
     }
@@ -28,6 +36,7 @@ fn read_order(argument: &[u8]) -> Order {
 fn clip(w: Window, order: u32, outline: &[i32], lent: &mut [i32]) -> Reply
     requires { ⌜ length (now lent) ≤ 40960 ⌝ }
     ensures { λ r. ⌜ r .count ≤ 16 ⌝ }
+    ensures { λ r. ⌜ Tells (λ a. Lends (Outline w order (now (outline .entry)) a) (now (lent .exit))) outlineFields 0 r ⌝ }
 {
     lending::prepare(lent);
     let a = outlines::clip_outline(w, order, outline, lent);
@@ -38,6 +47,7 @@ fn clip(w: Window, order: u32, outline: &[i32], lent: &mut [i32]) -> Reply
 pub fn outline(rest: &[u8], lent: &mut [i32]) -> Reply
     requires { ⌜ 40960 ≤ length (now lent) ⌝ }
     ensures { λ r. ⌜ r .count ≤ 16 ⌝ }
+    ensures { λ r. ⌜ OutlineLine (now (rest .entry)) (now (lent .exit)) r ⌝ }
 {
     let first = arguments::first_end(rest);
     let Order::Is(order) = read_order(&rest[0..first]) else {

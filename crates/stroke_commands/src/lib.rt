@@ -1,6 +1,7 @@
 // The commands of one stroke: lb, cs and cb.
-ghost use mathlib.Core.Path.{_≡_};
 ghost use Prim.Native.Nat.{_+_, _≤_};
+ghost use Rattle.replies.specs.Replies.{said, Says};
+ghost use Rattle.stroke_commands.specs.Lines.{withPart, strokeFields, Lb, Cs, Cb};
 use fraction::Fraction;
 use replies::Reply;
 use strokes::StrokeAnswer;
@@ -15,7 +16,7 @@ pub const CB: u64 = 0x1_63_62;
 // K n0 d0 n1 d1: whether a stroke is kept, and its two fractions.
 fn part(reply: Reply, kept: bool, t0: Fraction, t1: Fraction) -> Reply
     requires { ⌜ reply .count + 5 ≤ 16 ⌝ }
-    ensures { λ r. ⌜ r .count ≡ reply .count + 5 ⌝ }
+    ensures { λ r. ⌜ Says r (reply .count + 5) (withPart (said reply) kept t0 t1) (reply .room) ⌝ }
 {
     reply
         .natural(kept as u64)
@@ -27,7 +28,7 @@ fn part(reply: Reply, kept: bool, t0: Fraction, t1: Fraction) -> Reply
 
 // N P K n0 d0 n1 d1 ax ay bx by
 fn answered(a: StrokeAnswer) -> Reply
-    ensures { λ r. ⌜ r .count ≡ 11 ⌝ }
+    ensures { λ r. ⌜ Says r 11 (strokeFields a) 0 ⌝ }
 {
     let t0 = a.t0;
     let t1 = a.t1;
@@ -42,6 +43,7 @@ fn answered(a: StrokeAnswer) -> Reply
 // lb l b r t x1 y1 x2 y2: N P K n0 d0 n1 d1 ax ay bx by
 fn lb(rest: &[u8]) -> Reply
     ensures { λ r. ⌜ r .count ≤ 16 ⌝ }
+    ensures { λ r. ⌜ Lb (now (rest .entry)) r ⌝ }
 {
     let pair = arguments::read_pair(rest);
     if !pair.whole {
@@ -53,6 +55,7 @@ fn lb(rest: &[u8]) -> Reply
 // cs l b r t x1 y1 x2 y2: N P K n0 d0 n1 d1 ax ay bx by S
 fn cs(rest: &[u8]) -> Reply
     ensures { λ r. ⌜ r .count ≤ 16 ⌝ }
+    ensures { λ r. ⌜ Cs (now (rest .entry)) r ⌝ }
 {
     let pair = arguments::read_pair(rest);
     if !pair.whole {
@@ -65,6 +68,7 @@ fn cs(rest: &[u8]) -> Reply
 // cb M c1 .. cM x1 y1 x2 y2: N P K n0 d0 n1 d1, M at most 64
 fn cb(rest: &[u8]) -> Reply
     ensures { λ r. ⌜ r .count ≤ 16 ⌝ }
+    ensures { λ r. ⌜ Cb (now (rest .entry)) r ⌝ }
 {
     let mut numbers = [0i32; 69];
     let n = arguments::read_numbers(rest, &mut numbers);

@@ -1,0 +1,42 @@
+-- `batch_commands::cut` meets its contract: the output is prepared, and the reply says the answer. Assumes nothing.
+use native.Mathlib.Omega.{arith}
+use Rattle.replies.proofs.Fields.{next}
+use Rattle.replies.proofs.Lines.{tells}
+use borrow.Author.Needs.{needs}
+use Rattle.batch_commands.proofs.cut.Statement.{statement}
+use Rattle.batch_commands.proofs.cut.Tie as tie
+
+prepare-requires : tie.Need-prepare-requires
+prepare-requires c κs = search needs
+
+batch-requires : tie.Need-batch-requires
+batch-requires c κs = search needs
+
+begin-requires : tie.Need-begin-requires
+begin-requires c κs = search needs
+
+natural-requires : tie.Need-natural-requires
+natural-requires c κs = search needs
+
+same-length : tie.Need-same-length
+same-length c = search needs
+
+returns : tie.Need-returns
+returns c =
+    let called = c .before .before .before in
+    let prepared = called .before .before .before in
+    let s = next (c .before .begin .ensures) (c .natural .ensures) in (
+      omega (arith, s .count),
+      tells (called .batch .result)
+          (record {
+            before = prepared .prepare .last .0;
+            same = search needs;
+            prepared = prepared .prepare .ensures;
+            call = called .batch .ensures;
+          }) s,
+    )
+
+pub cut-spec : {M : Type 1} → statement M
+cut-spec =
+    tie.close
+    (tie.spec prepare-requires batch-requires begin-requires natural-requires same-length returns)
