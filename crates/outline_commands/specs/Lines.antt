@@ -9,19 +9,19 @@ use mathlib.Core.List.{List}
 use Prim.Native.Nat.{ℕ}
 use lib.IntN.{ℤ}
 use lib.ListN.{take}
-use Rattle.grid.specs.declared.Answer.{Answer}
 use Rattle.words.specs.Words.{numeral, unsigned}
 use Rattle.words.specs.declared.Natural.{Natural}
 use Rattle.words.specs.declared.Natural.the-variants as Natural
 use Rattle.arguments.specs.Arguments.{firstWord, behindFirst}
 use Rattle.lending.specs.Lent.{ListArguments, AsksList, Lends}
 use Rattle.outlines.specs.Outlines.{Outline}
+use Rattle.outlines.specs.declared.OutlineAnswer.{OutlineAnswer}
 use Rattle.replies.specs.Replies.{Fields, none, _and_, natural, Tells, Replies}
 use Rattle.replies.specs.declared.Reply.{Reply}
 use Rattle.outline_commands.specs.declared.Order.{Order}
 use Rattle.outline_commands.specs.declared.Order.the-variants as Order
 
-abbrev pub outlineFields : Answer → Fields
+abbrev pub outlineFields : OutlineAnswer → Fields
 outlineFields a = none and natural (a .number) and natural (a .place) and natural (a .count)
 
 abbrev pub asOrder : Natural → Order
