@@ -1,9 +1,9 @@
 -- What was read into an output are the numbers of the text, and eight of them are a window and a stroke.
 use mathlib.Core.Path.{_≡_, refl, sym, ap, _∙_}
-use mathlib.Core.Bool.{Bool, true, false}
+use mathlib.Core.Bool.{true, false}
 use mathlib.Core.List.{List, [], _∷_, _++_}
-use mathlib.Core.Option.{Option, some}
-use Prim.Native.Nat.{ℕ, _+_, _≤_, _<_, _^_}
+use mathlib.Core.Option.{some}
+use Prim.Native.Nat.{ℕ, _+_, _<_, _^_}
 use native.Mathlib.Omega.{arith}
 use lib.Dec.{eqb}
 use lib.IntN.{ℤ, pos}
@@ -21,7 +21,6 @@ use Rattle.text.specs.Runs.{run, isNot}
 use Rattle.words.specs.Words.{Into}
 use Rattle.words.specs.declared.Read.{Read}
 use Rattle.arguments.specs.Arguments.{numbersIn, firstEnd, Numbers, firstWindow, PairIs, ReadPair}
-use Rattle.arguments.specs.declared.Pair.{Pair}
 
 pub not-read : {text : List ℕ} {out : List ℤ} {r : Read} → Into (numbersIn text) out r → r .whole ≡ false →
     Numbers text out 0

@@ -1,6 +1,6 @@
 -- A number takes two bytes or more, since a word that is a number is not empty: words and the spaces before them are
 -- as long as the text.
-use mathlib.Core.Path.{_≡_, refl, sym, ap, _∙_}
+use mathlib.Core.Path.{_≡_, refl}
 use mathlib.Core.Bool.{Bool, true, false}
 use mathlib.Core.List.{List, [], _∷_}
 use mathlib.Core.Option.{Option, none, some}

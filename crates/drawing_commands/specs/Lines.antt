@@ -14,11 +14,11 @@ use Rattle.arguments.specs.Arguments.{behindFirst}
 use Rattle.lending.specs.Lent.{AsksRoom, Lends}
 use Rattle.drawing.specs.Drawings.{ReadDrawing}
 use Rattle.drawing.specs.declared.DrawingAnswer.{DrawingAnswer}
-use Rattle.replies.specs.Replies.{Fields, none, _and_, natural, withWindow, Tells, Replies}
+use Rattle.replies.specs.Replies.{Fields, none, _and_, plain, withWindow, Tells, Replies}
 use Rattle.replies.specs.declared.Reply.{Reply}
 
 abbrev pub drawingFields : DrawingAnswer → Fields
-drawingFields a = withWindow (none and natural (a .number) and natural (a .place)) (a .window) and natural (a .count)
+drawingFields a = withWindow (none and plain (a .number) and plain (a .place)) (a .window) and plain (a .count)
 
 pub record DrawArguments : Type 0 where
   pub room : ℕ

@@ -1,19 +1,18 @@
 -- Each f32 of a line takes nine bytes, a space and eight digits, so that the place of each is known.
-use mathlib.Core.Path.{_≡_, refl, sym, ap, _∙_}
+use mathlib.Core.Path.{_≡_, refl}
 use mathlib.Core.Bool.{Bool, true, false}
-use mathlib.Core.List.{List, [], _∷_, _++_}
-use Prim.Native.Nat.{ℕ, _+_, _*_, _-_, _≤_, _<_}
+use mathlib.Core.List.{List, [], _∷_}
+use Prim.Native.Nat.{ℕ, _+_, _*_, _-_, _≤_}
 use native.Mathlib.Omega.{arith}
 use lib.Dec.{eqb}
 use lib.IntN.{ℤ}
 use lib.Ieee.{Float}
-use lib.ListN.{length, take, drop, getD, length-append, length-drop, take-append-drop, drop-of-length-le}
+use lib.ListN.{length, take, drop, length-append, length-drop, take-append-drop, drop-of-length-le}
 use lib.Seq.{take-all, take-at, drop-at, drop-drop}
 use borrow.Author.Tests.{eqb-true}
 use Rattle.whole.specs.Choice.{if_then_else_}
 use Rattle.words.specs.Words.{single, withBits, upTo, asInteger, numeral, hasMinus}
 use Rattle.words.specs.Digits.{wordValue}
-use Rattle.words.specs.declared.Integer.the-variants as Integer
 use Rattle.words.specs.declared.Single.{Single}
 use Rattle.words.specs.declared.Single.the-variants as Single
 use Rattle.millimetre_commands.specs.Lines.{singleAt, Singles, empty, one, AsksBack}

@@ -4,7 +4,7 @@
 --   Singles text xs  the text is the f32s xs, each a word with a space before it
 --   AsksPoint text p, AsksWindow text w   the text is the numbers of the point, or of the window
 --   AsksBack text g  the text is a space and the grid number g
---   Mm2, Mm4, Back text r   r is the reply to the text after the word
+--   Mm2, Mm4, BackLine text r   r is the reply to the text after the word
 use mathlib.Core.Path.{_≡_}
 use mathlib.Core.List.{List, [], _∷_, _++_}
 use Prim.Native.Nat.{ℕ}
@@ -23,19 +23,19 @@ use Rattle.words.specs.Words.{single, asInteger, numeral}
 use Rattle.words.specs.declared.Integer.the-variants as Integer
 use Rattle.words.specs.declared.Single.{Single}
 use Rattle.words.specs.declared.Single.the-variants as Single
-use Rattle.replies.specs.Replies.{Fields, none, _and_, number, natural, float, withWindow, Tells, Replies}
+use Rattle.replies.specs.Replies.{Fields, none, _and_, number, plain, float, withWindow, Tells, Replies}
 use Rattle.replies.specs.declared.Reply.{Reply}
 
 -- ---- the fields
 
 abbrev pub pointFields : PointAnswer → Fields
-pointFields a = none and natural (a .number) and natural (a .place) and number (a .x) and number (a .y)
+pointFields a = none and plain (a .number) and plain (a .place) and number (a .x) and number (a .y)
 
 abbrev pub windowFields : WindowAnswer → Fields
-windowFields a = withWindow (none and natural (a .number) and natural (a .place)) (a .window)
+windowFields a = withWindow (none and plain (a .number) and plain (a .place)) (a .window)
 
 abbrev pub backFields : BackAnswer → Fields
-backFields a = none and natural (a .number) and natural (a .place) and float (toBits binary32 (a .mm))
+backFields a = none and plain (a .number) and plain (a .place) and float (toBits binary32 (a .mm))
 
 -- ---- the lines
 
@@ -62,5 +62,5 @@ Mm2 text = Replies (AsksPoint text) (λ p. Tells (PointToGrid p) pointFields 0)
 abbrev pub Mm4 : List ℕ → Reply → Type 0
 Mm4 text = Replies (AsksWindow text) (λ w. Tells (WindowToGrid w) windowFields 0)
 
-abbrev pub Back : List ℕ → Reply → Type 0
-Back text = Replies (AsksBack text) (λ g. Tells (ToMillimetres g) backFields 0)
+abbrev pub BackLine : List ℕ → Reply → Type 0
+BackLine text = Replies (AsksBack text) (λ g. Tells (ToMillimetres g) backFields 0)

@@ -4,7 +4,7 @@ ghost use Prim.Native.Nat.{_+_, _≤_};
 ghost use lib.ListN.{length, drop};
 ghost use Rattle.replies.specs.Replies.{Tells};
 ghost use Rattle.intake.specs.Millimetres.{ToMillimetres};
-ghost use Rattle.millimetre_commands.specs.Lines.{backFields, singleAt, Mm2, Mm4, Back};
+ghost use Rattle.millimetre_commands.specs.Lines.{backFields, singleAt, Mm2, Mm4, BackLine};
 use intake::PointMm;
 use intake::WindowMm;
 use replies::Reply;
@@ -88,7 +88,7 @@ fn millimetres(g: i32) -> Reply
 // back g: N P H
 fn back(rest: &[u8]) -> Reply
     ensures { λ r. ⌜ r .count ≤ 16 ⌝ }
-    ensures { λ r. ⌜ Back (now (rest .entry)) r ⌝ }
+    ensures { λ r. ⌜ BackLine (now (rest .entry)) r ⌝ }
 {
     if rest.len() == 0 {
         return replies::unknown();

@@ -16,13 +16,13 @@ use Rattle.arguments.specs.Arguments.{firstWord, behindFirst}
 use Rattle.lending.specs.Lent.{ListArguments, AsksList, Lends}
 use Rattle.outlines.specs.Outlines.{Outline}
 use Rattle.outlines.specs.declared.OutlineAnswer.{OutlineAnswer}
-use Rattle.replies.specs.Replies.{Fields, none, _and_, natural, Tells, Replies}
+use Rattle.replies.specs.Replies.{Fields, none, _and_, plain, Tells, Replies}
 use Rattle.replies.specs.declared.Reply.{Reply}
 use Rattle.outline_commands.specs.declared.Order.{Order}
 use Rattle.outline_commands.specs.declared.Order.the-variants as Order
 
 abbrev pub outlineFields : OutlineAnswer → Fields
-outlineFields a = none and natural (a .number) and natural (a .place) and natural (a .count)
+outlineFields a = none and plain (a .number) and plain (a .place) and plain (a .count)
 
 abbrev pub asOrder : Natural → Order
 asOrder Natural.Bad = Order.Bad

@@ -6,7 +6,7 @@ use mathlib.Core.List.{List}
 use Prim.Native.Nat.{ℕ, zero, suc, _+_, _≤_, _<_, _^_}
 use native.Mathlib.Numerals.{add-one}
 use native.Mathlib.Omega.{arith}
-use lib.IntN.{ℤ, pos, negsuc, negℤ, natAbs}
+use lib.IntN.{ℤ, pos, negsuc, natAbs}
 use lib.ListN.{length, getD, set}
 use lib.Seq.{getD-set-same, getD-set-other}
 use lib.Signed.{_≤ℤ_, _<ℤ_, mag}
@@ -14,7 +14,7 @@ use mir.Syntax.{Width}
 use mir.Val.{hbits, toZ, ofZ, boolByte}
 use Rattle.whole.proofs.Comparisons.{back}
 use Rattle.whole.proofs.Order.{zarith}
-use Rattle.replies.specs.Replies.{number, natural, flag, _and_, fieldOf, firstFields, said, Fields, Field, Says}
+use Rattle.replies.specs.Replies.{number, plain, flag, _and_, fieldOf, firstFields, said, Fields, Field, Says}
 use Rattle.replies.specs.declared.Reply.{Reply}
 
 earlier : (k : ℕ) (fs ns : List ℕ) (n f s : ℕ) → k ≤ n → firstFields k (set fs n f) (set ns n s) ≡ firstFields k fs ns
@@ -72,7 +72,7 @@ next-signed {z = z} w f h t = rw (back w z f) at (next h t)
 
 -- and a bool by its byte
 pub next-flag : {r s : Reply} {n k : ℕ} {fs : Fields} (b : Bool) →
-    Says r n fs k → Says s (r .count + 1) (said r and natural (boolByte b)) (r .room) → Says s (n + 1)
+    Says r n fs k → Says s (r .count + 1) (said r and plain (boolByte b)) (r .room) → Says s (n + 1)
     (fs and flag b) k
 next-flag true h t = next h t
 next-flag false h t = next h t

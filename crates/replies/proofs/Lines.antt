@@ -2,7 +2,7 @@
 -- nothing.
 use mathlib.Core.Path.{_∙_}
 use Prim.Native.Nat.{ℕ}
-use Rattle.replies.specs.Replies.{Fields, none, said, Says, Tells, Replies, to-call, to-none}
+use Rattle.replies.specs.Replies.{Fields, none, said, Says, Tells, Replies, to-none}
 use Rattle.replies.specs.declared.Reply.{Reply}
 
 pub tells : {A : Type 0} {Right : A → Type 0} {fields : A → Fields} {n room : ℕ} {r : Reply} (a : A) → Right a →

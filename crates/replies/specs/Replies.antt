@@ -1,6 +1,6 @@
 -- What a reply says.
 --   Field                      a field of a reply: a whole number, or an f32 by its bits
---   natural n                  the field of a natural number;  flag b: 1 for true, 0 for false
+--   plain n                    the field of a natural number;  flag b: 1 for true, 0 for false
 --   Fields                     fields in their order: none, or some and one more
 --   withWindow fs w            fs and the four numbers of a window
 --   answerFields a             N P W of a call that gives numbers
@@ -28,11 +28,11 @@ pub data Field : Type 0 where
   number : ℤ → Field
   float : ℕ → Field
 
-abbrev pub natural : ℕ → Field
-natural n = number (pos n)
+abbrev pub plain : ℕ → Field
+plain n = number (pos n)
 
 abbrev pub flag : Bool → Field
-flag b = natural (if b then 1 else 0)
+flag b = plain (if b then 1 else 0)
 
 infixl 30 _and_
 pub data Fields : Type 0 where
@@ -43,10 +43,10 @@ abbrev pub withWindow : Fields → Window → Fields
 withWindow fs w = fs and number (w .left) and number (w .bottom) and number (w .right) and number (w .top)
 
 abbrev pub answerFields : Answer → Fields
-answerFields a = none and natural (a .number) and natural (a .place) and natural (a .count)
+answerFields a = none and plain (a .number) and plain (a .place) and plain (a .count)
 
 unfoldable pub fieldOf : ℕ → ℕ → Field
-fieldOf form size = if eqb form 1 then number (negℤ (pos size)) else if eqb form 2 then float size else natural size
+fieldOf form size = if eqb form 1 then number (negℤ (pos size)) else if eqb form 2 then float size else plain size
 
 unfoldable pub firstFields : ℕ → List ℕ → List ℕ → Fields
 firstFields zero forms sizes = none

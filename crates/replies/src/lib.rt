@@ -1,7 +1,6 @@
 // A reply: what the desk says to one line, as a value. A command makes it; how it is put on a line stands in `output`.
-ghost use mathlib.Core.Path.{_≡_};
 ghost use Prim.Native.Nat.{_+_, _≤_, _<_};
-ghost use Rattle.replies.specs.Replies.{none, _and_, number, float, natural, withWindow, fieldOf, said, Says};
+ghost use Rattle.replies.specs.Replies.{none, _and_, number, float, plain, withWindow, fieldOf, said, Says};
 use grid::Window;
 
 // How a field is written: a number, a number with a minus, or the eight hexadecimal digits of an f32's bits.
@@ -34,7 +33,7 @@ pub fn unknown() -> Reply
 
 // How every answer begins: with the refusal's number and place.
 pub fn begin(number: u8, place: usize) -> Reply
-    ensures { λ r. ⌜ Says r 2 (none and natural number and natural place) 0 ⌝ }
+    ensures { λ r. ⌜ Says r 2 (none and plain number and plain place) 0 ⌝ }
 {
     unknown().natural(number as u64).natural(place as u64)
 }
@@ -54,7 +53,7 @@ impl Reply {
 
     pub fn natural(self, n: u64) -> Self
         requires { ⌜ self .count < 16 ⌝ }
-        ensures { λ r. ⌜ Says r (self .count + 1) (said self and natural n) (self .room) ⌝ }
+        ensures { λ r. ⌜ Says r (self .count + 1) (said self and plain n) (self .room) ⌝ }
     {
         self.field(PLAIN, n)
     }

@@ -25,7 +25,7 @@ use Rattle.codes.specs.Steps.{CohenSutherland}
 use Rattle.codes.specs.declared.CountedAnswer.{CountedAnswer}
 use Rattle.corners.specs.Corners.{CyrusBeck}
 use Rattle.corners.specs.declared.CornerAnswer.{CornerAnswer}
-use Rattle.replies.specs.Replies.{Fields, none, _and_, number, natural, flag, Tells, Replies}
+use Rattle.replies.specs.Replies.{Fields, none, _and_, number, plain, flag, Tells, Replies}
 use Rattle.replies.specs.declared.Reply.{Reply}
 
 -- ---- the fields
@@ -36,14 +36,14 @@ withPart fs kept t0 t1 = fs and flag kept and number (t0 .num) and number (t0 .d
 
 abbrev pub strokeFields : StrokeAnswer → Fields
 strokeFields a =
-    withPart (none and natural (a .number) and natural (a .place)) (a .kept) (a .t0) (a .t1)
+    withPart (none and plain (a .number) and plain (a .place)) (a .kept) (a .t0) (a .t1)
     and number (a .ax) and number (a .ay) and number (a .bx) and number (a .by)
 
 abbrev pub countedFields : CountedAnswer → Fields
-countedFields a = strokeFields (a .answer) and natural (a .shortenings)
+countedFields a = strokeFields (a .answer) and plain (a .shortenings)
 
 abbrev pub cornerFields : CornerAnswer → Fields
-cornerFields a = withPart (none and natural (a .number) and natural (a .place)) (a .kept) (a .t0) (a .t1)
+cornerFields a = withPart (none and plain (a .number) and plain (a .place)) (a .kept) (a .t0) (a .t1)
 
 -- ---- the lines
 
