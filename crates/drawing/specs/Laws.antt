@@ -1,6 +1,6 @@
 -- Laws of drawing files, proved in proofs/Theorems.antt.
---   OneDrawingAnswer   for one file and one output two results of the reading call are equal: the answer, and the output
---                      after it
+--   OneDrawingAnswer   for one file and one output two results of the reading call are equal: the answer, and the
+--                      output after it
 --   OnlyMeaning bs     the bytes mean one thing, a fault or a drawing, and nothing else
 --   OneMeaning         every byte string means one thing
 use mathlib.Core.Path.{_≡_}

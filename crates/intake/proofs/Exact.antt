@@ -95,7 +95,8 @@ round-over s n c C h =
     let g : 2 ^ 277 ≤ q * 2 ^ k = keeps (n * 2 ^ 149) c C (le-trans (le-of-eq (mul-right-comm (2 ^ 128) (2 ^ 149) c)) (mul-le-mul-right (2 ^ 149) h)) in
     round-is binary32 s n c ∙ ap (λ (b : Bool). cond b (odd 25 s q k 149) (inf s)) (le-ltb (q * 2 ^ k) (2 ^ 277) g)
 
-pub product-over : (s : Bool) (m : ℕ) (e : ℤ) → 2 ^ 128 * down e ≤ m * up e * 32 → mul binary32 (fin s m e) thirtyTwo ≡ inf s
+pub product-over : (s : Bool) (m : ℕ) (e : ℤ) → 2 ^ 128 * down e ≤ m * up e * 32
+    → mul binary32 (fin s m e) thirtyTwo ≡ inf s
 product-over s m e h = product-is s m e ∙ round-over s (m * up e * 32) (down e) (down-pos e) h
 
 -- ---- g / 32, for a grid number g

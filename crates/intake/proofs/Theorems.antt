@@ -26,8 +26,8 @@ use Rattle.intake.specs.declared.WindowMm.{WindowMm}
 use Rattle.intake.specs.declared.PointAnswer.{PointAnswer}
 use Rattle.intake.specs.declared.WindowAnswer.{WindowAnswer}
 use Rattle.intake.specs.declared.BackAnswer.{BackAnswer}
-use Rattle.intake.specs.Laws.{OnePointAnswer, OneWindowAnswer, OneBackAnswer, thirtyTwo, TimesThirtyTwoExact, OverThirtyTwoExact}
-use Rattle.intake.specs.Laws.{PointThereAndBack, WindowThereAndBack}
+use Rattle.intake.specs.Laws.{OnePointAnswer, OneWindowAnswer, OneBackAnswer}
+use Rattle.intake.specs.Laws.{thirtyTwo, TimesThirtyTwoExact, OverThirtyTwoExact, PointThereAndBack, WindowThereAndBack}
 use Rattle.intake.specs.Millimetres.{signed, nearest, accepted, Taken, on-range, pointFault, refusedPoint, pointAnswer}
 use Rattle.intake.specs.Millimetres.{PointToGrid, windowFault, refusedWindow, windowAnswer, WindowToGrid, InMillimetres}
 use Rattle.intake.specs.Millimetres.{ToMillimetres, done, refused}

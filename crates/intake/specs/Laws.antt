@@ -1,9 +1,9 @@
--- Laws of the intake, proved in proofs/Theorems.antt: each call has one answer, times 32 and over 32 are exact in f32, and
--- the table's numbers go to millimetres and come back the same.
---   OnePointAnswer, OneWindowAnswer, OneBackAnswer   two answers that are right for one point, window or number are equal
+-- Laws of the intake, proved in proofs/Theorems.antt: each call has one answer, times 32 and over 32 are exact in f32,
+-- and the table's numbers go to millimetres and come back the same.
+--   OnePointAnswer, OneWindowAnswer, OneBackAnswer   two answers that are right for one input are equal
 --   thirtyTwo            the f32 32.0
---   ExactTimes s m e y   for the number x = fin s m e, y is exactly 32 x where that is below 2 ^ 128 in size; from there on
---                        y is infinite, and x is refused by 10
+--   ExactTimes s m e y   for the number x = fin s m e, y is exactly 32 x where that is below 2 ^ 128 in size; from
+--                        there on y is infinite, and x is refused by 10
 --   TimesThirtyTwoExact  the f32 product of any f32 and 32.0 is such a y: it is exact unless it overflows
 --   OverThirtyTwoExact   the f32 quotient of any number g of the table and 32.0 is exactly g / 32
 --   Back g a             g is a number of the table, and a what `to_millimetres` answers for it
