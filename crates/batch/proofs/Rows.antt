@@ -8,7 +8,6 @@ use lib.IntN.{ℤ, pos}
 use lib.ListN.{length, drop, length-append}
 use Rattle.whole.specs.Choice.{if_then_else_}
 use Rattle.whole.proofs.Comparisons.{ff-tt}
-use Rattle.grid.specs.declared.Answer.{Answer}
 use Rattle.grid.specs.declared.Stroke.{Stroke}
 use Rattle.grid.specs.declared.Window.{Window}
 use Rattle.grid.specs.Refusals.{none}
@@ -22,8 +21,9 @@ use Rattle.strokes.specs.declared.StrokeAnswer.{StrokeAnswer}
 use Rattle.strokes.proofs.Answers.{nothing-kept}
 use Rattle.strokes.proofs.Computed.{clippedOf, clippedOf-is}
 use Rattle.strokes.proofs.Unique.{clipped-unique}
-use Rattle.batch.specs.Batches.{Each, row, rows, RowsOf, Batch, batchRefusal}
+use Rattle.batch.specs.Batches.{Each, row, rows, RowsOf, batchRefusal}
 use Rattle.batch.specs.Batches as batches
+use Rattle.batch.specs.Laws.{OneBatch}
 
 -- ---- one list of rows
 each-unique : {w : Window} {ss : List Stroke} {xs ys : List StrokeAnswer} → Each (Clipped w) ss xs → Each (Clipped w) ss ys → xs ≡ ys
@@ -33,10 +33,8 @@ each-unique (batches._and_ p ps) (batches._and_ q qs) = λ i. clipped-unique p q
 pub rows-unique : {w : Window} {zs xs ys : List ℤ} → RowsOf w zs xs → RowsOf w zs ys → xs ≡ ys
 rows-unique p q = p .are ∙ ap (rows 0) (each-unique (p .clipped) (q .clipped)) ∙ sym (q .are)
 
--- two results of the batch are equal, answer and output
-pub batch-unique : {w : Window} {zs : List ℤ} {a b : Answer} {before after after′ : List ℤ} → Batch w zs a before after → Batch w zs b before after′
-    → (a ≡ b) × (after ≡ after′)
-batch-unique {w} {zs} p q = call-unique (batchRefusal w zs) (λ xs ys. rows-unique) p q
+pub one-batch : OneBatch
+one-batch w zs a b before after after′ p q = call-unique (batchRefusal w zs) (λ xs ys. rows-unique) p q
 
 -- ---- the rows of the computed answers
 module _ {w : Window} (on : WindowOnTable w) where

@@ -27,7 +27,7 @@ use Rattle.codes.specs.Workers.{Apart, WayMeets}
 use Rattle.codes.specs.declared.CountedAnswer.{CountedAnswer}
 use Rattle.codes.proofs.Crossings.{meets-on, meets-back, from, to, number-on, from-on, to-on, apart-ends, meets-side, apart}
 use Rattle.codes.proofs.Decided.{code-small, start-side, end-side, start-beyond, end-beyond}
-use Rattle.codes.proofs.Runs.{cohen-sutherland-unique}
+use Rattle.codes.proofs.Runs.{one-counted-answer}
 use Rattle.codes.proofs.Shortenings.{span, Ordered, Reached, reached-first, reached-next}
 
 -- ---- one shortening
@@ -112,4 +112,4 @@ countedOf-is w s =
     (λ t. record { clipping = answerOf-is w s; refused = λ _. refl; done = λ z. absurd (eqb-false (strokeCallRefusal w s .number) 0 t z) })
 
 pub computed : {w : Window} {s : Stroke} {r : CountedAnswer} → CohenSutherland w s r → r ≡ countedOf w s
-computed {w} {s} h = cohen-sutherland-unique h (countedOf-is w s)
+computed {w} {s} {r} h = one-counted-answer w s r (countedOf w s) h (countedOf-is w s)

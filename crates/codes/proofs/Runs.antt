@@ -19,11 +19,10 @@ use Rattle.grid.specs.declared.Window.{Window}
 use Rattle.grid.specs.Sides.{Side, left, right, bottom, top, placeOf, sideAt}
 use Rattle.spans.specs.Parts.{zeroth, unit}
 use Rattle.strokes.specs.Strokes.{strokeCallRefusal}
-use Rattle.strokes.proofs.Unique.{clipping-unique}
+use Rattle.strokes.proofs.Unique.{one-stroke-answer}
 use Rattle.codes.specs.Codes.{past, code, decision}
-use Rattle.codes.specs.Laws.{NeverMoreThanFour, EnginesAgree}
-use Rattle.codes.specs.Steps.{decided, OnLine, Shortening, start, end, Run, kept, lost, shorten, CohenSutherland}
-use Rattle.codes.specs.declared.CountedAnswer.{CountedAnswer}
+use Rattle.codes.specs.Laws.{OneCountedAnswer, NeverMoreThanFour, EnginesAgree}
+use Rattle.codes.specs.Steps.{decided, OnLine, Shortening, start, end, Run, kept, lost, shorten}
 use Rattle.codes.proofs.Crossings.{side-of, place-small}
 use Rattle.codes.proofs.Decided.{start-beyond, end-beyond}
 use Rattle.codes.proofs.Forms.{form, same-fraction, slope, base, beyond-form, form-beyond, on-form}
@@ -119,17 +118,17 @@ module _ {w : Window} {s : Stroke} where
   pub run-unique : {m n : ℕ} → Run w s zeroth unit m → Run w s zeroth unit n → m ≡ n
   run-unique p q = run-same (itself (omega zarith)) (itself (omega zarith)) p q
 
-  -- ---- the call has one result
-  pub cohen-sutherland-unique : {r r′ : CountedAnswer} → CohenSutherland w s r → CohenSutherland w s r′ → r ≡ r′
-  cohen-sutherland-unique p q =
-      let a = clipping-unique (p .clipping) (q .clipping) in
-      let c = zero-or-not (strokeCallRefusal w s .number) (λ z. run-unique (p .done z) (q .done z)) (λ n. p .refused n ∙ sym (q .refused n)) in
-      λ i. record { answer = a i; shortenings = c i }
-
 -- ---- the laws of the call
+pub one-counted-answer : OneCountedAnswer
+one-counted-answer w s a b p q =
+    let answer = one-stroke-answer w s (a .answer) (b .answer) (p .clipping) (q .clipping) in
+    let count = zero-or-not (strokeCallRefusal w s .number)
+    (λ z. run-unique (p .done z) (q .done z)) (λ n. p .refused n ∙ sym (q .refused n)) in
+    λ i. record { answer = answer i; shortenings = count i }
+
 pub never-more-than-four : NeverMoreThanFour
 never-more-than-four w s r p =
     zero-or-not (strokeCallRefusal w s .number) (λ z. whole-run-few (p .done z)) (λ n. omega (arith, p .refused n))
 
 pub engines-agree : EnginesAgree
-engines-agree w s r a p q = clipping-unique (p .clipping) q
+engines-agree w s r a p q = one-stroke-answer w s (r .answer) a (p .clipping) q

@@ -5,7 +5,6 @@ use mathlib.Core.List.{List}
 use Prim.Native.Nat.{ℕ}
 use borrow.Author.Tests.{eqb-true, eqb-false}
 use lib.Dec.{eqb}
-use lib.IntN.{ℤ}
 use Rattle.fraction.specs.declared.Fraction.{Fraction}
 use Rattle.fraction.specs.Fraction.{LowestOf, lessThan}
 use Rattle.fraction.proofs.Comparing.{less-taken, less-left}
@@ -17,7 +16,8 @@ use Rattle.spans.specs.Parts.{Time}
 use Rattle.spans.specs.Spans.{SpanOf}
 use Rattle.spans.proofs.Cutting.{in-time}
 use Rattle.spans.proofs.Parts.{part-unique, part-missed, none-left, in-first, in-last, span-part}
-use Rattle.corners.specs.Corners.{cyrusBeckRefusal, KeepsIn, blankAnswer, CornerClipped, CyrusBeck}
+use Rattle.corners.specs.Corners.{cyrusBeckRefusal, KeepsIn, blankAnswer, CornerClipped}
+use Rattle.corners.specs.Laws.{OneCornerAnswer}
 use Rattle.corners.specs.declared.CornerAnswer.{CornerAnswer}
 
 module _ {A : ℕ} {cs : List Point} {s : Stroke} {span : Span} (g : SpanOf A (KeepsIn cs s) span) where
@@ -40,8 +40,8 @@ clip-unique p q =
     let u = part-unique (p .part) (q .part) in
     λ i. record { number = (p .number ∙ sym (q .number)) i; place = (p .place ∙ sym (q .place)) i; kept = u .0 i; t0 = u .1 i; t1 = u .2 i }
 
-pub unique : {zs : List ℤ} {s : Stroke} {a b : CornerAnswer} → CyrusBeck zs s a → CyrusBeck zs s b → a ≡ b
-unique {zs} {s} {a} {b} p q = go (eqb (cyrusBeckRefusal zs s .number) 0) refl
+pub one-corner-answer : OneCornerAnswer
+one-corner-answer zs s a b p q = go (eqb (cyrusBeckRefusal zs s .number) 0) refl
   where
     go : (t : Bool) → eqb (cyrusBeckRefusal zs s .number) 0 ≡ t → a ≡ b
     go true t = let e = eqb-true (cyrusBeckRefusal zs s .number) 0 t in clip-unique (p .done e) (q .done e)

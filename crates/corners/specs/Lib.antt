@@ -1,3 +1,4 @@
 pub mod Corners
+pub mod Laws
 pub mod Edges
 pub mod Rectangles

@@ -1,5 +1,7 @@
 -- A rectangle given as a corner window.
---   RectangleCorners w zs   zs are the numbers of the four corners of w, counterclockwise from any of them
+--   RectangleCorners w zs   zs are the numbers of the four corners of w, from any of them on, in the order left bottom,
+--                           right bottom, right top, left top: counterclockwise, or clockwise where just one pair of
+--                           sides is exchanged
 --   TurnedOver w            w has its right left of its left and its top below its bottom
 use mathlib.Core.List.{List, [], _∷_}
 use lib.IntN.{ℤ}

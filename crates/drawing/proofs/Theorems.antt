@@ -1,7 +1,7 @@
 -- What the contract of the drawing file means; no function's proof needs this file.
---   means, means-unique, one-meaning   every byte string has a meaning, and one only: the law of specs/Laws.antt
+--   means, means-unique, one-meaning   every byte string has a meaning, and one only
 --   never-both               so no byte string is both a fault and a drawing
---   read, read-unique        every call has a result, and one only: answer and output
+--   read, one-drawing-answer   every call has a result, and one only: answer and output
 --   enough                   a walk of more steps than there are bytes means the same
 --   few-strokes, on-table    a drawing has no more than 4,096 strokes, and its numbers are on the table
 use mathlib.Core.Path.{_≡_, refl, sym, _∙_, subst}
@@ -15,8 +15,7 @@ use Rattle.grid.specs.declared.Stroke.{Stroke}
 use Rattle.grid.specs.declared.Window.{Window}
 use Rattle.drawing.specs.Intake.{Intake}
 use Rattle.drawing.specs.Drawings.{Drawing, fault, drawn, walk, meaning, Means, numbersOf, ReadsAs, ReadDrawing}
-use Rattle.drawing.specs.Laws.{OneMeaning}
-use Rattle.drawing.specs.declared.DrawingAnswer.{DrawingAnswer}
+use Rattle.drawing.specs.Laws.{OneDrawingAnswer, OneMeaning}
 use Rattle.drawing.specs.declared.pen.Pen.{Pen}
 use Rattle.drawing.proofs.Computed.{computed, is-computed, by-computed}
 use Rattle.drawing.proofs.Walks.{steps-agree}
@@ -47,15 +46,16 @@ module _ (bs : List ℕ) where
   pub enough : (intake : Intake) (w : Window) (n at : ℕ) (pen : Pen) → length bs ≤ n → walk intake bs w n at pen ≡ walk intake bs w (length bs) at pen
   enough intake w n at pen h = steps-agree intake bs w n (length bs) at pen (omega arith) (omega arith)
 
-  -- ---- one result
+  -- ---- a result
 
   pub read : (out : List ℤ) → ReadDrawing bs (readAnswer (meaning computed bs) (length out)) out (readOutput (meaning computed bs) out)
   read out = to-reading bs refl refl (reads (meaning computed bs) out)
 
-  pub read-unique : {a b : DrawingAnswer} {out after after′ : List ℤ} → ReadDrawing bs a out after → ReadDrawing bs b out after′ → (a ≡ b) × (after ≡ after′)
-  read-unique {b = b} {out = out} {after′ = after′} p q =
-      reads-unique (p .drawing) (p .call) (subst (λ (d : Drawing). ReadsAs d b out after′) (means-unique (q .means) (p .means)) (q .call))
+-- ---- the laws
+pub one-drawing-answer : OneDrawingAnswer
+one-drawing-answer bs a b before after after′ p q =
+    reads-unique (p .drawing) (p .call)
+    (subst (λ (d : Drawing). ReadsAs d b before after′) (means-unique bs (q .means) (p .means)) (q .call))
 
--- ---- the law
 pub one-meaning : OneMeaning
 one-meaning bs = record { drawing = meaning computed bs; means = means bs; only = λ d p. is-computed p }

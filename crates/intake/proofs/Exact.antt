@@ -19,10 +19,7 @@ use lib.Ieee.Exact.{HasValue, round-exact}
 use lib.Ieee.Back.{round-whole}
 use lib.Ieee.Scale.{round-same}
 use lib.Ieee.Nearest.{closest, nearest-ge, div-same}
-
--- 32.0
-abbrev pub thirty-two : Float
-thirty-two = fin false 1 (pos 5)
+use Rattle.intake.specs.Laws.{thirtyTwo}
 
 -- ---- 32 * x, where it is below 2 ^ 128
 
@@ -56,13 +53,13 @@ scaled m (negsuc k) h =
           ∙ sym (mul-assoc m (2 ^ j) (2 ^ suc k)),
     )
 
-product-is : (s : Bool) (m : ℕ) (e : ℤ) → mul binary32 (fin s m e) thirty-two ≡ round binary32 s (m * up e * 32) (down e)
+product-is : (s : Bool) (m : ℕ) (e : ℤ) → mul binary32 (fin s m e) thirtyTwo ≡ round binary32 s (m * up e * 32) (down e)
 unfolding mul
 product-is true m e = ap (round binary32 true (m * up e * 32)) (mul-one (down e))
 product-is false m e = ap (round binary32 false (m * up e * 32)) (mul-one (down e))
 
 pub product-exact : (s : Bool) (m : ℕ) (e : ℤ) → T (fits binary32 (fin s m e)) → m * up e * 32 < 2 ^ 128 * down e
-    → HasValue (mul binary32 (fin s m e) thirty-two) s (m * up e * 32) (down e)
+    → HasValue (mul binary32 (fin s m e) thirtyTwo) s (m * up e * 32) (down e)
 product-exact s m e t h =
     let f = small-digits s m e t in
     let j = scaled m e (f .1) .0 in
@@ -98,13 +95,14 @@ round-over s n c C h =
     let g : 2 ^ 277 ≤ q * 2 ^ k = keeps (n * 2 ^ 149) c C (le-trans (le-of-eq (mul-right-comm (2 ^ 128) (2 ^ 149) c)) (mul-le-mul-right (2 ^ 149) h)) in
     round-is binary32 s n c ∙ ap (λ (b : Bool). cond b (odd 25 s q k 149) (inf s)) (le-ltb (q * 2 ^ k) (2 ^ 277) g)
 
-pub product-over : (s : Bool) (m : ℕ) (e : ℤ) → 2 ^ 128 * down e ≤ m * up e * 32 → mul binary32 (fin s m e) thirty-two ≡ inf s
+pub product-over : (s : Bool) (m : ℕ) (e : ℤ) → 2 ^ 128 * down e ≤ m * up e * 32
+    → mul binary32 (fin s m e) thirtyTwo ≡ inf s
 product-over s m e h = product-is s m e ∙ round-over s (m * up e * 32) (down e) (down-pos e) h
 
 -- ---- g / 32, for a grid number g
 
 -- a whole number n divided by 32
-quotient-is : (x : Float) (s : Bool) (n : ℕ) → HasValue x s n 1 → div binary32 x thirty-two ≡ round binary32 s n 32
+quotient-is : (x : Float) (s : Bool) (n : ℕ) → HasValue x s n 1 → div binary32 x thirtyTwo ≡ round binary32 s n 32
 unfolding div
 quotient-is nan s n v = absurd v
 quotient-is (inf t) s n v = absurd v
@@ -116,12 +114,12 @@ quotient-is (fin t m e) s n v = go t (v .0)
     same : (b : Bool) → round binary32 b (m * up e * 1) (32 * down e) ≡ round binary32 b n 32
     same b = round-same binary32 b (m * up e * 1) (32 * down e) n 32 (mul-pos (zero-lt-suc 31) (down-pos e)) (zero-lt-suc 31) alike
 
-    go : (t : Bool) → t ≡ s → div binary32 (fin t m e) thirty-two ≡ round binary32 s n 32
+    go : (t : Bool) → t ≡ s → div binary32 (fin t m e) thirtyTwo ≡ round binary32 s n 32
     go true h = same true ∙ ap (λ (b : Bool). round binary32 b n 32) h
     go false h = same false ∙ ap (λ (b : Bool). round binary32 b n 32) h
 
 -- n / 32 rounds to itself
-whole-over-32 : (s : Bool) (n : ℕ) → n ≤ 16383 → HasValue (div binary32 (round binary32 s n 1) thirty-two) s n 32
+whole-over-32 : (s : Bool) (n : ℕ) → n ≤ 16383 → HasValue (div binary32 (round binary32 s n 1) thirtyTwo) s n 32
 whole-over-32 s n h =
     subst⁻¹ (λ (x : Float). HasValue x s n 32) (quotient-is (round binary32 s n 1) s n (round-whole binary32 s n (le-trans h (lit≤ tt))))
     (round-exact binary32 s n 32 n 144 (zero-lt-suc 31) (lt-of-le-of-lt h (lit< tt))
@@ -133,7 +131,7 @@ unfolding inFloat
 castable (pos n) h = le→leb n (2 ^ 24) (le-trans h (lit≤ tt))
 castable (negsuc n) h = lt→ltb n (2 ^ 24) (le-trans h (lit≤ tt))
 
-pub quotient-exact : (g : ℤ) → natAbs g ≤ 16383 → HasValue (div binary32 (ofInt binary32 g) thirty-two) (not (nonNeg g)) (natAbs g) 32
+pub quotient-exact : (g : ℤ) → natAbs g ≤ 16383 → HasValue (div binary32 (ofInt binary32 g) thirtyTwo) (not (nonNeg g)) (natAbs g) 32
 unfolding ofInt
 quotient-exact (pos n) h = whole-over-32 false n h
 quotient-exact (negsuc n) h = whole-over-32 true (suc n) h

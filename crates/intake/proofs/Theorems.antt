@@ -1,70 +1,71 @@
 -- What the contracts of the intake mean; no function's proof needs this file.
---   number-unique, point-unique, window-unique, back-unique   each relation has one answer at most
---   times-32, over-32        32 x is exact in f32 unless it overflows, and then x is refused by 10; g / 32 is exact for every grid number g
---   point-there-and-back, window-there-and-back   the laws of specs/Laws.antt, by `round-trip` for each number
+--   one-point-answer, one-window-answer, one-back-answer   each call has one answer at most
+--   times-thirty-two-exact, over-thirty-two-exact   32 x is exact in f32 unless it overflows; g / 32 is exact
+--   point-there-and-back, window-there-and-back   there and back, by `round-trip` for each number
 --   point-on-table, window-on-table   the numbers of an answer are on the table
 use mathlib.Core.Path.{_≡_, refl, sym, ap, _∙_, subst}
 use mathlib.Core.Bool.{Bool, true, false, not}
-use Prim.Native.Nat.{ℕ, _*_, _^_, _≤_, _<_}
+use Prim.Native.Nat.{ℕ, _*_}
 use native.Mathlib.Nat.{zero-lt-suc}
-use lib.Dec.{T, eqb}
+use lib.Dec.{eqb}
 use lib.IntN.{ℤ, pos, negsuc, natAbs, _*ℤ_}
 use lib.Signed.{nonNeg}
-use lib.Ieee.{Float, nan, inf, fin, binary32, up, down, mul, div, ofInt, fits}
-use lib.Ieee.Fits.{down-pos}
-use lib.Ieee.Exact.{HasValue}
+use lib.Ieee.{Float, nan, inf, fin, binary32, down, ofInt}
+use lib.Ieee.Fits.{down-pos, div-fits}
 use Rattle.whole.specs.Choice.{if_then_else_}
 use Rattle.whole.proofs.Comparisons.{tt-ff}
 use Rattle.whole.proofs.Order.{zarith}
 use Rattle.whole.proofs.Ranges.{within-abs}
 use Rattle.whole.proofs.Rounding.{rounded-exact}
 use Rattle.grid.specs.Table.{onTable}
-use Rattle.grid.specs.Refusals.{first, tooFar}
+use Rattle.grid.specs.Refusals.{first}
 use Rattle.grid.specs.declared.Refusal.{Refusal}
 use Rattle.grid.proofs.Ranges.{on-within}
-use Rattle.intake.specs.declared.Coordinate.{Coordinate}
 use Rattle.intake.specs.declared.PointMm.{PointMm}
 use Rattle.intake.specs.declared.WindowMm.{WindowMm}
 use Rattle.intake.specs.declared.PointAnswer.{PointAnswer}
 use Rattle.intake.specs.declared.WindowAnswer.{WindowAnswer}
 use Rattle.intake.specs.declared.BackAnswer.{BackAnswer}
-use Rattle.intake.specs.Laws.{PointThereAndBack, WindowThereAndBack}
-use Rattle.intake.specs.Millimetres.{signed, nearest, faulty, accepted, Taken, on-range, pointFault, refusedPoint, pointAnswer}
+use Rattle.intake.specs.Laws.{OnePointAnswer, OneWindowAnswer, OneBackAnswer}
+use Rattle.intake.specs.Laws.{thirtyTwo, TimesThirtyTwoExact, OverThirtyTwoExact, PointThereAndBack, WindowThereAndBack}
+use Rattle.intake.specs.Millimetres.{signed, nearest, accepted, Taken, on-range, pointFault, refusedPoint, pointAnswer}
 use Rattle.intake.specs.Millimetres.{PointToGrid, windowFault, refusedWindow, windowAnswer, WindowToGrid, InMillimetres}
 use Rattle.intake.specs.Millimetres.{ToMillimetres, done, refused}
-use Rattle.intake.proofs.Exact.{thirty-two, product-exact, product-over, quotient-exact, value-unique}
-use Rattle.intake.proofs.Outcome.{taken, taken-is, taken-on}
+use Rattle.intake.proofs.Exact.{product-exact, product-over, quotient-exact, value-unique}
+use Rattle.intake.proofs.Outcome.{taken, taken-on}
 use Rattle.intake.proofs.Ways.{overflows}
 use Rattle.intake.proofs.Answers.{point-is, window-is}
 
 -- ---- one answer
 
-pub number-unique : {x : Float} {o u : Coordinate} → Taken x o → Taken x u → o ≡ u
-number-unique t v = taken-is t ∙ sym (taken-is v)
+pub one-point-answer : OnePointAnswer
+one-point-answer p a b r s = point-is r ∙ sym (point-is s)
 
-pub point-unique : {p : PointMm} {a b : PointAnswer} → PointToGrid p a → PointToGrid p b → a ≡ b
-point-unique r s = point-is r ∙ sym (point-is s)
+pub one-window-answer : OneWindowAnswer
+one-window-answer w a b r s = window-is r ∙ sym (window-is s)
 
-pub window-unique : {w : WindowMm} {a b : WindowAnswer} → WindowToGrid w a → WindowToGrid w b → a ≡ b
-window-unique r s = window-is r ∙ sym (window-is s)
-
-pub back-unique : {g : ℤ} {a b : BackAnswer} → ToMillimetres g a → ToMillimetres g b → a ≡ b
-back-unique (refused off) (refused _) = refl
-back-unique (refused off) (done on v) = absurd (tt-ff (sym on ∙ off))
-back-unique (done on v) (refused off) = absurd (tt-ff (sym on ∙ off))
-back-unique (done {g} {x} on v) (done {x = y} _ w) =
+pub one-back-answer : OneBackAnswer
+one-back-answer g a b (refused off) (refused _) = refl
+one-back-answer g a b (refused off) (done on v) = absurd (tt-ff (sym on ∙ off))
+one-back-answer g a b (done on v) (refused off) = absurd (tt-ff (sym on ∙ off))
+one-back-answer g a b (done {x = x} on v) (done {x = y} _ w) =
     ap (λ (z : Float). record { number = 0; place = 0; mm = z })
     (value-unique x y (not (nonNeg g)) (natAbs g) 32 (zero-lt-suc 31) (v .single) (w .single) (v .exact) (w .exact))
 
 -- ---- exactness
 
-pub times-32 : (s : Bool) (m : ℕ) (e : ℤ) → T (fits binary32 (fin s m e))
-    → (m * up e * 32 < 2 ^ 128 * down e → HasValue (mul binary32 (fin s m e) thirty-two) s (m * up e * 32) (down e))
-    × (2 ^ 128 * down e ≤ m * up e * 32 → (mul binary32 (fin s m e) thirty-two ≡ inf s) × Taken (fin s m e) (faulty tooFar))
-times-32 s m e t = (product-exact s m e t, λ h. (product-over s m e h, subst (Taken (fin s m e)) (sym (overflows s m e h)) (taken (fin s m e))))
+pub times-thirty-two-exact : TimesThirtyTwoExact
+times-thirty-two-exact s m e t = record {
+  exact = product-exact s m e t;
+  infinite = product-over s m e;
+  refused = λ h. subst (Taken (fin s m e)) (sym (overflows s m e h)) (taken (fin s m e));
+}
 
-pub over-32 : (g : ℤ) → onTable g ≡ true → HasValue (div binary32 (ofInt binary32 g) thirty-two) (not (nonNeg g)) (natAbs g) 32
-over-32 g on = quotient-exact g (within-abs (on-within g on))
+pub over-thirty-two-exact : OverThirtyTwoExact
+over-thirty-two-exact g on = record {
+  single = div-fits binary32 (ofInt binary32 g) thirtyTwo;
+  exact = quotient-exact g (within-abs (on-within g on));
+}
 
 -- ---- there and back
 
@@ -85,7 +86,7 @@ round-trip on (refused off) = absurd (tt-ff (sym on ∙ off))
 
 pub point-there-and-back : PointThereAndBack
 unfolding first pointFault pointAnswer
-point-there-and-back x y a b p q r k = point-unique k (record {
+point-there-and-back x y a b p q r k = one-point-answer _ p _ k (record {
   x = accepted x;
   y = accepted y;
   x-taken = round-trip (q .on) (q .answered);
@@ -95,7 +96,7 @@ point-there-and-back x y a b p q r k = point-unique k (record {
 
 pub window-there-and-back : WindowThereAndBack
 unfolding first windowFault windowAnswer
-window-there-and-back w l b r t p ql qb qr qt k = window-unique k (record {
+window-there-and-back w l b r t p ql qb qr qt k = one-window-answer _ p _ k (record {
   left = accepted (w .left);
   bottom = accepted (w .bottom);
   right = accepted (w .right);

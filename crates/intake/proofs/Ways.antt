@@ -19,15 +19,16 @@ use Rattle.whole.proofs.Comparisons.{true-T, ff-tt, tt-ff}
 use Rattle.grid.specs.Table.{farthest}
 use Rattle.grid.specs.Refusals.{notANumber, tooFar}
 use Rattle.intake.specs.Millimetres.{signed, faulty, accepted}
+use Rattle.intake.specs.Laws.{thirtyTwo}
 use Rattle.intake.proofs.Nearest.{over}
-use Rattle.intake.proofs.Exact.{thirty-two, product-exact, product-over}
+use Rattle.intake.proofs.Exact.{product-exact, product-over}
 use Rattle.intake.proofs.Sum.{Lands, middle, high, low, off, summed}
 use Rattle.intake.proofs.Outcome.{outcome, steps, decided}
 
 -- ---- the product, exact or infinite
 
 abbrev pub product : Float → Float
-product x = mul binary32 x thirty-two
+product x = mul binary32 x thirtyTwo
 
 data Product (s : Bool) (m : ℕ) (e : ℤ) : Type 0 where
   exact : HasValue (product (fin s m e)) s (m * up e * 32) (down e) → Product s m e

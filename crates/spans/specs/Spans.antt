@@ -1,5 +1,6 @@
 -- A span of fractions, from its first to its last, and what a condition p·t ≤ q leaves of it. Where the first is the greater no fraction lies in it.
---   largest        2 · 32,766², the largest number that a condition may have; a product of two fits 64 bits
+--   largest        2 · 32,766²: no number of the Cyrus-Beck rule is above it, as the contracts of `spans` and `corners`
+--                  demand and promise; so a product of two fits 64 bits
 --   InSpan s n d   n/d lies in the span s
 --   ProperSpan s   s lies in 0 to 1, unless it is empty, and its denominators are positive
 --   Sized A s      its numbers are not above A

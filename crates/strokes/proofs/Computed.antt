@@ -30,7 +30,7 @@ use Rattle.strokes.specs.declared.End.{End}
 use Rattle.strokes.specs.declared.StrokeAnswer.{StrokeAnswer}
 use Rattle.strokes.proofs.Answers.{nothing-kept, span-missed, span-kept}
 use Rattle.strokes.proofs.Refusing.{nothing-refused}
-use Rattle.strokes.proofs.Unique.{clipping-unique}
+use Rattle.strokes.proofs.Unique.{one-stroke-answer}
 use Rattle.strokes.proofs.Coordinates.{CutAcross, cut-across, span-of}
 
 -- ---- the kept fractions
@@ -96,4 +96,4 @@ answerOf-is w s =
     (λ e. record { refused = λ _. refl; done = λ z. absurd (eqb-false (strokeCallRefusal w s .number) 0 e z) })
 
 pub computed : {w : Window} {s : Stroke} {a : StrokeAnswer} → Clipping w s a → a ≡ answerOf w s
-computed {w} {s} p = clipping-unique p (answerOf-is w s)
+computed {w} {s} {a} p = one-stroke-answer w s a (answerOf w s) p (answerOf-is w s)

@@ -7,7 +7,8 @@ use Rattle.fraction.specs.declared.Fraction.{Fraction}
 use Rattle.grid.specs.declared.Stroke.{Stroke}
 use Rattle.grid.specs.declared.Window.{Window}
 use Rattle.spans.proofs.Parts.{part-unique}
-use Rattle.strokes.specs.Strokes.{PointAt, Clipped, Clipping, strokeCallRefusal}
+use Rattle.strokes.specs.Laws.{OneStrokeAnswer}
+use Rattle.strokes.specs.Strokes.{PointAt, Clipped, strokeCallRefusal}
 use Rattle.strokes.specs.declared.StrokeAnswer.{StrokeAnswer}
 use Rattle.strokes.proofs.Points.{point-unique}
 
@@ -39,11 +40,11 @@ module _ {w : Window} {s : Stroke} where
             by = other .1 i;
           }
 
-  pub clipping-unique : {a b : StrokeAnswer} → Clipping w s a → Clipping w s b → a ≡ b
-  clipping-unique {a} {b} p q = go (strokeCallRefusal w s .number) refl
-    where
-      go : (n : ℕ) → strokeCallRefusal w s .number ≡ n → a ≡ b
-      go zero z = clipped-unique (p .done z) (q .done z)
-      go (suc n) z =
-          let refused : strokeCallRefusal w s .number ≡ 0 → ⊥ = λ k. suc-ne-zero n (sym z ∙ k) in
-          p .refused refused ∙ sym (q .refused refused)
+pub one-stroke-answer : OneStrokeAnswer
+one-stroke-answer w s a b p q = go (strokeCallRefusal w s .number) refl
+  where
+    go : (n : ℕ) → strokeCallRefusal w s .number ≡ n → a ≡ b
+    go zero z = clipped-unique (p .done z) (q .done z)
+    go (suc n) z =
+        let refused : strokeCallRefusal w s .number ≡ 0 → ⊥ = λ k. suc-ne-zero n (sym z ∙ k) in
+        p .refused refused ∙ sym (q .refused refused)

@@ -1,4 +1,6 @@
--- Laws of the stroke calls on a rectangle, over every window and every stroke; proved in proofs/Laws.antt.
+-- Laws of the stroke calls on a rectangle, over every window and every stroke; proved in proofs/Unique.antt and
+-- proofs/Laws.antt.
+--   OneStrokeAnswer   two answers that are right for one window and one stroke are equal
 --   InClosedWindow w x y   the grid point (x, y) lies in the window or on its border
 --   StaysInside       the rounded points of a kept stroke never leave the window
 --   FourConditions    a fraction from 0 to 1 is kept exactly where it satisfies p·t ≤ q for each of the four sides
@@ -14,6 +16,9 @@ use Rattle.spans.specs.Parts.{Time}
 use Rattle.strokes.specs.Sides.{sideP, sideQ}
 use Rattle.strokes.specs.Strokes.{Keeps, Clipping}
 use Rattle.strokes.specs.declared.StrokeAnswer.{StrokeAnswer}
+
+abbrev pub OneStrokeAnswer : Type 0
+OneStrokeAnswer = (w : Window) (s : Stroke) (a b : StrokeAnswer) → Clipping w s a → Clipping w s b → a ≡ b
 
 pub record InClosedWindow (w : Window) (x y : ℤ) : Type 0 where
   pub left : w .left ≤ℤ x

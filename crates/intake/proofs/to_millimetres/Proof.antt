@@ -14,7 +14,8 @@ use Rattle.whole.proofs.Ranges.{within-abs}
 use Rattle.grid.proofs.Ranges.{on-within}
 use Rattle.grid.specs.Table.{onTable}
 use Rattle.intake.specs.Millimetres.{ToMillimetres, done, refused}
-use Rattle.intake.proofs.Exact.{thirty-two, castable, quotient-exact}
+use Rattle.intake.specs.Laws.{thirtyTwo}
+use Rattle.intake.proofs.Exact.{castable, quotient-exact}
 use Rattle.intake.proofs.to_millimetres.Statement.{statement}
 use Rattle.intake.proofs.to_millimetres.Tie as tie
 
@@ -41,8 +42,8 @@ returns : tie.Need-returns
 unfolding ofBits
 returns c =
     let s = c .before .before .before in
-    subst (λ (z : ℤ). ToMillimetres (s .args .g) (record { number = 0; place = 0; mm = div binary32 (ofInt binary32 z) thirty-two })) (sym (same s))
-    (done (on c) (record { single = div-fits binary32 (ofInt binary32 (s .args .g)) thirty-two; exact = quotient-exact (s .args .g) (small c) }))
+    subst (λ (z : ℤ). ToMillimetres (s .args .g) (record { number = 0; place = 0; mm = div binary32 (ofInt binary32 z) thirtyTwo })) (sym (same s))
+    (done (on c) (record { single = div-fits binary32 (ofInt binary32 (s .args .g)) thirtyTwo; exact = quotient-exact (s .args .g) (small c) }))
 
 returns-2 : tie.Need-returns-2
 unfolding ofBits
