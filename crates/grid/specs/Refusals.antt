@@ -1,7 +1,8 @@
 -- The numbers that a caller may get back, and the refusals that several calls share.
 --   windowOff .. badDrawing   the numbers of the table of refusals
 --   refuse n k     refusal n at place k;  none: nothing is refused
---   first rs       of the refusals rs the first that applies. A call lists its refusals by rising number, so the lowest that applies is given
+--   first rs       of the refusals rs the first that applies. A call lists them in the order in which they are tested,
+--                  which is by rising number but for the rules' exceptions
 --   offTable n zs  n at the first number of zs that is off the table, if one is
 --   noArea w       3 where left >= right or bottom >= top
 --   badStrokes zs  5 where a list is not a multiple of four numbers or has more than 4,096 strokes
