@@ -3,9 +3,9 @@
 --   SameAnswer a b       `corners::cyrus_beck` answers by a what `strokes::liang_barsky` answers by b, without points.
 --                        The place of 2 is an index in the numbers that the call was given, eight for four corners and
 --                        four for a rectangle, and may differ
---   RectangleAsCorners   a rectangle given as its four corners, counterclockwise from any, has the same answer: the
---                        same refusal, the same fractions. Left out is a rectangle that is turned over: as it stands
---                        it is refused by 3, while its corners, counterclockwise all the same, are a window
+--   RectangleAsCorners   a rectangle given as its four corners, in turn from any, has the same answer: the same
+--                        refusal, the same fractions. Left out is a rectangle that is turned over: as it stands it is
+--                        refused by 3, while its corners go counterclockwise all the same, and are a window
 use mathlib.Core.Path.{_≡_}
 use mathlib.Core.List.{List}
 use lib.IntN.{ℤ}
