@@ -91,7 +91,9 @@ module _ {w : Window} {o : ℕ} {zs m m′ : List ℤ} {p p′ : Places} {k : �
         room = omega (arith, c .end, r .room);
         inside = λ h a. cut-in h (r .held .ring) (c .pass .promise) l (r .inside h a);
         so-far = λ t ks d.
-            transport (λ j. Passes (linesIn o w) (cornersOf zs) ((ap (λ (n : ℕ). ns ++ (n ∷ ks)) count ∙ sym (append-assoc ns ((p′ .to - p′ .from) ∷ []) ks)) j) t)
+            let counted : ns ++ (length (ringAt m′ p′) ∷ ks) ≡ (ns ++ ((p′ .to - p′ .from) ∷ [])) ++ ks =
+            ap (λ (n : ℕ). ns ++ (n ∷ ks)) count ∙ sym (append-assoc ns ((p′ .to - p′ .from) ∷ []) ks) in
+            subst (λ (ls : List ℕ). Passes (linesIn o w) (cornersOf zs) ls t) counted
             (goes-on t (length (ringAt m′ p′) ∷ ks) (pass (c .pass) l (subst (λ (hs : List Line). Passes hs (ringAt m′ p′) ks t) next d)));
         none-so-far = λ d. none-goes-on (cut (c .pass) l (subst (λ (hs : List Line). Cuts hs (ringAt m′ p′) none) next d));
       }

@@ -166,7 +166,8 @@ module _ {w : Window} {zs : List ℤ} {s : Side} {h : Line} (q : h ≡ sideLine 
     traced = held .traced;
   }
 
-  pub leaves-none : Held w zs m (places i k) → (m′ : List ℤ) → ((j : ℕ) → i ≤ j → j < k → Out h (pointIn m j)) → Passed w zs s m (places i k) m′ (places i i)
+  pub leaves-none : Held w zs m (places i k) → (m′ : List ℤ) → ((j : ℕ) → i ≤ j → j < k → Out h (pointIn m j))
+      → Passed w zs s m (places i k) m′ (places i i)
   unfolding cornersFrom pointsOf
   leaves-none held m′ f =
       let e : i + (k - i) ≡ k = omega arith in

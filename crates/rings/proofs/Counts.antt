@@ -16,7 +16,8 @@ pub passes-cuts : {hs : List Line} {r t : List Point} {ns : List ℕ} → Passes
 passes-cuts no-pass = no-more
 passes-cuts (pass p l q) = cut p l (passes-cuts q)
 
-pub counts-unique : {hs : List Line} {r r′ t t′ : List Point} {ns ns′ : List ℕ} → Alike r r′ → Passes hs r ns t → Passes hs r′ ns′ t′ → ns ≡ ns′
+pub counts-unique : {hs : List Line} {r r′ t t′ : List Point} {ns ns′ : List ℕ} → Alike r r′ → Passes hs r ns t → Passes hs r′ ns′ t′
+    → ns ≡ ns′
 counts-unique a no-pass no-pass = refl
 counts-unique a (pass p l q) (pass p′ l′ q′) =
     let b = alike-cut a (p .rule) (p′ .rule) in

@@ -10,7 +10,8 @@ use lib.ListN.{length}
 use Rattle.rings.specs.Lists.{All, ∅, _◂_, Turned}
 use Rattle.rings.specs.Points.{Point, Line, In, Real, Alike}
 use Rattle.rings.specs.Rings.{Ring, InRing, Starts}
-use Rattle.rings.specs.Cuts.{OnePass, Inside, Cuts, no-more, cut, gone, Remainder, NoArea, Outcome, area, no-area, Result, none-left, started, Agree, neither, both}
+use Rattle.rings.specs.Cuts.{OnePass, Inside, Cuts, no-more, cut, gone, Remainder, NoArea, Outcome, area, no-area}
+use Rattle.rings.specs.Cuts.{Result, none-left, started, Agree, neither, both}
 use Rattle.rings.proofs.Lists.{all-head, all-tail, all-map, edges-turned, turned-back}
 use Rattle.rings.proofs.Linear.{ccw-of-convex}
 use Rattle.rings.proofs.Fan.{corners-in}

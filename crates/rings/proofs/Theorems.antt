@@ -70,7 +70,8 @@ cuts-length = orders.cuts-length
 pub passes-cuts : {hs : List Line} {r t : List Point} {ns : List ℕ} → Passes hs r ns t → Cuts hs r (some t)
 passes-cuts = counts.passes-cuts
 
-pub counts-unique : {hs : List Line} {r r′ t t′ : List Point} {ns ns′ : List ℕ} → Alike r r′ → Passes hs r ns t → Passes hs r′ ns′ t′ → ns ≡ ns′
+pub counts-unique : {hs : List Line} {r r′ t t′ : List Point} {ns ns′ : List ℕ} → Alike r r′ → Passes hs r ns t → Passes hs r′ ns′ t′
+    → ns ≡ ns′
 counts-unique = counts.counts-unique
 
 -- ---- the same point in other numbers

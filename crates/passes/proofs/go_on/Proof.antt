@@ -70,7 +70,8 @@ module _ (c : tie.At-loop Inv-loop μ-loop) where
       c .loop .inv .3 o (t .order) (sides-after o (t .order) (start .args .t .k) (omega (arith, t .place)) (t .sides)) (b .left)
 
   -- there is one
-  some-order : Running (windowOf (now (start .args .numbers))) (start .pre .1 .1 .1 .1 .0) (now (start .args .outline)) (c .loop .m) (c .loop .p) (c .loop .k) (take (c .loop .k) (c .loop .counts))
+  some-order : Running (windowOf (now (start .args .numbers))) (start .pre .1 .1 .1 .1 .0) (now (start .args .outline)) (c .loop .m) (c .loop .p)
+      (c .loop .k) (take (c .loop .k) (c .loop .counts))
   some-order = so-far (start .pre .1 .1 .1 .1 .0) (start .pre .1 .1 .1 .1 .1) .1
 
 -- ---- the side that comes next
