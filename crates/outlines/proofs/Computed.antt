@@ -186,7 +186,7 @@ unfoldable pub countsOf : List Line → List Point → List ℕ
 countsOf [] r = []
 countsOf (h ∷ hs) r = length (cutOf h r) ∷ countsOf hs (cutOf h r)
 
--- that of a ring that is left, beside it
+-- what the passes leave, and where that is a ring, how many corners each of them left
 data Counted (hs : List Line) (r : List Point) (ns : List ℕ) : Option (List Point) → Type 0 where
   none-left : Cuts hs r none → Counted hs r ns none
   ring-left : {t : List Point} → Passes hs r ns t → Counted hs r ns (some t)
