@@ -3,23 +3,22 @@
 use mathlib.Core.Path.{_≡_, refl, sym, ap, _∙_, subst, transport}
 use mathlib.Core.Bool.{Bool, true, false}
 use mathlib.Core.List.{List, [], _∷_, _++_}
+use mathlib.Core.Logic.{⊎-elim}
 use Prim.Native.Nat.{ℕ, zero, suc, _+_, _*_, _<_}
 use native.Mathlib.Omega.{arith}
-use borrow.Author.Tests.{eqb-true, eqb-false}
-use lib.Dec.{eqb, leb}
 use lib.IntN.{ℤ, pos}
 use lib.ListN.{length, drop, getD}
 use Rattle.whole.specs.Choice.{if_then_else_}
 use Rattle.grid.specs.declared.Answer.{Answer}
 use Rattle.grid.specs.declared.Stroke.{Stroke}
 use Rattle.grid.specs.declared.Window.{Window}
-use Rattle.grid.specs.Calls.{Given, written, answeredBy, answered}
-use Rattle.grid.specs.Refusals.{roomRefusal}
+use Rattle.grid.specs.Calls.{Given, givesAll}
+use Rattle.grid.proofs.Calls.{lent-cases, given-cases}
 use Rattle.strokes.specs.Laws.{InClosedWindow}
 use Rattle.strokes.specs.Strokes.{Clipped}
 use Rattle.strokes.specs.declared.StrokeAnswer.{StrokeAnswer}
 use Rattle.strokes.proofs.Laws.{clipped-inside}
-use Rattle.batch.specs.Batches.{Each, rows, RowsOf, batchRefusal}
+use Rattle.batch.specs.Batches.{Each, rows, RowsOf}
 use Rattle.batch.specs.Batches as batches
 use Rattle.batch.specs.Laws.{RowInside, RowsStayInside}
 
@@ -51,32 +50,18 @@ rows-inside {w} n (batches._and_ {y = a} {ys = answers} p ps) rest k h =
         transport (λ i. InClosedWindow w (on 1 i) (on 2 i) × InClosedWindow w (on 3 i) (on 4 i))
         (later j (omega arith))
 
-given-inside : {w : Window} {zs : List ℤ} {a : Answer} {before after : List ℤ} → Given (RowsOf w zs) a before after
-    → (k : ℕ) → 5 * k < a .count → RowInside w after (5 * k)
-unfolding answeredBy roomRefusal written
-given-inside {w} {a = a} {before = before} {after = after} g k h = go (leb (length xs) (length before)) refl
-  where
-    xs : List ℤ
-    xs = g .numbers
-
-    go : (b : Bool) → leb (length xs) (length before) ≡ b → RowInside w after (5 * k)
-    go true t =
-        let c : answered xs (length before) .count ≡ length xs = simp t in
-        let o : written xs before ≡ xs ++ drop (length xs) before = simp t in
-        let rest = drop (length xs) before in
-        let e = g .output ∙ o ∙ ap (λ (ys : List ℤ). ys ++ rest) (g .gives .are) in
-        let l = ap (λ (b : Answer). b .count) (g .answer) in
-        subst (λ (ys : List ℤ). RowInside w ys (5 * k)) (sym e)
-        (rows-inside 0 (g .gives .clipped) rest k (omega (arith, c, l, ap length (g .gives .are))))
-    go false t =
-        let c : answered xs (length before) .count ≡ 0 = simp t in
-        absurd (omega (arith, c, ap (λ (b : Answer). b .count) (g .answer)))
-
 pub rows-stay-inside : RowsStayInside
-rows-stay-inside w zs a before after p k h = go (eqb (batchRefusal w zs .number) 0) refl
+rows-stay-inside w zs a before after p k h =
+    ⊎-elim (λ e. absurd (omega (arith, counted e)))
+    (λ g. ⊎-elim (λ e. absurd (omega (arith, counted e))) (written-inside g) (given-cases g)) (lent-cases p)
   where
-    go : (b : Bool) → eqb (batchRefusal w zs .number) 0 ≡ b → RowInside w after (5 * k)
-    go true t = given-inside (p .done (eqb-true (batchRefusal w zs .number) 0 t)) k h
-    go false t =
-        let r = p .refused (eqb-false (batchRefusal w zs .number) 0 t) .answer in
-        absurd (omega (arith, ap (λ (b : Answer). b .count) r))
+    counted : {b : Answer} → a ≡ b → a .count ≡ b .count
+    counted e = ap (λ (b : Answer). b .count) e
+
+    written-inside : (g : Given (RowsOf w zs) a before after) → let xs = g .numbers in
+        (a ≡ givesAll xs) × (after ≡ xs ++ drop (length xs) before) → RowInside w after (5 * k)
+    written-inside g (e, o) =
+        let rest = drop (length (g .numbers)) before in
+        let front = o ∙ ap (λ (ys : List ℤ). ys ++ rest) (g .gives .are) in
+        subst (λ (ys : List ℤ). RowInside w ys (5 * k)) (sym front)
+        (rows-inside 0 (g .gives .clipped) rest k (omega (arith, counted e, ap length (g .gives .are))))

@@ -1,4 +1,4 @@
--- A rectangle as a corner window, counterclockwise from any of its corners: what is refused is what the rectangle's
+-- A rectangle as a corner window, from any of its corners on: what is refused is what the rectangle's
 -- call refuses, and what is kept are the points of the closed window.
 use mathlib.Core.Path.{_≡_, refl, sym, ap, _∙_}
 use mathlib.Core.Bool.{Bool, true, false}

@@ -58,4 +58,4 @@ one-drawing-answer bs a b before after after′ p q =
     (subst (λ (d : Drawing). ReadsAs d b before after′) (means-unique bs (q .means) (p .means)) (q .call))
 
 pub one-meaning : OneMeaning
-one-meaning bs = record { drawing = meaning computed bs; means = means bs; only = λ d p. is-computed p }
+one-meaning bs = (meaning computed bs, record { holds = means bs; only = λ d p. is-computed p })

@@ -1,12 +1,13 @@
 -- A call refuses, has too little room, or gives its list; and two results of a call are equal, answer and memory, wherever two results of a done call are.
 use mathlib.Core.Path.{_≡_, refl, sym, ap, _∙_}
 use mathlib.Core.Bool.{Bool, true, false}
-use mathlib.Core.List.{List}
+use mathlib.Core.List.{List, _++_}
+use mathlib.Core.Logic.{_⊎_, inl, inr}
 use Prim.Native.Nat.{ℕ, _<_, _≤_}
 use borrow.Author.Tests.{eqb-true, eqb-false, le-leb, lt-leb}
-use lib.Dec.{eqb}
+use lib.Dec.{eqb, leb}
 use lib.IntN.{ℤ}
-use lib.ListN.{length}
+use lib.ListN.{length, drop}
 use Rattle.whole.specs.Choice.{if_then_else_}
 use Rattle.grid.specs.Calls.{Lent, written, answeredBy, GivenBy, GaveNumbers}
 use Rattle.grid.specs.Refusals.{noRoom, refuse, roomRefusal}
@@ -22,6 +23,13 @@ module _ {A M : Type 0} {blank : Refusal → A} {r : Refusal} {Done : A → M �
 
   pub lent-done : {a : A} {before after : M} → r .number ≡ 0 → Done a before after → Lent blank r Done a before after
   lent-done z d = record { refused = λ n. absurd (n z); done = λ _. d }
+
+  pub lent-cases : {a : A} {before after : M} → Lent blank r Done a before after → (a ≡ blank r) ⊎ Done a before after
+  lent-cases {a} {before} {after} p = go (eqb (r .number) 0) refl
+    where
+      go : (t : Bool) → eqb (r .number) 0 ≡ t → (a ≡ blank r) ⊎ Done a before after
+      go true t = inr (p .done (eqb-true (r .number) 0 t))
+      go false t = inl (p .refused (eqb-false (r .number) 0 t) .answer)
 
   pub lent-unique : {a b : A} {before after after′ : M} → (r .number ≡ 0 → Done a before after → Done b before after′ → (a ≡ b) × (after ≡ after′))
       → Lent blank r Done a before after → Lent blank r Done b before after′ → (a ≡ b) × (after ≡ after′)
@@ -42,6 +50,20 @@ module _ {A : Type 0} {blank : Refusal → A} {full : List ℤ → A} {Gives : L
   pub given-whole : (xs : List ℤ) {after : List ℤ} → Gives xs → length xs ≤ length before → after ≡ written xs before → GivenBy blank full Gives (full xs) before after
   unfolding answeredBy roomRefusal
   given-whole xs g h e = record { numbers = xs; gives = g; answer = simp (le-leb _ _ h); output = e }
+
+  -- what stands in the output: the list from its front on, or all as before where it has no room
+  pub given-cases : {a : A} {after : List ℤ} (g : GivenBy blank full Gives a before after) → let xs = g .numbers in
+      (a ≡ blank (refuse noRoom (length xs))) ⊎ ((a ≡ full xs) × (after ≡ xs ++ drop (length xs) before))
+  unfolding answeredBy roomRefusal written
+  given-cases {a} {after} g = go (leb (length xs) (length before)) refl
+    where
+      xs : List ℤ
+      xs = g .numbers
+
+      go : (t : Bool) → leb (length xs) (length before) ≡ t
+          → (a ≡ blank (refuse noRoom (length xs))) ⊎ ((a ≡ full xs) × (after ≡ xs ++ drop (length xs) before))
+      go true t = inr (g .answer ∙ simp t, g .output ∙ simp t)
+      go false t = inl (g .answer ∙ simp t)
 
   pub given-unique : {a b : A} {after after′ : List ℤ} → ((xs ys : List ℤ) → Gives xs → Gives ys → xs ≡ ys)
       → GivenBy blank full Gives a before after → GivenBy blank full Gives b before after′ → (a ≡ b) × (after ≡ after′)

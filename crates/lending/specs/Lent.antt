@@ -37,7 +37,7 @@ pub record Lends (Call : List ℤ → List ℤ → Type 0) (after : List ℤ) : 
 -- ---- what is read
 
 abbrev pub asRoom : Natural → ℕ
-asRoom Natural.Bad = 40961
+asRoom Natural.Bad = mostRoom + 1
 asRoom (Natural.Is n) = n
 
 abbrev pub AsksRoom : List ℕ → ℕ → Type 0

@@ -3,7 +3,7 @@ ghost use mathlib.Core.Path.{_≡_};
 ghost use Prim.Native.Nat.{_≤_};
 ghost use lib.ListN.{length, drop};
 ghost use Rattle.words.specs.Words.{numeral, unsigned};
-ghost use Rattle.lending.specs.Lent.{Prepared, asRoom, ReadList};
+ghost use Rattle.lending.specs.Lent.{mostRoom, Prepared, asRoom, ReadList};
 use words::Natural;
 
 // The most numbers of a lent output.
@@ -11,7 +11,7 @@ pub const MOST_ROOM: usize = 40960;
 
 // How many numbers are lent, by an argument; more than the most where it does not say.
 pub fn read_room(argument: &[u8]) -> usize
-    ensures { λ r. ⌜ r ≡ asRoom (unsigned 40960 (numeral (drop 1 (now (argument .entry))))) ⌝ }
+    ensures { λ r. ⌜ r ≡ asRoom (unsigned mostRoom (numeral (drop 1 (now (argument .entry))))) ⌝ }
 {
     if argument.len() == 0 {
         return MOST_ROOM + 1;

@@ -3,7 +3,7 @@
 --   singleAt text    the f32 that the first nine bytes of the text are, a space and eight digits
 --   Singles text xs  the text is the f32s xs, each a word with a space before it
 --   AsksPoint text p, AsksWindow text w   the text is the numbers of the point, or of the window
---   AsksBack text g  the text is a space and the grid number g
+--   AsksBack text g  the text is the grid number g after one byte, which is the space that ends the word
 --   Mm2, Mm4, BackLine text r   r is the reply to the text after the word
 use mathlib.Core.Path.{_≡_}
 use mathlib.Core.List.{List, [], _∷_, _++_}

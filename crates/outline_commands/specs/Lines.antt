@@ -1,5 +1,5 @@
 -- What the reply to outline says.
---   outlineFields a     N P W
+--   outlineFields a     N P W: what the answer says of the ring; the counts of the passes are not said
 --   asOrder n           the side order that a number is
 --   OutlineArguments    what outline asks of: a side order, and a list behind a room and a window
 --   AsksOutline text x  the text is ORDER ROOM l b r t M c1 .. cM of x, M at most 256
@@ -15,14 +15,15 @@ use Rattle.words.specs.declared.Natural.the-variants as Natural
 use Rattle.arguments.specs.Arguments.{firstWord, behindFirst}
 use Rattle.lending.specs.Lent.{ListArguments, AsksList, Lends}
 use Rattle.outlines.specs.Outlines.{Outline}
+use Rattle.outlines.specs.Laws.{ringAnswer}
 use Rattle.outlines.specs.declared.OutlineAnswer.{OutlineAnswer}
-use Rattle.replies.specs.Replies.{Fields, none, _and_, plain, Tells, Replies}
+use Rattle.replies.specs.Replies.{Fields, answerFields, Tells, Replies}
 use Rattle.replies.specs.declared.Reply.{Reply}
 use Rattle.outline_commands.specs.declared.Order.{Order}
 use Rattle.outline_commands.specs.declared.Order.the-variants as Order
 
 abbrev pub outlineFields : OutlineAnswer → Fields
-outlineFields a = none and plain (a .number) and plain (a .place) and plain (a .count)
+outlineFields a = answerFields (ringAnswer a)
 
 abbrev pub asOrder : Natural → Order
 asOrder Natural.Bad = Order.Bad

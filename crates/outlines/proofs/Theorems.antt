@@ -1,19 +1,16 @@
 -- One answer for each input; and in every order the same ring, since it is determined by its points, which no order changes.
-use mathlib.Core.Path.{_≡_, refl, sym, ap, _∙_, subst}
-use mathlib.Core.Bool.{Bool, true, false}
+use mathlib.Core.Path.{_≡_, sym, ap, _∙_, subst, transport}
 use mathlib.Core.List.{List, _++_}
+use mathlib.Core.Logic.{⊎-elim}
 use Prim.Native.Nat.{ℕ, _≤_}
-use borrow.Author.Tests.{le-leb, eqb-true, eqb-false}
-use lib.Dec.{eqb, leb}
+use borrow.Author.Tests.{le-leb}
 use lib.IntN.{ℤ}
 use lib.ListN.{length, take, drop}
 use lib.Seq.{take-append-seam}
-use Rattle.whole.specs.Choice.{if_then_else_}
 use Rattle.grid.specs.Calls.{answeredBy, written, Call}
-use Rattle.grid.specs.Refusals.{noRoom, refuse, none, roomRefusal}
 use Rattle.grid.specs.declared.Refusal.{Refusal}
 use Rattle.grid.specs.declared.Window.{Window}
-use Rattle.grid.proofs.Calls.{answered-read, lent-unique, call-unique}
+use Rattle.grid.proofs.Calls.{lent-cases, lent-unique, given-cases, answered-read, call-unique}
 use Rattle.outlines.specs.Outlines.{badOrder, outlineRefusal, OutlineGives, SmallDenominators, no-fraction, refusedOutline, gaveOutline, Outline}
 use Rattle.outlines.specs.Laws.{ringAnswer, OneOutlineAnswer, AnyOrder, Denominators}
 use Rattle.outlines.specs.declared.OutlineAnswer.{OutlineAnswer}
@@ -58,27 +55,16 @@ any-order w o o′ zs a a′ before after after′ h h′ p q =
     (subst (λ (r : Refusal). Call r (OutlineGives w zs) (ringAnswer a′) before after′) (same-refusal w zs h′ h) (ring-call q))
 
 -- ---- denominators: what was written is the list that was given, or nothing
-small-written : (ns : List ℕ) {a : OutlineAnswer} {after : List ℤ} (xs before : List ℤ) → SmallDenominators xs
-    → a ≡ answeredBy refusedOutline (gaveOutline ns) xs (length before) → after ≡ written xs before
-    → SmallDenominators (take (a .count) after)
-unfolding answeredBy roomRefusal written
-small-written ns xs before s e f =
-    subst (λ (p : OutlineAnswer × List ℤ). SmallDenominators (take (p .0 .count) (p .1))) (λ i. (sym e i, sym f i))
-    (go (leb (length xs) (length before)))
-  where
-    go : (b : Bool) → let r = (if b then none else refuse noRoom (length xs)) in
-        SmallDenominators (take ((if eqb (r .number) 0 then gaveOutline ns xs else refusedOutline r) .count)
-        (if b then xs ++ drop (length xs) before else before))
-    go true = subst SmallDenominators (sym (take-append-seam xs (drop (length xs) before))) s
-    go false = no-fraction
-
 pub denominators : Denominators
-denominators w o zs a before after c = go (eqb (outlineRefusal w o zs .number) 0) refl
+denominators w o zs a before after c =
+    ⊎-elim nothing
+    (λ d. ⊎-elim nothing (all (d .given .numbers) (d .given .gives .denominators)) (given-cases (d .given))) (lent-cases c)
   where
-    go : (b : Bool) → eqb (outlineRefusal w o zs .number) 0 ≡ b → SmallDenominators (take (a .count) after)
-    go true e =
-        let g = c .done (eqb-true (outlineRefusal w o zs .number) 0 e) .given in
-        small-written _ (g .numbers) before (g .gives .denominators) (g .answer) (g .output)
-    go false e =
-        subst (λ (n : ℕ). SmallDenominators (take n after))
-        (sym (ap (λ (r : OutlineAnswer). r .count) (c .refused (eqb-false (outlineRefusal w o zs .number) 0 e) .answer))) no-fraction
+    nothing : {r : Refusal} → a ≡ refusedOutline r → SmallDenominators (take (a .count) after)
+    nothing e = subst (λ (b : OutlineAnswer). SmallDenominators (take (b .count) after)) (sym e) no-fraction
+
+    all : {ns : List ℕ} (xs : List ℤ) → SmallDenominators xs → (a ≡ gaveOutline ns xs) × (after ≡ xs ++ drop (length xs) before)
+        → SmallDenominators (take (a .count) after)
+    all xs s (e, f) =
+        transport (λ i. SmallDenominators (take (sym e i .count) (sym f i)))
+        (subst SmallDenominators (sym (take-append-seam xs (drop (length xs) before))) s)

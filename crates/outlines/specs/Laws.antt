@@ -1,8 +1,8 @@
 -- What is so of every answer of the outline call.
---   ringAnswer a   what the answer a says of the ring: all but the counts of the passes
+--   ringAnswer a       what the answer a says of the ring: all but the counts of the passes
 --   OneOutlineAnswer   two answers to one input are equal, and so are the outputs: every field, refusals too
---   AnyOrder       in any two of the 24 orders the ring is the same, corner for corner
---   Denominators   no denominator that the call wrote passes 32,766
+--   AnyOrder           in any two of the 24 orders the ring is the same, corner for corner
+--   Denominators       no denominator that the call wrote passes 32,766
 use mathlib.Core.Path.{_≡_}
 use mathlib.Core.List.{List}
 use Prim.Native.Nat.{ℕ, _≤_}

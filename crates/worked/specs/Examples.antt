@@ -4,7 +4,6 @@
 --                 or an outline, by its corners, and its verdict
 --   Verdict       a ring, by its corners; no area; or refused, by the refusal's number
 --   Holds e       the calls' statements hold of this answer and of no other; of an outline's, in every order
---   TheOnly P x   P holds of x, and of nothing else
 --   StrokeHolds, OutlineHolds   what Holds says of a stroke, and of an outline
 --   ten           the window of all of them;  zeros n: a list of n zeros
 --   coordinates ps   the numbers of the points ps;  ringNumbers cs: those of a ring's corners, four a corner
@@ -19,12 +18,12 @@
 --   corner x y    a ring's corner with whole coordinates
 --   kept t u p q n   both stroke calls' answer: kept from t to u, with the rounded points p and q, after n shortenings
 --   missedAfter n    both stroke calls' answer: missed, after n shortenings
-use mathlib.Core.Path.{_≡_}
 use mathlib.Core.Bool.{true}
 use mathlib.Core.List.{List, [], _∷_}
 use Prim.Native.Nat.{ℕ, _≤_}
 use lib.IntN.{ℤ, pos, negℤ}
 use lib.ListN.{replicate}
+use Rattle.whole.specs.Only.{TheOnly}
 use Rattle.codes.specs.declared.CountedAnswer.{CountedAnswer}
 use Rattle.codes.specs.Steps.{CohenSutherland}
 use Rattle.fraction.specs.declared.Fraction.{Fraction}
@@ -36,11 +35,6 @@ use Rattle.grid.specs.Refusals.{refuse, none}
 use Rattle.outlines.specs.Outlines.{lastOrder, Outline}
 use Rattle.outlines.specs.declared.OutlineAnswer.{OutlineAnswer}
 use Rattle.strokes.specs.Strokes.{Clipping, blank}
-
--- `only` alone would hold of a statement that nothing satisfies, `holds` alone of one that leaves the answer open
-pub record TheOnly {A : Type 0} (P : A → Type 0) (x : A) : Type 0 where
-  pub holds : P x
-  pub only : (y : A) → P y → y ≡ x
 
 pub data Verdict : Type 0 where
   ring : List (Fraction × Fraction) → Verdict
