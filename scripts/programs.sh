@@ -6,6 +6,27 @@ listing|0|a drawing file|its strip, the strokes that are kept and their count
 pen|0|lines of text|the drawing file that they tell
 picture|0|a drawing file|its picture as an SVG'
 
+# kit: where the toolchain is; one line where it is missing.
+kit() {
+    local rt
+    if [ -n "${RATTLE_HOME:-}" ]; then
+        printf '%s\n' "$RATTLE_HOME"
+    elif rt=$(command -v rt); then
+        dirname -- "$(dirname -- "$(readlink -f -- "$rt")")"
+    else
+        echo "The Rattle toolchain is missing: there is no rt on the path. README.md says what is needed (What you need)." >&2
+        return 1
+    fi
+}
+
+# load_by KIT: sets `loader` to the words that run a program as rt does: with the kit's loader and C library, and its emulator where the processor
+# is another.
+load_by() {
+    local tools=$1/on/$(uname -m)/toolchain
+    loader=("$tools/lib/ld-linux-x86-64.so.2" --library-path "$tools/lib")
+    [ ! -x "$tools/bin/qemu-x86_64" ] || loader=("$tools/bin/qemu-x86_64" "${loader[@]}")
+}
+
 # row NAME: the line of a program, or nothing and status 1.
 row() {
     local line

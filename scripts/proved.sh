@@ -1,17 +1,4 @@
-# Proves and builds what is not proved yet, with a line for each crate as it is done. It is sourced by bash.
-
-# kit: where the toolchain is; one line where it is missing.
-kit() {
-    local rt
-    if [ -n "${RATTLE_HOME:-}" ]; then
-        printf '%s\n' "$RATTLE_HOME"
-    elif rt=$(command -v rt); then
-        dirname -- "$(dirname -- "$(readlink -f -- "$rt")")"
-    else
-        echo "The Rattle toolchain is missing: there is no rt on the path. README.md says where it comes from (What you need)." >&2
-        return 1
-    fi
-}
+# Proves and builds what is not proved yet, with a line for each crate as it is done. It is sourced by bash, after programs.sh.
 
 # sum_of ROOT FILE..: a sum over the sources' bytes and those of what was made from them. Dates say nothing: a checkout may bring a change that is
 # older than the program.
