@@ -4,6 +4,8 @@ ghost use Prim.Native.Nat.{_≤_};
 ghost use lib.ListN.{length, getD};
 ghost use Rattle.pen_line.specs.Lines.{spoken};
 ghost use Rattle.slips.specs.Slips.{isIn, marked, isCapital, ofDigits, ofPlain, ofNumber, ofNumbers, ofLine};
+ghost use Rattle.slips.specs.Texts.{lineAfter, slipFor};
+use pen_line::Fault;
 
 // A slip that the answer names, or none of them.
 pub enum Slip {
@@ -144,10 +146,46 @@ fn of_words(line: &[u8], count: usize) -> Slip
     of_numbers(line, end, count)
 }
 
-// The slip in a line that is not taken, whose first word should be followed by `count` numbers; 0 where it asks for nothing.
-pub fn seen(line: &[u8], count: usize) -> Slip
+// The same for a line with its comment, which does not count.
+fn seen(line: &[u8], count: usize) -> Slip
     ensures { λ r. ⌜ r ≡ ofLine (spoken (now (line .entry))) count ⌝ }
 {
     let end = pen_line::words_end(line);
     of_words(&line[..end], count)
+}
+
+// The line of a text that so many lines stand before; nothing where there are fewer.
+fn line_after(text: &[u8], before: usize) -> &[u8]
+    ensures { λ r. ⌜ now r ≡ lineAfter before (now (text .entry)) ⌝ }
+{
+    let mut from = 0;
+    let mut ahead = before;
+    while 0 < ahead {
+        let end = text::find(text, from, b'\n');
+        if end == text.len() {
+            return &text[end..];
+        }
+        from = end + 1;
+        ahead -= 1;
+    }
+    let end = text::find(text, from, b'\n');
+    &text[from..end]
+}
+
+// The slip to tell: only where a word is wrong may it have been meant otherwise.
+fn slip_for(line: &[u8], fault: Fault) -> Slip
+    ensures { λ r. ⌜ r ≡ slipFor (now (line .entry)) fault ⌝ }
+{
+    match fault {
+        Fault::UnknownWord => seen(line, 0),
+        Fault::NotNumbers(count) => seen(line, count),
+        _ => Slip::Other,
+    }
+}
+
+// The slip in the line of a text that so many lines stand before, where the fault says why it is not taken.
+pub fn shown(text: &[u8], before: usize, fault: Fault) -> Slip
+    ensures { λ r. ⌜ r ≡ slipFor (lineAfter before (now (text .entry))) fault ⌝ }
+{
+    slip_for(line_after(text, before), fault)
 }
