@@ -1,5 +1,4 @@
--- What a line that is not taken may have meant: in which order the slips are looked for. No word with a slip is taken, so a
--- line that is taken shows none.
+-- What a line that is not taken may have meant: the slips that are known, in the order in which they are looked for.
 --   isIn b bs          the byte b stands in bs
 --   marked l           the line l starts with a byte-order mark, the three bytes that some editors put before a text
 --   isCapital b        b is the code of a capital letter
