@@ -2,7 +2,8 @@
 --   isIn b bs          the byte b stands in bs
 --   marked l           the line l starts with a byte-order mark, the three bytes that some editors put before a text
 --   isCapital b        b is the code of a capital letter
---   ofDigits w, ofPlain w   the slip in the number w, which has no minus, where it starts with a digit, and in any case
+--   ofDigits w         the slip in a number that starts with a digit: an e
+--   ofPlain w          the slip in a number without its minus, the first of these that applies
 --   ofNumber w         the slip in a word that should be a number
 --   s or-else s′       s, or s′ where s is none of the slips known
 --   ofNumbers l i n    the first slip in the next n words of l from the place i on, which should be numbers
