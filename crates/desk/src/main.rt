@@ -17,7 +17,7 @@ fn run(chunk: &mut Chunk, line: &mut Line, lent: &mut [i32; 40960], page: &mut P
         }
         number += 1;
         let reply = commands::reply(line, source.have, lent);
-        talk = exchange::answer(page, lent, talk, reply);
+        talk = exchange::answer(page, line, lent, talk, number, reply);
     }
 }
 

@@ -1,5 +1,6 @@
 -- The exchange stays within its bounds, line after line.
 use Prim.Native.Nat.{_-_}
+use native.Mathlib.Omega.{arith}
 use Rattle.exchange.specs.Talks.{Sound}
 use borrow.Author.Needs.{needs}
 use Rattle.desk.proofs.run.Statement.{statement}
@@ -30,7 +31,7 @@ answer-requires : tie.Need-answer-requires Inv-loop μ-loop
 answer-requires c κs = search needs
 
 loop-less : tie.Need-loop-less Inv-loop μ-loop
-loop-less c = search needs
+loop-less c = omega (arith, c .before .before .before .before .before .before .before .before .before .before .before .before .before .before .before .before .loop-test .taken)
 
 loop-again : tie.Need-loop-again Inv-loop μ-loop
 loop-again c = search needs

@@ -6,10 +6,10 @@ use Rattle.exchange.proofs.next_line.Statement.{statement}
 use Rattle.exchange.proofs.next_line.Tie as tie
 
 abbrev Inv-loop : tie.InvT-loop
-Inv-loop chunk₀ line₀ page source₀ used₀ turns₀ chunk line source used turns = Within source × (used ≤ 65536)
+Inv-loop chunk₀ line₀ page source₀ told used₀ turns₀ chunk line source used turns = Within source × (used ≤ 65536)
 
 abbrev μ-loop : tie.MeasureT-loop
-μ-loop chunk₀ line₀ page source₀ used₀ turns₀ chunk line source used turns = 0x4000_0000_0000_0000 - turns
+μ-loop chunk₀ line₀ page source₀ told used₀ turns₀ chunk line source used turns = 0x4000_0000_0000_0000 - turns
 
 loop-holds : tie.Need-loop-holds Inv-loop μ-loop
 loop-holds c = search needs
