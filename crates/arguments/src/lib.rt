@@ -6,6 +6,31 @@ ghost use Rattle.arguments.specs.Arguments.{firstEnd, Numbers, firstWind
 use grid::Stroke;
 use grid::Window;
 
+// The most bytes of a line, its newline not counted.
+pub const LONGEST: usize = 400000;
+
+// The commands' words, as `word_number` has them: a 1, and then the codes of the letters.
+pub const MM2: u64 = 0x1_6d_6d_32;
+
+pub const MM4: u64 = 0x1_6d_6d_34;
+
+pub const BACK: u64 = 0x1_62_61_63_6b;
+
+pub const LB: u64 = 0x1_6c_62;
+
+pub const CS: u64 = 0x1_63_73;
+
+pub const CB: u64 = 0x1_63_62;
+
+pub const BATCH: u64 = 0x1_62_61_74_63_68;
+
+pub const OUTLINE: u64 = 0x1_6f_75_74_6c_69_6e_65;
+
+pub const DRAW: u64 = 0x1_64_72_61_77;
+
+// The word that asks for the lines there are.
+pub const HELP: u64 = 0x1_68_65_6c_70;
+
 // The number of a command's word: its bytes as the digits of a number to the base 256, after a 1, so that no two words have the same.
 // A word of more than seven bytes is no command's, and has 0.
 pub fn word_number(word: &[u8]) -> u64 {

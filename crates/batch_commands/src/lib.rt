@@ -8,9 +8,6 @@ ghost use Rattle.batch_commands.specs.Lines.{BatchLine};
 use grid::Window;
 use replies::Reply;
 
-// The word, as `arguments::word_number` has it: a 1, and then the codes of the letters.
-pub const BATCH: u64 = 0x1_62_61_74_63_68;
-
 // N P W of a list of strokes, cut into a lent output
 fn cut(w: Window, strokes: &[i32], lent: &mut [i32]) -> Reply
     requires { ⌜ length (now lent) ≤ 40960 ⌝ }

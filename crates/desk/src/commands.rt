@@ -1,23 +1,22 @@
 // Which family of commands a line goes to, by its word.
 //
-// A new command is a function in the crate of its family, `.._commands`, from the text after the word to a reply, and there stand its word and its arm
-// in `reply`; here it is one word more at the family's arm. It takes 1 to 3 s to check there and 0.1 s here, and the call's own library
-// 0.02 s a megabyte in both. A family of its own takes about 5 s, and an arm here.
+// A new command is a function in the crate of its family, `.._commands`, from the text after the word to a reply, and there stands its arm in `reply`;
+// here it is one word more at the family's arm. Its word stands in `arguments`, what it takes in `reasons`, and its line for `help` in `telling`. It takes
+// 1 to 3 s to check in its family and 0.1 s here, and the call's own library 0.02 s a megabyte in both. A family of its own takes about 5 s, and an arm
+// here.
 ghost use Prim.Native.Nat.{_≤_};
 ghost use lib.ListN.{length};
-use batch_commands::BATCH;
-use drawing_commands::DRAW;
-use millimetre_commands::BACK;
-use millimetre_commands::MM2;
-use millimetre_commands::MM4;
-use outline_commands::OUTLINE;
+use arguments::BACK;
+use arguments::BATCH;
+use arguments::CB;
+use arguments::CS;
+use arguments::DRAW;
+use arguments::LB;
+use arguments::LONGEST;
+use arguments::MM2;
+use arguments::MM4;
+use arguments::OUTLINE;
 use replies::Reply;
-use stroke_commands::CB;
-use stroke_commands::CS;
-use stroke_commands::LB;
-
-// The most bytes of a line, its newline not counted.
-const LONGEST: usize = 400000;
 
 // The reply to the line that the first `have` bytes are.
 pub fn reply(line: &[u8], have: usize, lent: &mut [i32]) -> Reply

@@ -8,9 +8,6 @@ ghost use Rattle.drawing_commands.specs.Lines.{drawingFields, DrawLine};
 use lending::MOST_ROOM;
 use replies::Reply;
 
-// The word, as `arguments::word_number` has it: a 1, and then the codes of the letters.
-pub const DRAW: u64 = 0x1_64_72_61_77;
-
 // N P l b r t C of a drawing file, its strokes put into a lent output
 fn read(file: &[u8], lent: &mut [i32]) -> Reply
     requires { ⌜ length (now lent) ≤ 40960 ⌝ }

@@ -1,7 +1,7 @@
 // The input's lines, one after another; the last may lack its newline.
 ghost use Prim.Native.Nat.{_≤_};
 ghost use lib.ListN.{length};
-use libc::STDIN_FILENO;
+ghost use Rattle.input.specs.Sources.{Within};
 
 // What is read at a time.
 pub type Chunk = [u8; 65536];
@@ -9,44 +9,39 @@ pub type Chunk = [u8; 65536];
 // A line without its newline: a byte more than the longest that is taken, so that a longer one is known.
 pub type Line = [u8; 400001];
 
-// How far the reading has come: the chunk's bytes that are not taken yet go from `from` to `to`, the line has `have` bytes, and `open` says whether
-// the input may go on.
+// How far the reading has come: the chunk's bytes that are not taken yet go from `from` to `to`, the line has `have` bytes, `whole` says whether they
+// are all of it, and `open` whether the input may go on.
 pub struct Source {
     pub from: usize,
     pub to: usize,
     pub have: usize,
+    pub whole: bool,
     pub open: bool,
 }
 
 pub fn start() -> Source
-    ensures { λ r. ⌜ (r .from ≤ r .to) × (r .to ≤ 65536) ⌝ }
+    ensures { λ r. ⌜ Within r ⌝ }
 {
     Source {
         from: 0,
         to: 0,
         have: 0,
+        whole: false,
         open: true,
     }
 }
 
-fn end() -> Source
-    ensures { λ r. ⌜ (r .from ≤ r .to) × (r .to ≤ 65536) ⌝ }
-    ensures { λ r. ⌜ r .have ≤ 400001 ⌝ }
+// Nothing is read any more, and a part of a line is dropped.
+pub fn closed() -> Source
+    ensures { λ r. ⌜ Within r ⌝ }
 {
     Source {
         from: 0,
         to: 0,
         have: 0,
+        whole: false,
         open: false,
     }
-}
-
-// Whether there is no line any more: what stands at the end without a newline is one, unless it is nothing.
-pub fn ended(source: Source) -> bool {
-    if source.open {
-        return false;
-    }
-    source.have == 0
 }
 
 // Where the line ends that has come as far as `from`, or the end of the chunk.
@@ -73,41 +68,57 @@ fn take(line: &mut [u8], have: usize, chunk: &[u8], from: usize, to: usize) -> u
     text::put(line, have, &chunk[from..to])
 }
 
-// The next line. A proved loop has to end, so it counts its turns, to a number that no run reaches.
-pub fn next_line(chunk: &mut Chunk, line: &mut Line, source: Source) -> Source
-    requires { ⌜ (source .from ≤ source .to) × (source .to ≤ 65536) ⌝ }
-    ensures { λ r. ⌜ (r .from ≤ r .to) × (r .to ≤ 65536) ⌝ }
-    ensures { λ r. ⌜ r .have ≤ 400001 ⌝ }
+// Takes what the chunk has of the next line, or of the line that is not whole yet.
+pub fn take_line(chunk: &Chunk, line: &mut Line, source: Source) -> Source
+    requires { ⌜ Within source ⌝ }
+    ensures { λ r. ⌜ Within r ⌝ }
+{
+    let to = source.to;
+    let open = source.open;
+    let mut have = source.have;
+    if source.whole {
+        have = 0;
+    }
+    let stop = line_end(chunk, source.from, to);
+    have = take(line, have, chunk, source.from, stop);
+    if stop < to {
+        return Source {
+            from: stop + 1,
+            to,
+            have,
+            whole: true,
+            open,
+        };
+    }
+    Source {
+        from: to,
+        to,
+        have,
+        whole: false,
+        open,
+    }
+}
+
+// Reads the next chunk when all of the last is taken. Where the input ends, a line without a newline is whole, unless it is nothing; a read that fails
+// leaves no line.
+pub fn read_on(chunk: &mut Chunk, source: Source) -> Source
+    requires { ⌜ Within source ⌝ }
+    ensures { λ r. ⌜ Within r ⌝ }
 {
     if !source.open {
-        return end();
+        return closed();
     }
-    let mut from = source.from;
-    let mut to = source.to;
-    let mut have = 0;
-    let mut turns: u64 = 0;
-    while turns < 0x4000_0000_0000_0000 {
-        let stop = line_end(chunk, from, to);
-        have = take(line, have, chunk, from, stop);
-        if stop < to {
-            return Source {
-                from: stop + 1,
-                to,
-                have,
-                open: true,
-            };
-        }
-        from = 0;
-        to = io::count(libc::read(STDIN_FILENO, chunk), chunk);
-        if to == 0 {
-            return Source {
-                from,
-                to,
-                have,
-                open: false,
-            };
-        }
-        turns += 1;
+    let taken = streams::read_some(chunk);
+    if taken.failed {
+        return closed();
     }
-    end()
+    let have = source.have;
+    let to = taken.count;
+    Source {
+        from: 0,
+        to,
+        have,
+        whole: to == 0 && have != 0,
+        open: to != 0,
+    }
 }

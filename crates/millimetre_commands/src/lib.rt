@@ -5,18 +5,14 @@ ghost use lib.ListN.{length, drop};
 ghost use Rattle.replies.specs.Replies.{Tells};
 ghost use Rattle.intake.specs.Millimetres.{ToMillimetres};
 ghost use Rattle.millimetre_commands.specs.Lines.{backFields, singleAt, Mm2, Mm4, BackLine};
+use arguments::BACK;
+use arguments::MM2;
+use arguments::MM4;
 use intake::PointMm;
 use intake::WindowMm;
 use replies::Reply;
 use words::Integer;
 use words::Single;
-
-// The words, as `arguments::word_number` has them: a 1, and then the codes of the letters.
-pub const MM2: u64 = 0x1_6d_6d_32;
-
-pub const MM4: u64 = 0x1_6d_6d_34;
-
-pub const BACK: u64 = 0x1_62_61_63_6b;
 
 // The f32 after the space at p.
 fn single_at(rest: &[u8], p: usize) -> Single

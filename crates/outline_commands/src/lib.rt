@@ -11,9 +11,6 @@ use grid::Window;
 use replies::Reply;
 use words::Natural;
 
-// The word, as `arguments::word_number` has it: a 1, and then the codes of the letters.
-pub const OUTLINE: u64 = 0x1_6f_75_74_6c_69_6e_65;
-
 // The side order that an argument is.
 enum Order {
     Bad,

@@ -1,113 +1,108 @@
-// What the desk writes: its replies are put on a page, each on a line, and the page is written out when it is full.
-ghost use Prim.Native.Nat.{_≤_};
+// What the desk writes: its replies are put on a page, each on a line.
+ghost use mathlib.Core.List.{[], _∷_};
+ghost use Prim.Native.Nat.{_+_, _*_, _≤_};
 ghost use lib.ListN.{length};
-use libc::STDOUT_FILENO;
+ghost use Rattle.text.specs.Pages.{Put, integer};
+ghost use Rattle.output.specs.Written.{bitsText, fieldText, fieldsText, lentText, lentLine, written};
 use replies::BITS;
 use replies::MINUS;
 use replies::Reply;
 
-// The page; `used` is how much of it holds replies.
-pub type Page = [u8; 65536];
+// Up to here the page is filled before it is written out.
+pub const MARK: usize = 65536;
 
-// Writes out what the page holds.
-pub fn write_out(page: &[u8], used: usize) {
-    if used <= page.len() {
-        io::write_all(STDOUT_FILENO, &page[0..used]);
-    }
-}
+// The page: behind the mark there is room for one reply, of 16 fields, 40,960 numbers and a newline.
+pub type Page = [u8; 557536];
 
-// A place on the page with room for a space and a number.
-fn place(page: &mut Page, used: usize) -> usize
-    ensures { λ r. ⌜ r ≤ 65514 ⌝ }
+// Writes out the first `used` bytes of the page, and says whether that could be done.
+pub fn write_out(page: &[u8], used: usize) -> bool
+    requires { ⌜ used ≤ length (now page) ⌝ }
 {
-    if used <= 65514 {
-        return used;
-    }
-    write_out(page, used);
-    0
+    streams::write(&page[0..used])
 }
 
-fn put_byte(page: &mut Page, used: usize, b: u8) -> usize {
-    let at = place(page, used);
-    page[at] = b;
-    at + 1
-}
-
-// The answer to a line that is no call.
-fn put_unknown(page: &mut Page, used: usize) -> usize {
-    let used = put_byte(page, used, b'?');
-    put_byte(page, used, b'\n')
-}
-
-// The eight hexadecimal digits of an f32's bits.
+// Puts the eight hexadecimal digits of an f32's bits.
 fn put_bits(page: &mut [u8], at: usize, bits: u64) -> usize
-    requires { ⌜ at ≤ 65515 ⌝ }
-    requires { ⌜ 65536 ≤ length (now page) ⌝ }
+    requires { ⌜ at + 8 ≤ length (now page) ⌝ }
+    ensures { λ r. ⌜ Put (now (page .entry)) (now (page .exit)) at r (bitsText bits) ⌝ }
+    ensures { λ r. ⌜ r ≤ at + 8 ⌝ }
 {
     let mut digits = [0u8; 16];
-    let count = io::hex(bits, 8, &mut digits);
+    let count = io::hex(bits % 0x1_0000_0000, 8, &mut digits);
     text::put(page, at, &digits[..count])
 }
 
-// A space and a field.
-fn put_field(page: &mut Page, used: usize, form: u8, size: u64) -> usize {
-    let at = place(page, used);
-    page[at] = b' ';
+// Puts a field.
+fn put_field(page: &mut [u8], at: usize, form: u8, size: u64) -> usize
+    requires { ⌜ at + 21 ≤ length (now page) ⌝ }
+    ensures { λ r. ⌜ Put (now (page .entry)) (now (page .exit)) at r (fieldText form size) ⌝ }
+    ensures { λ r. ⌜ r ≤ at + 21 ⌝ }
+{
     match form {
         MINUS => {
-            page[at + 1] = b'-';
-            text::put_natural(page, at + 2, size)
+            page[at] = b'-';
+            text::put_natural(page, at + 1, size)
         }
-        BITS => put_bits(page, at + 1, size),
-        _ => text::put_natural(page, at + 1, size),
+        BITS => put_bits(page, at, size),
+        _ => text::put_natural(page, at, size),
     }
 }
 
-// The fields of a reply, the first with no space before it.
-fn put_fields(page: &mut Page, used: usize, reply: Reply) -> usize
-    requires { ⌜ reply .count ≤ 16 ⌝ }
+// Puts the fields of a reply, parted by spaces.
+fn put_fields(page: &mut [u8], at: usize, reply: Reply) -> usize
+    requires { ⌜ (1 ≤ reply .count) × (reply .count ≤ 16) ⌝ }
+    requires { ⌜ at + 352 ≤ length (now page) ⌝ }
+    ensures { λ r. ⌜ Put (now (page .entry)) (now (page .exit)) at r (fieldsText (reply .count) (reply .forms) (reply .sizes)) ⌝ }
+    ensures { λ r. ⌜ r ≤ at + 352 ⌝ }
 {
-    let at = place(page, used);
-    let mut used = text::put_natural(page, at, reply.sizes[0]);
+    let mut end = put_field(page, at, reply.forms[0], reply.sizes[0]);
     let mut i = 1;
     while i < reply.count {
-        used = put_field(page, used, reply.forms[i], reply.sizes[i]);
+        page[end] = b' ';
+        end = put_field(page, end + 1, reply.forms[i], reply.sizes[i]);
         i += 1;
     }
-    used
+    end
 }
 
-// A space and a number.
-fn put_integer(page: &mut Page, used: usize, z: i32) -> usize {
-    let at = place(page, used);
+// Puts a space and a number.
+fn put_integer(page: &mut [u8], at: usize, z: i32) -> usize
+    requires { ⌜ at + 22 ≤ length (now page) ⌝ }
+    ensures { λ r. ⌜ Put (now (page .entry)) (now (page .exit)) at r (32 ∷ integer z) ⌝ }
+    ensures { λ r. ⌜ r ≤ at + 12 ⌝ }
+{
     page[at] = b' ';
     text::put_integer(page, at + 1, z as i64)
 }
 
-// Numbers, a space before each.
-fn put_integers(page: &mut Page, used: usize, numbers: &[i32]) -> usize {
-    let mut used = used;
+// Puts numbers, a space before each, and a newline.
+fn put_integers(page: &mut [u8], at: usize, numbers: &[i32]) -> usize
+    requires { ⌜ at + 12 * length (now numbers) + 23 ≤ length (now page) ⌝ }
+    ensures { λ r. ⌜ Put (now (page .entry)) (now (page .exit)) at r (lentLine (now (numbers .entry))) ⌝ }
+{
+    let mut end = at;
     let mut i = 0;
     while i < numbers.len() {
-        used = put_integer(page, used, numbers[i]);
+        end = put_integer(page, end, numbers[i]);
         i += 1;
     }
-    used
+    page[end] = b'\n';
+    end + 1
 }
 
-// A reply: its fields, and behind them as much of the lent output as it says.
-pub fn put_reply(page: &mut Page, used: usize, reply: Reply, lent: &[i32]) -> usize
+// Puts a reply: its fields, and behind them as much of the lent output as it says.
+pub fn put_reply(page: &mut [u8], at: usize, reply: Reply, lent: &[i32]) -> usize
     requires { ⌜ reply .count ≤ 16 ⌝ }
+    requires { ⌜ at + 12 * length (now lent) + 375 ≤ length (now page) ⌝ }
+    ensures { λ r. ⌜ Put (now (page .entry)) (now (page .exit)) at r (written reply (now (lent .entry))) ⌝ }
 {
     if reply.count == 0 {
-        return put_unknown(page, used);
+        return text::put(page, at, b"?\n");
     }
     let room = reply.room;
-    let used = put_fields(page, used, reply);
-    // No command says more than is lent; to prove it would cost each of them more than this test.
+    let end = put_fields(page, at, reply);
     if lent.len() < room {
-        return put_byte(page, used, b'\n');
+        return put_integers(page, end, lent);
     }
-    let used = put_integers(page, used, &lent[0..room]);
-    put_byte(page, used, b'\n')
+    put_integers(page, end, &lent[0..room])
 }

@@ -2,16 +2,12 @@
 ghost use Prim.Native.Nat.{_+_, _≤_};
 ghost use Rattle.replies.specs.Replies.{said, Says};
 ghost use Rattle.stroke_commands.specs.Lines.{withPart, strokeFields, Lb, Cs, Cb};
+use arguments::CB;
+use arguments::CS;
+use arguments::LB;
 use fraction::Fraction;
 use replies::Reply;
 use strokes::StrokeAnswer;
-
-// The words, as `arguments::word_number` has them: a 1, and then the codes of the letters.
-pub const LB: u64 = 0x1_6c_62;
-
-pub const CS: u64 = 0x1_63_73;
-
-pub const CB: u64 = 0x1_63_62;
 
 // K n0 d0 n1 d1: whether a stroke is kept, and its two fractions.
 fn part(reply: Reply, kept: bool, t0: Fraction, t1: Fraction) -> Reply

@@ -1,14 +1,16 @@
--- `desk::run` meets its contract: what is left of the chunk lies within it, and the line within its place. Assumes nothing.
+-- The exchange stays within its bounds, line after line.
+use Prim.Native.Nat.{_-_}
+use native.Mathlib.Omega.{arith}
+use Rattle.exchange.specs.Talks.{Sound}
 use borrow.Author.Needs.{needs}
-use Prim.Native.Nat.{_-_, _≤_}
 use Rattle.desk.proofs.run.Statement.{statement}
 use Rattle.desk.proofs.run.Tie as tie
 
 abbrev Inv-loop : tie.InvT-loop
-Inv-loop chunk₀ line₀ lent₀ page₀ source₀ used₀ turns₀ chunk line lent page source used turns = (source .from ≤ source .to) × (source .to ≤ 65536)
+Inv-loop chunk₀ line₀ lent₀ page₀ talk₀ number₀ chunk line lent page talk number = Sound talk
 
 abbrev μ-loop : tie.MeasureT-loop
-μ-loop chunk₀ line₀ lent₀ page₀ source₀ used₀ turns₀ chunk line lent page source used turns = 0x4000_0000_0000_0000 - turns
+μ-loop chunk₀ line₀ lent₀ page₀ talk₀ number₀ chunk line lent page talk number = 0x4000_0000_0000_0000 - number
 
 start-requires : tie.Need-start-requires Inv-loop μ-loop
 start-requires c κs = search needs
@@ -19,29 +21,26 @@ loop-holds c = search needs
 next-line-requires : tie.Need-next-line-requires Inv-loop μ-loop
 next-line-requires c κs = search needs
 
-ended-requires : tie.Need-ended-requires Inv-loop μ-loop
-ended-requires c κs = search needs
+add-number : tie.Need-add-number Inv-loop μ-loop
+add-number c = search needs
 
 reply-requires : tie.Need-reply-requires Inv-loop μ-loop
 reply-requires c κs = search needs
 
-put-reply-requires : tie.Need-put-reply-requires Inv-loop μ-loop
-put-reply-requires c κs = search needs
-
-add-turns : tie.Need-add-turns Inv-loop μ-loop
-add-turns c = search needs
+answer-requires : tie.Need-answer-requires Inv-loop μ-loop
+answer-requires c κs = search needs
 
 loop-less : tie.Need-loop-less Inv-loop μ-loop
-loop-less c = search needs
+loop-less c = omega (arith, c .before .before .before .before .before .before .before .before .before .before .before .before .before .before .before .before .loop-test .taken)
 
 loop-again : tie.Need-loop-again Inv-loop μ-loop
 loop-again c = search needs
 
-write-out-requires : tie.Need-write-out-requires Inv-loop μ-loop
-write-out-requires c κs = search needs
-
 returns : tie.Need-returns Inv-loop μ-loop
 returns c = search needs
+
+returns-2 : tie.Need-returns-2 Inv-loop μ-loop
+returns-2 c = search needs
 
 pub run-spec : {M : Type 1} → statement M
 run-spec =
@@ -52,11 +51,10 @@ run-spec =
     start-requires
     loop-holds
     next-line-requires
-    ended-requires
+    add-number
     reply-requires
-    put-reply-requires
-    add-turns
+    answer-requires
     loop-less
     loop-again
-    write-out-requires
-    returns)
+    returns
+    returns-2)

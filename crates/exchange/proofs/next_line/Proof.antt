@@ -1,0 +1,71 @@
+-- The reading stays within its bounds, and the page within its mark.
+use Prim.Native.Nat.{_-_, _≤_}
+use Rattle.input.specs.Sources.{Within}
+use borrow.Author.Needs.{needs}
+use Rattle.exchange.proofs.next_line.Statement.{statement}
+use Rattle.exchange.proofs.next_line.Tie as tie
+
+abbrev Inv-loop : tie.InvT-loop
+Inv-loop chunk₀ line₀ page source₀ told used₀ turns₀ chunk line source used turns = Within source × (used ≤ 65536)
+
+abbrev μ-loop : tie.MeasureT-loop
+μ-loop chunk₀ line₀ page source₀ told used₀ turns₀ chunk line source used turns = 0x4000_0000_0000_0000 - turns
+
+loop-holds : tie.Need-loop-holds Inv-loop μ-loop
+loop-holds c = search needs
+
+take-line-requires : tie.Need-take-line-requires Inv-loop μ-loop
+take-line-requires c κs = search needs
+
+returns : tie.Need-returns Inv-loop μ-loop
+returns c = search needs
+
+write-out-requires : tie.Need-write-out-requires Inv-loop μ-loop
+write-out-requires c κs = search needs
+
+over-requires : tie.Need-over-requires Inv-loop μ-loop
+over-requires c κs = search needs
+
+returns-2 : tie.Need-returns-2 Inv-loop μ-loop
+returns-2 c = search needs
+
+read-on-requires : tie.Need-read-on-requires Inv-loop μ-loop
+read-on-requires c κs = search needs
+
+returns-3 : tie.Need-returns-3 Inv-loop μ-loop
+returns-3 c = search needs
+
+add-turns : tie.Need-add-turns Inv-loop μ-loop
+add-turns c = search needs
+
+loop-less : tie.Need-loop-less Inv-loop μ-loop
+loop-less c = search needs
+
+loop-again : tie.Need-loop-again Inv-loop μ-loop
+loop-again c = search needs
+
+over-requires-2 : tie.Need-over-requires-2 Inv-loop μ-loop
+over-requires-2 c κs = search needs
+
+returns-4 : tie.Need-returns-4 Inv-loop μ-loop
+returns-4 c = search needs
+
+pub next-line-spec : {M : Type 1} → statement M
+next-line-spec =
+    tie.close
+    (tie.spec
+    Inv-loop
+    μ-loop
+    loop-holds
+    take-line-requires
+    returns
+    write-out-requires
+    over-requires
+    returns-2
+    read-on-requires
+    returns-3
+    add-turns
+    loop-less
+    loop-again
+    over-requires-2
+    returns-4)
