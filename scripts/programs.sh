@@ -106,8 +106,9 @@ start() {
     trap '' PIPE
     {
         "$@" 2>&1 >&3 3>&- | {
-            LC_ALL=C IFS= read -r -d '' -n 1 first || exit 0
-            { printf %s "$first"; cat; } >&2
+            IFS= read -r first && first+=$'\n'
+            [ -n "$first" ] || exit 0
+            { printf %s "$first" && cat; } >&2
             exit 1
         }
         said=("${PIPESTATUS[@]}")
