@@ -1,10 +1,16 @@
 -- Words, the way round, words.
 use native.Mathlib.Omega.{arith}
 use Rattle.text.proofs.Puts.{put-then}
-use Rattle.paths.specs.Paths.{stripPath}
+use Rattle.layers.specs.Layers.{stripPath}
 use borrow.Author.Needs.{needs}
-use Rattle.paths.proofs.put_strip.Statement.{statement}
-use Rattle.paths.proofs.put_strip.Tie as tie
+use Rattle.layers.proofs.put_strip.Statement.{statement}
+use Rattle.layers.proofs.put_strip.Tie as tie
+
+slice-aggregate-put-start : tie.Need-slice-aggregate-put-start
+slice-aggregate-put-start c = search needs
+
+put-start-requires : tie.Need-put-start-requires
+put-start-requires c κs = search needs
 
 slice-aggregate-put : tie.Need-slice-aggregate-put
 slice-aggregate-put c = search needs
@@ -27,15 +33,22 @@ same-length c = search needs
 returns : tie.Need-returns
 unfolding stripPath
 returns c =
-    let p = c .before .before .before .before .before .before .before .before .before .before .before .put .ensures in
-    let q = c .before .before .before .before .before .before .before .put-round .ensures in
-    let r = c .before .before .put2 .ensures in
-    (put-then (put-then p (q .0)) r, omega (arith, p .ends, q .1, r .ends))
+    let at₄ = c .before .before in
+    let at₃ = at₄ .before .before .before .before .before in
+    let at₂ = at₃ .before .before .before .before in
+    let at₁ = at₂ .before .before .before .before .before in
+    let p = at₁ .put-start .ensures in
+    let q = at₂ .put .ensures in
+    let r = at₃ .put-round .ensures in
+    let s = at₄ .put2 .ensures in
+    (put-then (put-then (put-then (p .0) q) (r .0)) s, omega (arith, p .1, q .ends, r .1, s .ends))
 
 pub put-strip-spec : {M : Type 1} → statement M
 put-strip-spec =
     tie.close
     (tie.spec
+    slice-aggregate-put-start
+    put-start-requires
     slice-aggregate-put
     put-requires
     put-round-requires

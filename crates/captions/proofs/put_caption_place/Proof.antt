@@ -1,10 +1,10 @@
 -- Words and numbers, one after another; the numbers are of the measured view.
 use native.Mathlib.Omega.{arith}
 use Rattle.text.proofs.Puts.{put-then}
-use Rattle.frames.specs.Frames.{captionPlace}
+use Rattle.captions.specs.Captions.{captionPlace}
 use borrow.Author.Needs.{needs}
-use Rattle.frames.proofs.put_caption_place.Statement.{statement}
-use Rattle.frames.proofs.put_caption_place.Tie as tie
+use Rattle.captions.proofs.put_caption_place.Statement.{statement}
+use Rattle.captions.proofs.put_caption_place.Tie as tie
 
 extent-requires : tie.Need-extent-requires
 extent-requires c κs = search needs
@@ -30,11 +30,11 @@ add-put-labelled-pair c = search needs
 put-labelled-pair-requires : tie.Need-put-labelled-pair-requires
 put-labelled-pair-requires c κs = search needs
 
-slice-aggregate-put-labelled : tie.Need-slice-aggregate-put-labelled
-slice-aggregate-put-labelled c = search needs
+slice-aggregate-put : tie.Need-slice-aggregate-put
+slice-aggregate-put c = search needs
 
-put-labelled-requires : tie.Need-put-labelled-requires
-put-labelled-requires c κs = search needs
+put-requires : tie.Need-put-requires
+put-requires c κs = search needs
 
 same-length : tie.Need-same-length
 same-length c = search needs
@@ -47,8 +47,8 @@ returns c =
     let at₂ = at₃ .before .before .before in
     let at₁ = at₂ .before in
     let p = at₃ .put-labelled-pair .ensures in
-    let q = at₄ .put-labelled .ensures in
-    (rw (← at₁ .extent .ensures .0, ← at₂ .height .ensures .0) (put-then (p .0) (q .0)), omega (arith, p .1, q .1))
+    let q = at₄ .put .ensures in
+    (rw (← at₁ .extent .ensures .0, ← at₂ .height .ensures .0) (put-then (p .0) q), omega (arith, p .1, q .ends))
 
 pub put-caption-place-spec : {M : Type 1} → statement M
 put-caption-place-spec =
@@ -62,7 +62,7 @@ put-caption-place-spec =
     mul-put-labelled-pair-3
     add-put-labelled-pair
     put-labelled-pair-requires
-    slice-aggregate-put-labelled
-    put-labelled-requires
+    slice-aggregate-put
+    put-requires
     same-length
     returns)

@@ -3,10 +3,10 @@ use mir.Syntax.{w32}
 use Rattle.whole.proofs.Comparisons.{back}
 use native.Mathlib.Omega.{arith}
 use Rattle.text.proofs.Puts.{put-then}
-use Rattle.paths.specs.Paths.{roundPath}
+use Rattle.layers.specs.Layers.{roundPath}
 use borrow.Author.Needs.{needs}
-use Rattle.paths.proofs.put_round.Statement.{statement}
-use Rattle.paths.proofs.put_round.Tie as tie
+use Rattle.layers.proofs.put_round.Statement.{statement}
+use Rattle.layers.proofs.put_round.Tie as tie
 
 put-point-requires : tie.Need-put-point-requires
 put-point-requires c κs = search needs

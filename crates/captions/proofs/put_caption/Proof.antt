@@ -1,9 +1,9 @@
 -- The place, the ruler and the counts, one after another.
 use Rattle.text.proofs.Puts.{put-then}
-use Rattle.frames.specs.Frames.{caption}
+use Rattle.captions.specs.Captions.{caption}
 use borrow.Author.Needs.{needs}
-use Rattle.frames.proofs.put_caption.Statement.{statement}
-use Rattle.frames.proofs.put_caption.Tie as tie
+use Rattle.captions.proofs.put_caption.Statement.{statement}
+use Rattle.captions.proofs.put_caption.Tie as tie
 
 put-caption-place-requires : tie.Need-put-caption-place-requires
 put-caption-place-requires c κs = search needs
