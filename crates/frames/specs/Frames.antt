@@ -1,5 +1,5 @@
 -- What stands before the paths of a picture. Its unit is a hundredth of a grid step, so that a hundredth of the view's longer side, e = extent v,
--- is a whole number. It is 112 e wide, and as high as the view and 22 e.
+-- is a whole number. It is 112 e wide, and as high as the view and 26 e.
 --   pixelsHigh v        how many pixels it is high where it is 1120 wide, rounded down: the size that a viewer or a converter gives it
 --   frame v k n         its size, and the title, which says that k of n strokes are kept. A browser follows the style too, and fills the window
 --   placed v            where the drawing lies in it: in the middle, 6 e below the top, with its own grid numbers, which grow to the right and upward
@@ -12,12 +12,12 @@ use Rattle.marks.specs.Marks.{labelled, labelledPair, pointMark, keptMark}
 use Rattle.view.specs.Views.{width, height, extent}
 
 unfoldable pub pixelsHigh : Window → ℕ
-pixelsHigh v = 1000 * height v / extent v + 220
+pixelsHigh v = 1000 * height v / extent v + 260
 
 unfoldable pub frame : Window → ℕ → ℕ → List ℕ
 frame v k n =
     labelled (ascii "<svg xmlns=\"http://www.w3.org/2000/svg\" font-family=\"sans-serif\" width=\"1120\" height=\"") (pixelsHigh v) (ascii "\"")
-    ++ labelledPair (ascii " viewBox=\"0 0 ") (112 * extent v) (100 * height v + 22 * extent v) (ascii "\"")
+    ++ labelledPair (ascii " viewBox=\"0 0 ") (112 * extent v) (100 * height v + 26 * extent v) (ascii "\"")
     ++ ascii ">\n<style>@media screen{:root{width:100%;height:100%;background:white}}</style>\n<title>" ++ keptMark k n (ascii "<")
 
 unfoldable pub placed : Window → List ℕ

@@ -14,9 +14,9 @@ fn pixels_high(v: Window) -> u64
     let high = view::height(v);
     // A strip has area; a view of one point alone would be a margin.
     if e == 0 {
-        return 220;
+        return 260;
     }
-    1000 * high / e + 220
+    1000 * high / e + 260
 }
 
 // Puts the picture's size and the title.
@@ -40,7 +40,7 @@ pub fn put_frame(page: &mut [u8], at: usize, v: Window, kept: usize, all: usize)
         a,
         b" viewBox=\"0 0 ",
         112 * e,
-        100 * high + 22 * e,
+        100 * high + 26 * e,
         b'"',
     );
     let c = text::put(

@@ -15,7 +15,7 @@ use Rattle.reports.specs.Reports.{Report}
 unfoldable pub picture : Window → List ℤ → ℕ → List ℤ → ℕ → List ℕ
 picture w zs n xs k =
     let v = reach w zs (length zs / 2) in
-    frame v k n ++ placed v ++ stripPath w (extent v) ++ drawnPaths (extent v) zs n xs k ++ caption v k n
+    frame v k n ++ placed v ++ stripPath w (extent v) ++ drawnPaths (extent v) zs n xs k ++ caption w v k n
 
 abbrev pub Picture : List ℕ → List ℕ → Type 0
 Picture bytes text = Report refusedPicture picture bytes text

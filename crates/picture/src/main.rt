@@ -20,7 +20,7 @@ fn put_picture(
 ) -> usize
     requires { ⌜ drawn * 4 ≤ length (now strokes) ⌝ }
     requires { ⌜ kept * 5 ≤ length (now rows) ⌝ }
-    requires { ⌜ 49 * drawn + 49 * kept + 2000 ≤ length (now page) ⌝ }
+    requires { ⌜ 49 * drawn + 49 * kept + 2300 ≤ length (now page) ⌝ }
     ensures { λ r. ⌜ Put (now (page .entry)) (now (page .exit)) 0 r (picture w (now (strokes .entry)) drawn (now (rows .entry)) kept) ⌝ }
 {
     let v = view::reach(w, strokes);
@@ -29,7 +29,7 @@ fn put_picture(
     let b = frames::put_placed(page, a, v);
     let c = layers::put_strip(page, b, w, e);
     let d = layers::put_drawn(page, c, e, strokes, drawn, rows, kept);
-    captions::put_caption(page, d, v, kept, drawn)
+    captions::put_caption(page, d, w, v, kept, drawn)
 }
 
 // Draws a drawing into a page, and says where the picture ends.
