@@ -13,7 +13,7 @@ use Rattle.ruler.specs.Rulers.{ruler}
 
 unfoldable pub captionPlace : Window → List ℕ
 captionPlace v =
-    labelledPair (ascii "</g>\n<g transform=\"translate(") (6 * extent v) (100 * height v + 12 * extent v) (ascii ")") ++ ascii "\">\n"
+    labelledPair (ascii "<g transform=\"translate(") (6 * extent v) (100 * height v + 12 * extent v) (ascii ")") ++ ascii "\">\n"
 
 unfoldable pub stripSize : Window → List ℕ
 stripSize w = ascii "strip " ++ millimetres (width w) ++ ascii " x " ++ millimetres (height w) ++ ascii " mm</text>\n"

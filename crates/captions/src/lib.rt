@@ -16,7 +16,7 @@ fn put_caption_place(page: &mut [u8], at: usize, v: Window) -> usize
     let a = marks::put_labelled_pair(
         page,
         at,
-        b"</g>\n<g transform=\"translate(",
+        b"<g transform=\"translate(",
         6 * e,
         100 * high + 12 * e,
         b')',

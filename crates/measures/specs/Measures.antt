@@ -1,6 +1,6 @@
 -- Measures as a text has them.
 --   thousandths n t   n thousandths, with three decimals, and the bytes t that stand after them
---   decimals k r      the decimals of r of 32, k at the most, by long division: each is the whole part of ten times what is left, as long as any is left
+--   decimals k r      the decimals of r of 32, k at the most, by long division: as long as anything is left, the whole part of ten times that
 --   millimetres n     a length of n grid steps in millimetres, of which each has 32: exact, since 32 divides 100,000, and with no zero at the end
 use mathlib.Core.List.{List, [], _++_}
 use Prim.Native.Nat.{ℕ, zero, suc, _*_, _/_, _%_}

@@ -6,16 +6,16 @@ use Prim.Native.Nat.{ℕ, _/_}
 use lib.IntN.{ℤ}
 use lib.ListN.{length}
 use Rattle.grid.specs.declared.Window.{Window}
-use Rattle.view.specs.Views.{reach, extent}
-use Rattle.layers.specs.Layers.{stripPath, drawnPaths}
+use Rattle.view.specs.Views.{reach}
 use Rattle.frames.specs.Frames.{frame, placed, refusedPicture}
+use Rattle.artwork.specs.Artwork.{artwork}
 use Rattle.captions.specs.Captions.{caption}
 use Rattle.reports.specs.Reports.{Report}
 
 unfoldable pub picture : Window → List ℤ → ℕ → List ℤ → ℕ → List ℕ
 picture w zs n xs k =
     let v = reach w zs (length zs / 2) in
-    frame v k n ++ placed v ++ stripPath w (extent v) ++ drawnPaths (extent v) zs n xs k ++ caption w v k n
+    frame v k n ++ placed v ++ artwork w v zs n xs k ++ caption w v k n
 
 abbrev pub Picture : List ℕ → List ℕ → Type 0
 Picture bytes text = Report refusedPicture picture bytes text

@@ -53,8 +53,10 @@ returns c =
     let q = at₄ .put-millimetres .ensures in
     let r = at₅ .put2 .ensures in
     let s = at₆ .put-millimetres2 .ensures in
-    let t = at₇ .put3 .ensures in
-    (rw (← at₁ .width .ensures .0, ← at₂ .height .ensures .0) (put-then (put-then (put-then (put-then p (q .0)) r) (s .0)) t), omega (arith, p .ends, q .1, r .ends, s .1, t .ends))
+    let t = at₇ .put3 .ensures in (
+      rw (← at₁ .width .ensures .0, ← at₂ .height .ensures .0) (put-then (put-then (put-then (put-then p (q .0)) r) (s .0)) t),
+      omega (arith, p .ends, q .1, r .ends, s .1, t .ends),
+    )
 
 pub put-size-spec : {M : Type 1} → statement M
 put-size-spec =
