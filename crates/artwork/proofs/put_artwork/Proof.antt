@@ -1,4 +1,4 @@
--- The layers and the points, one after another.
+-- The layers, the points and the numbers, one after another.
 use native.Mathlib.Omega.{arith}
 use Rattle.text.proofs.Puts.{put-then}
 use Rattle.artwork.specs.Artwork.{artwork}
@@ -24,13 +24,17 @@ slice-aggregate-put c = search needs
 put-requires : tie.Need-put-requires
 put-requires c κs = search needs
 
+put-labels-requires : tie.Need-put-labels-requires
+put-labels-requires c κs = search needs
+
 same-length : tie.Need-same-length
 same-length c = search needs
 
 returns : tie.Need-returns
 unfolding artwork
 returns c =
-    let at₅ = c .before .before in
+    let at₆ = c .before .before in
+    let at₅ = at₆ .before .before .before .before in
     let at₄ = at₅ .before .before .before .before .before in
     let at₃ = at₄ .before .before .before .before in
     let at₂ = at₃ .before .before .before .before in
@@ -39,7 +43,10 @@ returns c =
     let q = at₃ .put-drawn .ensures in
     let r = at₄ .put-all .ensures in
     let s = at₅ .put .ensures in
-    (rw (← at₁ .extent .ensures .0) (put-then (put-then (put-then (p .0) (q .0)) (r .0)) s), omega (arith, p .1, q .1, r .1, s .ends))
+    let t = at₆ .put-labels .ensures in (
+      rw (← at₁ .extent .ensures .0) (put-then (put-then (put-then (put-then (p .0) (q .0)) (r .0)) s) (t .0)),
+      omega (arith, p .1, q .1, r .1, s .ends, t .1),
+    )
 
 pub put-artwork-spec : {M : Type 1} → statement M
 put-artwork-spec =
@@ -51,5 +58,6 @@ put-artwork-spec =
     put-all-requires
     slice-aggregate-put
     put-requires
+    put-labels-requires
     same-length
     returns)
