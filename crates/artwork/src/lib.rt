@@ -19,9 +19,9 @@ pub fn put_artwork(
     requires { ⌜ drawn * 4 ≤ length (now strokes) ⌝ }
     requires { ⌜ kept * 5 ≤ length (now rows) ⌝ }
     requires { ⌜ kept ≤ 4096 ⌝ }
-    requires { ⌜ at + 49 * drawn + 147 * kept + 6200 ≤ length (now page) ⌝ }
+    requires { ⌜ at + 49 * drawn + 147 * kept + 6250 ≤ length (now page) ⌝ }
     ensures { λ r. ⌜ Put (now (page .entry)) (now (page .exit)) at r (artwork w v (now (strokes .entry)) drawn (now (rows .entry)) kept) ⌝ }
-    ensures { λ r. ⌜ r ≤ at + 49 * drawn + 147 * kept + 6200 ⌝ }
+    ensures { λ r. ⌜ r ≤ at + 49 * drawn + 147 * kept + 6250 ⌝ }
 {
     let e = view::extent(v);
     let a = layers::put_strip(page, at, w, e);

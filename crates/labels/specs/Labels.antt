@@ -1,9 +1,10 @@
--- The numbers of the strokes in a picture. The unit is a hundredth of a grid step; e is the longer side of the view v.
+-- The numbers of the strokes in a picture. Their unit is half a grid step, in which a middle is a whole number; e is the longer side of the view v.
 --   middle s a b        how far the middle of a and b is from the side s of the view, which neither is beyond
 --   numberAt x y k      the number k at a place, x to the right and y down
 --   label v zs k        the number of stroke k of the list zs, counted from 0 as in a listing, at the stroke's middle
 --   labelTexts v zs n   the numbers of the first n strokes
---   labelPlace v        where they stand: as the drawing, but not turned over, and e / 2 to the right and upward, beside their strokes
+--   labelPlace v        where they stand: as the drawing, but not turned over, and e / 2 hundredths of a step to the right and upward, beside their
+--                       strokes; they are 40 thousandths of e high, since some viewers have a largest font
 --   labels v zs n       the numbers of n strokes, if they are at most 30: first with a white border, which parts them from lines, then over it
 use mathlib.Core.List.{List, [], _++_}
 use Prim.Native.Nat.{ℕ, zero, suc, _+_, _-_, _*_, _/_}
@@ -14,10 +15,11 @@ use Rattle.whole.specs.Choice.{if_then_else_}
 use Rattle.grid.specs.declared.Window.{Window}
 use Rattle.text.specs.Pages.{ascii}
 use Rattle.marks.specs.Marks.{labelled, labelledPair}
+use Rattle.measures.specs.Measures.{thousandths}
 use Rattle.view.specs.Views.{apart, width, extent}
 
 unfoldable pub middle : ℤ → ℤ → ℤ → ℕ
-middle side a b = 50 * (apart side a + apart side b)
+middle side a b = apart side a + apart side b
 
 unfoldable pub numberAt : ℕ → ℕ → ℕ → List ℕ
 numberAt x y k =
@@ -34,9 +36,9 @@ labelTexts v zs (suc n) = labelTexts v zs n ++ label v zs n
 
 unfoldable pub labelPlace : Window → List ℕ
 labelPlace v =
-    labelled (ascii "<g fill=\"#5c4a2e\" font-size=\"") (2 * extent v) (ascii "\"")
+    ascii "<g fill=\"#5c4a2e\" font-size=\"" ++ thousandths (40 * extent v) (ascii "\"")
     ++ labelledPair (ascii " transform=\"translate(") (56 * extent v - 50 * width v + extent v / 2) (6 * extent v - extent v / 2) (ascii ")")
-    ++ ascii "\">\n<g stroke=\"white\" stroke-width=\".3em\" stroke-linejoin=\"round\">\n"
+    ++ ascii "scale(50)\">\n<g stroke=\"white\" stroke-width=\".3em\" stroke-linejoin=\"round\">\n"
 
 unfoldable pub labels : Window → List ℤ → ℕ → List ℕ
 labels v zs n =

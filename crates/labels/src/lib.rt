@@ -6,11 +6,11 @@ ghost use Rattle.text.specs.Pages.{Put};
 ghost use Rattle.labels.specs.Labels.{middle, numberAt, label, labelTexts, labelPlace, labels};
 use grid::Window;
 
-// How far the middle of a and b is from a side of the view.
+// How far the middle of a and b is from a side of the view, in half grid steps.
 fn middle(side: i32, a: i32, b: i32) -> u64
     ensures { λ r. ⌜ r ≡ middle side a b ⌝ }
 {
-    50 * (view::apart(side, a) + view::apart(side, b))
+    view::apart(side, a) + view::apart(side, b)
 }
 
 // Puts a number at a place.
@@ -55,16 +55,17 @@ fn put_texts(page: &mut [u8], at: usize, v: Window, strokes: &[i32], count: usiz
 
 // Puts the place of the numbers.
 fn put_place(page: &mut [u8], at: usize, v: Window) -> usize
-    requires { ⌜ at + 250 ≤ length (now page) ⌝ }
+    requires { ⌜ at + 280 ≤ length (now page) ⌝ }
     ensures { λ r. ⌜ Put (now (page .entry)) (now (page .exit)) at r (labelPlace v) ⌝ }
-    ensures { λ r. ⌜ r ≤ at + 250 ⌝ }
+    ensures { λ r. ⌜ r ≤ at + 280 ⌝ }
 {
     let e = view::extent(v);
     let wide = view::width(v);
-    let a = marks::put_labelled(page, at, b"<g fill=\"#5c4a2e\" font-size=\"", 2 * e, b'"');
-    let b = marks::put_labelled_pair(
+    let a = text::put(page, at, b"<g fill=\"#5c4a2e\" font-size=\"");
+    let b = measures::put_thousandths(page, a, 40 * e, b'"');
+    let c = marks::put_labelled_pair(
         page,
-        a,
+        b,
         b" transform=\"translate(",
         56 * e - 50 * wide + e / 2,
         6 * e - e / 2,
@@ -72,17 +73,17 @@ fn put_place(page: &mut [u8], at: usize, v: Window) -> usize
     );
     text::put(
         page,
-        b,
-        b"\">\n<g stroke=\"white\" stroke-width=\".3em\" stroke-linejoin=\"round\">\n",
+        c,
+        b"scale(50)\">\n<g stroke=\"white\" stroke-width=\".3em\" stroke-linejoin=\"round\">\n",
     )
 }
 
 // Puts the numbers of the strokes, if there are at most 30.
 pub fn put_labels(page: &mut [u8], at: usize, v: Window, strokes: &[i32], count: usize) -> usize
     requires { ⌜ count * 4 ≤ length (now strokes) ⌝ }
-    requires { ⌜ at + 5300 ≤ length (now page) ⌝ }
+    requires { ⌜ at + 5350 ≤ length (now page) ⌝ }
     ensures { λ r. ⌜ Put (now (page .entry)) (now (page .exit)) at r (labels v (now (strokes .entry)) count) ⌝ }
-    ensures { λ r. ⌜ r ≤ at + 5300 ⌝ }
+    ensures { λ r. ⌜ r ≤ at + 5350 ⌝ }
 {
     if count > 30 {
         return at;

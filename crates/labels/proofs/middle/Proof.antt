@@ -1,5 +1,5 @@
--- Fifty times the two distances.
-use Prim.Native.Nat.{_+_, _*_}
+-- The two distances.
+use Prim.Native.Nat.{_+_}
 use mir.Facts.{toZ-ofZ}
 use Rattle.labels.specs.Labels.{middle}
 use borrow.Author.Needs.{needs}
@@ -15,16 +15,13 @@ apart-requires-2 c κs = search needs
 add-result : tie.Need-add-result
 add-result c = search needs
 
-mul-result : tie.Need-mul-result
-mul-result c = search needs
-
 returns : tie.Need-returns
 unfolding middle
 returns c =
     let f = c .before .before .fits in
     let p = simp (toZ-ofZ (f .side), toZ-ofZ (f .a)) at (c .before .apart .ensures .0) in
     let q = simp (toZ-ofZ (f .side), toZ-ofZ (f .b)) at (c .apart2 .ensures .0) in
-    λ i. 50 * (p i + q i)
+    λ i. p i + q i
 
 pub middle-spec : {M : Type 1} → statement M
-middle-spec = tie.close (tie.spec apart-requires apart-requires-2 add-result mul-result returns)
+middle-spec = tie.close (tie.spec apart-requires apart-requires-2 add-result returns)

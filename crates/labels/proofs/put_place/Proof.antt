@@ -12,14 +12,17 @@ extent-requires c κs = search needs
 width-requires : tie.Need-width-requires
 width-requires c κs = search needs
 
-slice-aggregate-put-labelled : tie.Need-slice-aggregate-put-labelled
-slice-aggregate-put-labelled c = search needs
+slice-aggregate-put : tie.Need-slice-aggregate-put
+slice-aggregate-put c = search needs
 
-mul-put-labelled : tie.Need-mul-put-labelled
-mul-put-labelled c = search needs
+put-requires : tie.Need-put-requires
+put-requires c κs = search needs
 
-put-labelled-requires : tie.Need-put-labelled-requires
-put-labelled-requires c κs = search needs
+mul-put-thousandths : tie.Need-mul-put-thousandths
+mul-put-thousandths c = search needs
+
+put-thousandths-requires : tie.Need-put-thousandths-requires
+put-thousandths-requires c κs = search needs
 
 slice-aggregate-put-labelled-pair : tie.Need-slice-aggregate-put-labelled-pair
 slice-aggregate-put-labelled-pair c = search needs
@@ -45,11 +48,11 @@ sub-put-labelled-pair-2 c = search needs
 put-labelled-pair-requires : tie.Need-put-labelled-pair-requires
 put-labelled-pair-requires c κs = search needs
 
-slice-aggregate-put : tie.Need-slice-aggregate-put
-slice-aggregate-put c = search needs
+slice-aggregate-put-2 : tie.Need-slice-aggregate-put-2
+slice-aggregate-put-2 c = search needs
 
-put-requires : tie.Need-put-requires
-put-requires c κs = search needs
+put-requires-2 : tie.Need-put-requires-2
+put-requires-2 c κs = search needs
 
 same-length : tie.Need-same-length
 same-length c = search needs
@@ -57,15 +60,19 @@ same-length c = search needs
 returns : tie.Need-returns
 unfolding labelPlace
 returns c =
-    let at₅ = c .before .before in
+    let at₆ = c .before .before in
+    let at₅ = at₆ .before .before .before .before .before in
     let at₄ = at₅ .before .before .before .before .before in
-    let at₃ = at₄ .before .before .before .before .before in
+    let at₃ = at₄ .before .before .before .before in
     let at₂ = at₃ .before .before .before in
     let at₁ = at₂ .before in
-    let p = at₃ .put-labelled .ensures in
-    let q = at₄ .put-labelled-pair .ensures in
-    let r = at₅ .put .ensures in
-    (rw (← at₁ .extent .ensures .0, ← at₂ .width .ensures .0) (put-then (put-then (p .0) (q .0)) r), omega (arith, p .1, q .1, r .ends))
+    let p = at₃ .put .ensures in
+    let q = at₄ .put-thousandths .ensures in
+    let r = at₅ .put-labelled-pair .ensures in
+    let s = at₆ .put2 .ensures in (
+      rw (← at₁ .extent .ensures .0, ← at₂ .width .ensures .0) (put-then (put-then (put-then p (q .0)) (r .0)) s),
+      omega (arith, p .ends, q .1, r .1, s .ends),
+    )
 
 pub put-place-spec : {M : Type 1} → statement M
 put-place-spec =
@@ -73,9 +80,10 @@ put-place-spec =
     (tie.spec
     extent-requires
     width-requires
-    slice-aggregate-put-labelled
-    mul-put-labelled
-    put-labelled-requires
+    slice-aggregate-put
+    put-requires
+    mul-put-thousandths
+    put-thousandths-requires
     slice-aggregate-put-labelled-pair
     mul-put-labelled-pair
     mul-put-labelled-pair-2
@@ -84,7 +92,7 @@ put-place-spec =
     mul-put-labelled-pair-3
     sub-put-labelled-pair-2
     put-labelled-pair-requires
-    slice-aggregate-put
-    put-requires
+    slice-aggregate-put-2
+    put-requires-2
     same-length
     returns)
