@@ -24,6 +24,12 @@
 extern "C" {
 #endif
 
+/* ---- version */
+
+/* As one number, major * 10000 + minor * 100 + patch, and as text. A change of a struct or of an answer raises it. */
+#define GERLYANTU_VERSION 10000
+#define GERLYANTU_VERSION_TEXT "1.0.0"
+
 /* ---- limits */
 
 enum {
@@ -35,21 +41,63 @@ enum {
     GERLYANTU_LAST_ORDER = 23         /* the side orders are 0 to 23 */
 };
 
-/* ---- refusals: each is given exactly when what stands beside it holds; the place follows the semicolon */
+/* ---- how many numbers an output has that is always long enough */
 
 enum {
-    GERLYANTU_DONE = 0,             /* the call was done; 0 */
-    GERLYANTU_WINDOW_OFF = 2,       /* a window number is off the grid range; index of the first */
-    GERLYANTU_NO_WINDOW = 3,        /* left >= right or bottom >= top; a corner window of odd length, of wrong count, or not strictly convex; 0 */
-    GERLYANTU_NO_ORDER = 4,         /* side order above 23; 0 */
-    GERLYANTU_WRONG_LENGTH = 5,     /* stroke list not a multiple of four or too long; outline of odd length or wrong count; 0 */
-    GERLYANTU_NUMBER_OFF = 6,       /* a stroke or outline number is off the grid range; index of the first */
-    GERLYANTU_NOT_CONVEX = 7,       /* outline not strictly convex counterclockwise; 0 */
-    GERLYANTU_NO_ROOM = 8,          /* output shorter than needed; numbers needed */
-    GERLYANTU_NOT_A_NUMBER = 9,     /* a millimetre number is NaN; its index */
-    GERLYANTU_TOO_FAR = 10,         /* a millimetre number is infinite or falls off the grid range; its index */
-    GERLYANTU_BAD_DRAWING = 11      /* any fault in a drawing file; 0 */
+    GERLYANTU_BATCH_PER_STROKE = 5,                                                /* of gerlyantu_batch, for each stroke of the list */
+    GERLYANTU_BATCH_ROOM = GERLYANTU_BATCH_PER_STROKE * GERLYANTU_STROKES,         /* 20480: for any list */
+    GERLYANTU_RING_ROOM = 4 * (GERLYANTU_OUTLINE_CORNERS + 4),                     /* 272: of gerlyantu_clip_outline, for any outline */
+    GERLYANTU_DRAWING_PER_STROKE = 4,                                              /* of gerlyantu_read_drawing, for each stroke drawn */
+    GERLYANTU_DRAWING_ROOM = GERLYANTU_DRAWING_PER_STROKE * GERLYANTU_STROKES      /* 16384: for any drawing */
 };
+
+/* ---- refusals */
+
+/* R(name, number, words). Each is given exactly when what stands above it holds; its place follows the semicolon. */
+#define GERLYANTU_REFUSALS(R) \
+    /* the call was done; 0 */ \
+    R(GERLYANTU_DONE, 0, "done") \
+    /* a window number is off the grid range; index of the first */ \
+    R(GERLYANTU_WINDOW_OFF, 2, "a number of the window is off the table") \
+    /* left >= right or bottom >= top; a corner window of odd length, of wrong count, or not strictly convex; 0 */ \
+    R(GERLYANTU_NO_WINDOW, 3, "the window has no area, or its corners are not a strictly convex ring") \
+    /* side order above 23; 0 */ \
+    R(GERLYANTU_NO_ORDER, 4, "there is no such side order: they are 0 to 23") \
+    /* stroke list not a multiple of four or too long; outline of odd length or wrong count; 0 */ \
+    R(GERLYANTU_WRONG_LENGTH, 5, "the list has a wrong length") \
+    /* a stroke or outline number is off the grid range; index of the first */ \
+    R(GERLYANTU_NUMBER_OFF, 6, "a number of the stroke or outline is off the table") \
+    /* outline not strictly convex counterclockwise; 0 */ \
+    R(GERLYANTU_NOT_CONVEX, 7, "the outline is not strictly convex counterclockwise") \
+    /* output shorter than needed; numbers needed */ \
+    R(GERLYANTU_NO_ROOM, 8, "the output is too short: the place says how many numbers it needs") \
+    /* a millimetre number is NaN; its index */ \
+    R(GERLYANTU_NOT_A_NUMBER, 9, "a number of millimetres is not a number") \
+    /* a millimetre number is infinite or falls off the grid range; its index */ \
+    R(GERLYANTU_TOO_FAR, 10, "a number of millimetres is infinite or off the table") \
+    /* any fault in a drawing file; 0 */ \
+    R(GERLYANTU_BAD_DRAWING, 11, "not a drawing file, or damaged")
+
+/* The numbers by their names. */
+#define GERLYANTU_NUMBERED(name, number, words) name = number,
+enum { GERLYANTU_REFUSALS(GERLYANTU_NUMBERED) };
+#undef GERLYANTU_NUMBERED
+
+/* The number of a refusal. */
+typedef uint8_t gerlyantu_refusal;
+
+/* A refusal in words, for a person; never a null pointer. */
+static inline const char *gerlyantu_words(gerlyantu_refusal refusal) {
+#define GERLYANTU_WORDED(name, number, words) \
+    case name: \
+        return words;
+    switch (refusal) {
+        GERLYANTU_REFUSALS(GERLYANTU_WORDED)
+    default:
+        return "unknown refusal";
+    }
+#undef GERLYANTU_WORDED
+}
 
 /* ---- what goes in */
 
@@ -92,20 +140,20 @@ typedef struct {
 } gerlyantu_fraction;
 
 typedef struct {
-    uint8_t number;
+    gerlyantu_refusal number;
     size_t place;
     int32_t x;
     int32_t y;
 } gerlyantu_point_answer;
 
 typedef struct {
-    uint8_t number;
+    gerlyantu_refusal number;
     size_t place;
     gerlyantu_window window;
 } gerlyantu_window_answer;
 
 typedef struct {
-    uint8_t number;
+    gerlyantu_refusal number;
     size_t place;
     float mm;
 } gerlyantu_back_answer;
@@ -113,7 +161,7 @@ typedef struct {
 /* The kept part goes from t0 to t1 of the stroke's way; (ax, ay) and (bx, by) are its two ends, rounded to the grid. A missed stroke is done with
  * kept false, both fractions 0/1 and the points 0. */
 typedef struct {
-    uint8_t number;
+    gerlyantu_refusal number;
     size_t place;
     bool kept;
     gerlyantu_fraction t0;
@@ -131,7 +179,7 @@ typedef struct {
 
 /* As for a rectangle, without points: rounded points may lie outside a slanted side. */
 typedef struct {
-    uint8_t number;
+    gerlyantu_refusal number;
     size_t place;
     bool kept;
     gerlyantu_fraction t0;
@@ -139,21 +187,21 @@ typedef struct {
 } gerlyantu_corner_answer;
 
 typedef struct {
-    uint8_t number;
+    gerlyantu_refusal number;
     size_t place;
     size_t count; /* how many numbers were written */
 } gerlyantu_answer;
 
 /* passes[k] is how many corners the k-th pass left, in the order asked for; without area all four are 0. */
 typedef struct {
-    uint8_t number;
+    gerlyantu_refusal number;
     size_t place;
     size_t count; /* how many numbers were written */
     uint8_t passes[4];
 } gerlyantu_outline_answer;
 
 typedef struct {
-    uint8_t number;
+    gerlyantu_refusal number;
     size_t place;
     gerlyantu_window window;
     size_t count; /* how many strokes; four numbers each were written */
@@ -161,7 +209,8 @@ typedef struct {
 
 /* ---- millimetres */
 
-/* The grid point of a point in millimetres: the whole numbers nearest to 32x and 32y, halves to the even one.
+/* The grid point of a point in millimetres: the whole numbers nearest to 32x and 32y, halves to the even one. As every call that takes millimetres it
+ * needs the processor to round to nearest, as it does when a C program starts.
  * Refusals: 9 or 10, whichever number comes first; the place is its index, 0 or 1. */
 gerlyantu_point_answer gerlyantu_point_to_grid(gerlyantu_point_mm p);
 
@@ -184,7 +233,7 @@ gerlyantu_stroke_answer gerlyantu_liang_barsky(gerlyantu_window w, gerlyantu_str
 gerlyantu_counted_answer gerlyantu_cohen_sutherland(gerlyantu_window w, gerlyantu_stroke s);
 
 /* A list of strokes, four numbers each, against a rectangle. For each kept stroke in order, writes its index and its four rounded numbers: five
- * numbers a kept stroke.
+ * numbers a kept stroke, so GERLYANTU_BATCH_PER_STROKE for each stroke of the list are always enough.
  * Refusals: 2 (index in the window), 3 (0), 5 where length is not a multiple of four or there are more than 4,096 strokes (0), 6 (index in the
  * list), 8 (numbers needed). */
 gerlyantu_answer gerlyantu_batch(gerlyantu_window w, const int32_t *strokes, size_t length, int32_t *out, size_t room);
@@ -199,8 +248,8 @@ gerlyantu_corner_answer gerlyantu_cyrus_beck(const int32_t *corners, size_t leng
 /* What a rectangle keeps of a strictly convex outline of 3 to 64 corners, two numbers each, counterclockwise: one pass a side, in the order asked
  * for. Sides are left, right, bottom, top; orders 0 to 23 are their arrangements in dictionary order, and all give the same ring. Writes the ring
  * counterclockwise from its lowest corner, of those the leftmost, four numbers a corner: x and y as fractions in lowest terms, numerator before
- * denominator. A ring has at most four corners more than its outline, so 272 numbers are always room enough. Without area the call is done and
- * writes 0 numbers.
+ * denominator. A ring has at most four corners more than its outline, so GERLYANTU_RING_ROOM numbers are always enough. Without area the call is
+ * done and writes 0 numbers.
  * passes tells how many corners each pass left, which may differ from order to order, as the ring does not. A side
  * that cuts nothing off leaves as many corners as there were, so an outline that lies inside whole has its own count
  * four times.
@@ -212,7 +261,7 @@ gerlyantu_outline_answer gerlyantu_clip_outline(
 /* ---- drawings */
 
 /* Reads a drawing file's bytes: the window's grid numbers and the count of strokes come back, and the strokes are written in order, four numbers
- * each.
+ * each; GERLYANTU_DRAWING_ROOM numbers are always enough. It takes millimetres.
  * Refusals: 11 for any fault (0), 3 where the window has no area (0), 8 (numbers needed). */
 gerlyantu_drawing_answer gerlyantu_read_drawing(const uint8_t *bytes, size_t length, int32_t *out, size_t room);
 

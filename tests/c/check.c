@@ -11,6 +11,15 @@ void same(const char *file, int line, const char *what, int64_t got, int64_t wan
     printf("%s:%d: %s is %lld, not %lld\n", file, line, what, (long long)got, (long long)want);
 }
 
+void said(const char *file, int line, const char *what, const char *got, const char *want) {
+    size_t i = 0;
+    checks++;
+    while (got[i] != 0 && got[i] == want[i]) i++;
+    if (got[i] == want[i]) return;
+    failed++;
+    printf("%s:%d: %s is \"%s\", not \"%s\"\n", file, line, what, got, want);
+}
+
 void wrote(const char *file, int line, const char *what, const int32_t *out, const int32_t *want, size_t count) {
     checks++;
     for (size_t i = 0; i < count; i++) {
@@ -78,6 +87,7 @@ void round_outline(int32_t *out) {
 }
 
 int main(void) {
+    check_words();
     check_millimetres();
     check_strokes();
     check_batches();

@@ -8,6 +8,10 @@ static const gerlyantu_window ten = {0, 0, 10, 10};
 #define SAME(got, want) same(__FILE__, __LINE__, #got, (int64_t)(got), (int64_t)(want))
 void same(const char *file, int line, const char *what, int64_t got, int64_t want);
 
+/* Counts one check: the text got is the text want. */
+#define SAID(got, want) said(__FILE__, __LINE__, #got, got, want)
+void said(const char *file, int line, const char *what, const char *got, const char *want);
+
 /* Counts one check: the first `count` numbers of out are those of want. */
 #define WROTE(out, want, count) wrote(__FILE__, __LINE__, #out, out, want, count)
 void wrote(const char *file, int line, const char *what, const int32_t *out, const int32_t *want, size_t count);
@@ -33,6 +37,7 @@ void parabola(int32_t *out, size_t corners);
  * numbers are even. */
 void round_outline(int32_t *out);
 
+void check_words(void);
 void check_millimetres(void);
 void check_strokes(void);
 void check_batches(void);

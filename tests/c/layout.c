@@ -38,6 +38,8 @@ SIZE(gerlyantu_fraction, 16);
 FIELD(gerlyantu_fraction, num, 0, 8);
 FIELD(gerlyantu_fraction, den, 8, 8);
 
+SIZE(gerlyantu_refusal, 1);
+
 SIZE(gerlyantu_point_answer, 24);
 FIELD(gerlyantu_point_answer, number, 0, 1);
 FIELD(gerlyantu_point_answer, place, 8, 8);
@@ -102,6 +104,12 @@ NAMED(WINDOW_CORNERS, 16);
 NAMED(OUTLINE_CORNERS, 64);
 NAMED(DRAWING_BYTES, 65536);
 NAMED(LAST_ORDER, 23);
+
+NAMED(BATCH_PER_STROKE, 5);
+NAMED(BATCH_ROOM, 20480);
+NAMED(RING_ROOM, 272);
+NAMED(DRAWING_PER_STROKE, 4);
+NAMED(DRAWING_ROOM, 16384);
 
 NAMED(DONE, 0);
 NAMED(WINDOW_OFF, 2);

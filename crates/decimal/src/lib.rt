@@ -75,7 +75,7 @@ fn plain_bits(n: u32, places: usize) -> u32
     nearest_bits(n as u64, ten_to(places)) as u32
 }
 
-fn is_digit(b: u8) -> bool
+pub fn is_digit(b: u8) -> bool
     ensures { λ r. ⌜ r ≡ isDigit b ⌝ }
 {
     if 48 <= b {

@@ -4,24 +4,31 @@ ghost use Prim.Native.Nat.{_≤_};
 ghost use lib.ListN.{length, take};
 ghost use Rattle.io.specs.Counts.{Counts};
 ghost use Rattle.listing.specs.Listings.{Listing};
-use libc::STDIN_FILENO;
-use libc::STDOUT_FILENO;
+use reports::Made;
 
-// Lists a drawing into a page, and says where the listing ends.
-fn list(bytes: &[u8], strokes: &mut [i32], rows: &mut [i32], page: &mut [u8]) -> usize
+// Lists a drawing into a page.
+fn list(bytes: &[u8], strokes: &mut [i32], rows: &mut [i32], page: &mut [u8]) -> Made
     requires { ⌜ 16384 ≤ length (now strokes) ⌝ }
     requires { ⌜ 20480 ≡ length (now rows) ⌝ }
     requires { ⌜ 262144 ≤ length (now page) ⌝ }
-    ensures { λ r. ⌜ Listing (now (bytes .entry)) (take r (now (page .exit))) ⌝ }
-    ensures { λ r. ⌜ Counts r (now (page .exit)) ⌝ }
+    ensures { λ r. ⌜ Listing (now (bytes .entry)) (take (r .end) (now (page .exit))) (r .number) (r .place) ⌝ }
+    ensures { λ r. ⌜ Counts (r .end) (now (page .exit)) ⌝ }
 {
     let sheet = cutting::cut_drawing(bytes, strokes, rows);
     if sheet.number != 0 {
-        return text::put_refusal(page, 0, sheet.number, sheet.place, b'\n');
+        return Made {
+            end: text::put_refusal(page, 0, sheet.number, sheet.place, b'\n'),
+            number: sheet.number,
+            place: sheet.place,
+        };
     }
     let window = sheet.window;
     let count = sheet.kept * 5;
-    lines::put_listing(page, window, sheet.drawn, &rows[..count], sheet.kept)
+    Made {
+        end: lines::put_listing(page, window, sheet.drawn, &rows[..count], sheet.kept),
+        number: 0,
+        place: 0,
+    }
 }
 
 // Reads, lists and prints, in the memory that main lends.
@@ -30,9 +37,14 @@ fn run(bytes: &mut [u8], strokes: &mut [i32], rows: &mut [i32], page: &mut [u8])
     requires { ⌜ 20480 ≡ length (now rows) ⌝ }
     requires { ⌜ 262144 ≤ length (now page) ⌝ }
 {
-    let count = io::read_full(STDIN_FILENO, bytes);
-    let end = list(&bytes[..count], strokes, rows, page);
-    io::write_all(STDOUT_FILENO, &page[..end]);
+    let taken = streams::read_all(bytes);
+    if taken.failed {
+        return;
+    }
+    let made = list(&bytes[..taken.count], strokes, rows, page);
+    if streams::write(&page[..made.end]) {
+        reports::tell(made.number, made.place);
+    }
 }
 
 fn main() {

@@ -17,6 +17,11 @@ use Rattle.pen.specs.Texts.{EndsAs, drawn, no-line, wrong-line, long-tex
 use Rattle.pen.specs.Workers.{Counted, counted, none}
 use Rattle.pen.specs.declared.Outcome.{Outcome}
 
+-- lines are counted from one
+pub from-one : {t bs : List ℕ} {room n i : ℕ} → Told t room n i bs → 1 ≤ n
+from-one start = omega arith
+from-one (next p w a) = omega (arith, from-one p)
+
 pub record Going (t before page : List ℕ) (n i at : ℕ) : Type 0 where
   pub bytes : List ℕ
   pub told : Told t (drawingRoom before) n i bytes

@@ -1,2 +1,3 @@
 mod Drawings
 pub mod Unique
+pub mod SameLine

@@ -17,16 +17,13 @@ use Rattle.pen_line.proofs.Unique.{adds-unique, adds-or-not, refused-unique}
 use Rattle.pen.specs.Texts.{lineEnd, lineAt, LineWithin, Told, start, next}
 use Rattle.pen.specs.Texts.{EndsAs, drawn, no-line, wrong-line, long-text}
 use Rattle.pen.specs.Laws.{OneOutcome}
+use Rattle.pen.proofs.Drawings.{from-one}
 
 -- the line of t at the place i is not taken after the bytes bs
 abbrev Stops : List ℕ → ℕ → ℕ → List ℕ → Type 0
 Stops t room i bs = (added : List ℕ) → LineWithin t i → LineAdds (lineAt t i) (length bs) room added → ⊥
 
 module _ {t : List ℕ} {room : ℕ} where
-  from-one : {n i : ℕ} {bs : List ℕ} → Told t room n i bs → 1 ≤ n
-  from-one start = omega arith
-  from-one (next p w a) = omega (arith, from-one p)
-
   told-unique : {n m i j : ℕ} {bs cs : List ℕ} → n ≡ m → Told t room n i bs → Told t room m j cs → (i ≡ j) × (bs ≡ cs)
   told-unique e start start = (refl, refl)
   told-unique e start (next q v b) = absurd (omega (arith, from-one q))

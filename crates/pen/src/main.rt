@@ -4,9 +4,6 @@ ghost use mathlib.Core.Path.{_≡_};
 ghost use lib.ListN.{length};
 ghost use Rattle.pen.specs.Texts.{mostText, Becomes};
 ghost use Rattle.pen.specs.Workers.{Counted};
-use libc::STDERR_FILENO;
-use libc::STDIN_FILENO;
-use libc::STDOUT_FILENO;
 use pen_line::Fault;
 use pen_line::Step;
 
@@ -67,44 +64,13 @@ fn draw(text: &[u8], page: &mut [u8]) -> Outcome
     }
 }
 
-// Says why a line is not taken.
-fn complain(line: usize, fault: Fault) {
-    io::write_all(STDERR_FILENO, b"line ");
-    io::print_decimal(STDERR_FILENO, line as u64);
-    match fault {
-        Fault::NoStrip => {
-            io::write_all(STDERR_FILENO, b": expected strip first\n");
-        }
-        Fault::SecondStrip => {
-            io::write_all(STDERR_FILENO, b": a second strip\n");
-        }
-        Fault::UnknownWord => {
-            io::write_all(STDERR_FILENO, b": expected strip, move, line or close\n");
-        }
-        Fault::NotNumbers(count) => match count {
-            0 => {
-                io::write_all(STDERR_FILENO, b": expected nothing after close\n");
-            }
-            2 => {
-                io::write_all(STDERR_FILENO, b": expected two numbers of up to 9 digits\n");
-            }
-            _ => {
-                io::write_all(
-                    STDERR_FILENO,
-                    b": expected four numbers of up to 9 digits\n",
-                );
-            }
-        },
-        Fault::LongDrawing => {
-            io::write_all(
-                STDERR_FILENO,
-                b": the drawing is longer than 65,536 bytes\n",
-            );
-        }
-        Fault::LongText => {
-            io::write_all(STDERR_FILENO, b": the text is longer than 524,288 bytes\n");
-        }
-    }
+// Says why a line of a text is not taken.
+fn complain(text: &[u8], line: usize, fault: Fault)
+    requires { ⌜ 1 ≤ line ⌝ }
+{
+    let mut words = [0u8; 128];
+    let end = complaints::put(&mut words, text, line, fault);
+    streams::tell(&words[..end]);
 }
 
 // Draws the text on standard input into a page, and writes the page, or why a line is not taken. There is room for a byte
@@ -113,16 +79,20 @@ fn run(text: &mut [u8], page: &mut [u8])
     requires { ⌜ mostText + 2 ≡ length (now text) ⌝ }
     requires { ⌜ 65536 ≡ length (now page) ⌝ }
 {
-    let count = io::read_full(STDIN_FILENO, text);
+    let taken = streams::read_all(text);
+    if taken.failed {
+        return;
+    }
+    let count = taken.count;
     let outcome = draw(&text[..count], page);
     let line = outcome.line;
     let step = outcome.step;
     match step {
         Step::Done(length) => {
-            io::write_all(STDOUT_FILENO, &page[..length]);
+            streams::write(&page[..length]);
         }
         Step::Wrong(fault) => {
-            complain(line, fault);
+            complain(&text[..count], line, fault);
         }
     }
 }

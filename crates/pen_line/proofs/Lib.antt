@@ -1,4 +1,4 @@
-mod Words
+pub mod Words
 mod Numbers
 mod Records
 pub mod Unique

@@ -130,7 +130,7 @@ fn take_words(line: &[u8], page: &mut [u8], at: usize) -> Step
 }
 
 // Where the words of a line end: at a comment, or at a carriage return that ends the line.
-fn words_end(line: &[u8]) -> usize
+pub fn words_end(line: &[u8]) -> usize
     ensures { λ r. ⌜ r ≡ wordsEnd (now (line .entry)) ⌝ }
     ensures { λ r. ⌜ r ≤ length (now (line .entry)) ⌝ }
 {

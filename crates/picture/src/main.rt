@@ -6,8 +6,7 @@ ghost use Rattle.io.specs.Counts.{Counts};
 ghost use Rattle.text.specs.Pages.{Put};
 ghost use Rattle.picture.specs.Pictures.{picture, Picture};
 use grid::Window;
-use libc::STDIN_FILENO;
-use libc::STDOUT_FILENO;
+use reports::Made;
 
 // Puts the picture of a drawing that was cut.
 fn put_picture(
@@ -31,29 +30,38 @@ fn put_picture(
     captions::put_caption(page, c, w, v, kept, drawn)
 }
 
-// Draws a drawing into a page, and says where the picture ends.
-fn draw(bytes: &[u8], strokes: &mut [i32], rows: &mut [i32], page: &mut [u8]) -> usize
+// Draws a drawing into a page.
+fn draw(bytes: &[u8], strokes: &mut [i32], rows: &mut [i32], page: &mut [u8]) -> Made
     requires { ⌜ 16384 ≡ length (now strokes) ⌝ }
     requires { ⌜ 20480 ≡ length (now rows) ⌝ }
     requires { ⌜ 820000 ≤ length (now page) ⌝ }
-    ensures { λ r. ⌜ Picture (now (bytes .entry)) (take r (now (page .exit))) ⌝ }
-    ensures { λ r. ⌜ Counts r (now (page .exit)) ⌝ }
+    ensures { λ r. ⌜ Picture (now (bytes .entry)) (take (r .end) (now (page .exit))) (r .number) (r .place) ⌝ }
+    ensures { λ r. ⌜ Counts (r .end) (now (page .exit)) ⌝ }
 {
     let sheet = cutting::cut_drawing(bytes, strokes, rows);
     if sheet.number != 0 {
-        return frames::put_refused(page, sheet.number, sheet.place);
+        return Made {
+            end: frames::put_refused(page, sheet.number, sheet.place),
+            number: sheet.number,
+            place: sheet.place,
+        };
     }
     let window = sheet.window;
     let numbers = sheet.drawn * 4;
     let count = sheet.kept * 5;
-    put_picture(
+    let end = put_picture(
         page,
         window,
         &strokes[..numbers],
         sheet.drawn,
         &rows[..count],
         sheet.kept,
-    )
+    );
+    Made {
+        end,
+        number: 0,
+        place: 0,
+    }
 }
 
 // Reads, draws and writes, in the memory that main lends.
@@ -62,9 +70,14 @@ fn run(bytes: &mut [u8], strokes: &mut [i32], rows: &mut [i32], page: &mut [u8])
     requires { ⌜ 20480 ≡ length (now rows) ⌝ }
     requires { ⌜ 820000 ≤ length (now page) ⌝ }
 {
-    let count = io::read_full(STDIN_FILENO, bytes);
-    let end = draw(&bytes[..count], strokes, rows, page);
-    io::write_all(STDOUT_FILENO, &page[..end]);
+    let taken = streams::read_all(bytes);
+    if taken.failed {
+        return;
+    }
+    let made = draw(&bytes[..taken.count], strokes, rows, page);
+    if streams::write(&page[..made.end]) {
+        reports::tell(made.number, made.place);
+    }
 }
 
 fn main() {

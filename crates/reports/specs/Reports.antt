@@ -1,7 +1,8 @@
 -- What is reported of a drawing, whatever the report looks like.
---   Report refused cut bytes text   text is the report on the drawing whose bytes these are, where `refused n p` is the text of a refusal and
---       `cut w zs n xs k` the text of a drawing that is cut: its strip w, the numbers zs of its n strokes, and the batch's rows xs of the k that are kept.
---       A refusal is reported where the drawing has a fault or its window no area. No other can be: a drawing's numbers are on the table
+--   Report refused cut bytes text number place   text is the report on the drawing whose bytes these are, where `refused n p` is the text of a refusal
+--       and `cut w zs n xs k` the text of a drawing that is cut: its strip w, the numbers zs of its n strokes, and the batch's rows xs of the k that are
+--       kept; number and place are the refusal's, or 0. A refusal is reported where the drawing has a fault or its window no area. No other can be: a
+--       drawing's numbers are on the table
 use mathlib.Core.Path.{_≡_}
 use mathlib.Core.List.{List}
 use Prim.Native.Nat.{ℕ, _/_}
@@ -13,9 +14,9 @@ use Rattle.grid.specs.Refusals.{badDrawing, noArea}
 use Rattle.grid.specs.declared.Stroke.{Stroke}
 use Rattle.grid.specs.declared.Window.{Window}
 
-pub data Report (refused : ℕ → ℕ → List ℕ) (cut : Window → List ℤ → ℕ → List ℤ → ℕ → List ℕ) (bytes : List ℕ) : List ℕ → Type 0 where
-  faulty : {place : ℕ} → Means bytes (fault place) → Report refused cut bytes (refused badDrawing 0)
+pub data Report (refused : ℕ → ℕ → List ℕ) (cut : Window → List ℤ → ℕ → List ℤ → ℕ → List ℕ) (bytes : List ℕ) : List ℕ → ℕ → ℕ → Type 0 where
+  faulty : {place : ℕ} → Means bytes (fault place) → Report refused cut bytes (refused badDrawing 0) badDrawing 0
   no-area : {w : Window} {ss : List Stroke} → Means bytes (drawn w ss) → (noArea w .number ≡ 0 → ⊥)
-      → Report refused cut bytes (refused (noArea w .number) (noArea w .place))
+      → Report refused cut bytes (refused (noArea w .number) (noArea w .place)) (noArea w .number) (noArea w .place)
   sound : {w : Window} {ss : List Stroke} {xs : List ℤ} → Means bytes (drawn w ss) → noArea w .number ≡ 0 → RowsOf w (numbersOf ss) xs
-      → Report refused cut bytes (cut w (numbersOf ss) (length ss) xs (length xs / 5))
+      → Report refused cut bytes (cut w (numbersOf ss) (length ss) xs (length xs / 5)) 0 0

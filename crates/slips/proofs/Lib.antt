@@ -1,0 +1,2 @@
+mod Tests
+mod Lines

@@ -1,0 +1,21 @@
+-- `slips::is_in` meets its contract: the byte is found before the end. Assumes nothing.
+use mathlib.Core.Path.{ap, _∙_}
+use Prim.Native.Nat.{ℕ}
+use native.Mathlib.Nat.{zero-add}
+use denote.Ref.{now}
+use lib.Dec.{ltb}
+use lib.ListN.{length}
+use Rattle.slips.specs.Slips.{isIn}
+use borrow.Author.Needs.{needs}
+use Rattle.slips.proofs.is_in.Statement.{statement}
+use Rattle.slips.proofs.is_in.Tie as tie
+
+find-requires : tie.Need-find-requires
+find-requires c κs = search needs
+
+returns : tie.Need-returns
+unfolding isIn
+returns c = ap (λ (k : ℕ). ltb k (length (now (c .before .before .args .bytes)))) (c .find .ensures .0 ∙ zero-add _)
+
+pub is-in-spec : {M : Type 1} → statement M
+is-in-spec = tie.close (tie.spec find-requires returns)

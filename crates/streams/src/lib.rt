@@ -1,0 +1,133 @@
+// Standard input, output and error. Every program reads and writes through here: what is not ready yet is waited for, and what fails is told in a
+// line on standard error.
+ghost use mathlib.Core.Path.{_≡_};
+ghost use Prim.Native.Nat.{_≤_};
+ghost use lib.ListN.{length};
+ghost use Rattle.io.specs.Counts.{Counts};
+use libc::EAGAIN;
+use libc::EINTR;
+use libc::STDERR_FILENO;
+use libc::STDIN_FILENO;
+use libc::STDOUT_FILENO;
+
+// What was read: how many bytes; or that a read failed, of which standard error then says why.
+pub struct Taken {
+    pub count: usize,
+    pub failed: bool,
+}
+
+// Whether the call that just failed is worth another try: a signal came before it moved a byte, or the other side is not ready. Other programs run
+// meanwhile; a sleep cannot be had, since C's takes a struct by reference, which the proofs do not cover.
+fn try_again() -> bool {
+    let error = os::errno();
+    if error == EINTR {
+        return true;
+    }
+    if error != EAGAIN {
+        return false;
+    }
+    libc::sched_yield();
+    true
+}
+
+// Tells that a read failed.
+fn unread() -> Taken
+    ensures { λ r. ⌜ r .count ≡ 0 ⌝ }
+{
+    os::fail(b"could not read");
+    Taken {
+        count: 0,
+        failed: true,
+    }
+}
+
+// Reads what is there, and waits where nothing is there yet; no bytes are the end of the input. A proved loop has to end, so it counts its turns, to
+// a number that no run reaches.
+pub fn read_some(buf: &mut [u8]) -> Taken
+    ensures { λ r. ⌜ Counts (r .count) (now (buf .exit)) ⌝ }
+{
+    let mut turns: u64 = 0;
+    while turns < 0x4000_0000_0000_0000 {
+        let got = libc::read(STDIN_FILENO, buf);
+        if got >= 0 {
+            return Taken {
+                count: io::count(got, buf),
+                failed: false,
+            };
+        }
+        if !try_again() {
+            return unread();
+        }
+        turns += 1;
+    }
+    unread()
+}
+
+// Reads until the input ends or buf is full.
+pub fn read_all(buf: &mut [u8]) -> Taken
+    ensures { λ r. ⌜ Counts (r .count) (now (buf .exit)) ⌝ }
+{
+    let mut count = 0;
+    while count < buf.len() {
+        let taken = read_some(&mut buf[count..]);
+        if taken.failed {
+            return Taken {
+                count,
+                failed: true,
+            };
+        }
+        if taken.count == 0 {
+            break;
+        }
+        count += taken.count;
+    }
+    Taken {
+        count,
+        failed: false,
+    }
+}
+
+// Writes as much of the bytes as is taken at once, and waits where nothing is; 0 where the write failed.
+fn write_some(to: i32, bytes: &[u8]) -> usize
+    ensures { λ r. ⌜ r ≤ length (now (bytes .entry)) ⌝ }
+{
+    let mut turns: u64 = 0;
+    while turns < 0x4000_0000_0000_0000 {
+        let got = libc::write(to, bytes);
+        if got >= 0 {
+            return io::count(got, bytes);
+        }
+        if !try_again() {
+            break;
+        }
+        turns += 1;
+    }
+    0
+}
+
+// Writes all of the bytes, and says whether that could be done.
+fn write_to(to: i32, bytes: &[u8]) -> bool {
+    let mut done = 0;
+    while done < bytes.len() {
+        let put = write_some(to, &bytes[done..]);
+        if put == 0 {
+            return false;
+        }
+        done += put;
+    }
+    true
+}
+
+// Writes a page to standard output. Where that fails, standard error says why, and the program is to end.
+pub fn write(page: &[u8]) -> bool {
+    if write_to(STDOUT_FILENO, page) {
+        return true;
+    }
+    os::fail(b"could not write");
+    false
+}
+
+// Writes a line to standard error. Where that fails there is nobody left to tell.
+pub fn tell(line: &[u8]) {
+    write_to(STDERR_FILENO, line);
+}

@@ -1,0 +1,66 @@
+// The header in a C++ program: structs by value in and out, lists, lent outputs and the words. The answers are those of the rules' worked examples.
+#include <gerlyantu.h>
+#include <stdio.h>
+
+static int checks, failed;
+
+static void same(int line, long long got, long long want) {
+    checks++;
+    if (got == want) return;
+    failed++;
+    printf("tests/c/from_cpp.cpp:%d: %lld, not %lld\n", line, got, want);
+}
+#define SAME(got, want) same(__LINE__, static_cast<long long>(got), static_cast<long long>(want))
+
+static bool alike(const char *a, const char *b) {
+    while (*a != 0 && *a == *b) a++, b++;
+    return *a == *b;
+}
+
+static_assert(sizeof(gerlyantu_stroke_answer) == 72, "C++ lays the answers out as C does");
+static_assert(GERLYANTU_VERSION >= 10000, "the version is a constant");
+
+static const gerlyantu_window ten = {0, 0, 10, 10};
+
+static void check_stroke() {
+    const gerlyantu_stroke_answer a = gerlyantu_liang_barsky(ten, gerlyantu_stroke{-5, 5, 15, 5});
+    SAME(a.number, GERLYANTU_DONE);
+    SAME(a.kept, true);
+    SAME(a.t0.num, 1);
+    SAME(a.t0.den, 4);
+    SAME(a.t1.num, 3);
+    SAME(a.t1.den, 4);
+    SAME(a.bx, 10);
+    SAME(a.by, 5);
+}
+
+static void check_outline() {
+    const int32_t triangle[6] = {-1, 0, 2, 1, -1, 2};
+    const int32_t want[12] = {0, 1, 1, 3, 2, 1, 1, 1, 0, 1, 5, 3};
+    int32_t ring[GERLYANTU_RING_ROOM];
+    const gerlyantu_outline_answer a = gerlyantu_clip_outline(ten, GERLYANTU_LAST_ORDER, triangle, 6, ring, GERLYANTU_RING_ROOM);
+    SAME(a.number, GERLYANTU_DONE);
+    SAME(a.count, 12);
+    for (int i = 0; i < 12; i++) SAME(ring[i], want[i]);
+}
+
+static void check_refused() {
+    int32_t rows[2 * GERLYANTU_BATCH_PER_STROKE] = {};
+    const int32_t strokes[8] = {1, 1, 2, 2, 3, 3, 4, 4};
+    const gerlyantu_answer a = gerlyantu_batch(ten, strokes, 8, rows, 7);
+    const gerlyantu_refusal number = a.number;
+    SAME(number, GERLYANTU_NO_ROOM);
+    SAME(a.place, 2 * GERLYANTU_BATCH_PER_STROKE);
+    SAME(alike(gerlyantu_words(number), "the output is too short: the place says how many numbers it needs"), true);
+    SAME(alike(gerlyantu_words(1), "unknown refusal"), true);
+    const gerlyantu_drawing_answer none = gerlyantu_read_drawing(nullptr, 0, nullptr, 0);
+    SAME(none.number, GERLYANTU_BAD_DRAWING);
+}
+
+int main() {
+    check_stroke();
+    check_outline();
+    check_refused();
+    printf("linked: %d checks from C++, %d failed\n", checks, failed);
+    return failed == 0 ? 0 : 1;
+}

@@ -1,0 +1,2 @@
+/* The whole numbers, as gcc has them for a processor without a C library. */
+#include <stdint-gcc.h>
