@@ -1,13 +1,12 @@
--- What stands before the paths of a picture. Its unit is a hundredth of a grid step, so that a hundredth of the view's longer side, e = extent v,
+-- What stands before the artwork of a picture. Its unit is a hundredth of a grid step, so that a hundredth of the view's longer side, e = extent v,
 -- is a whole number. It is 112 e wide, and as high as the view and 26 e.
 --   pixelsHigh v        how many pixels it is high where it is 1120 wide, rounded down: the size that a viewer or a converter gives it
 --   frame v k n         its size, and the title, which says that k of n strokes are kept. A browser follows the style too, and fills the window
 --   placed v            where the drawing lies in it: in the middle, 6 e below the top, with its own grid numbers, which grow to the right and upward
---   refusedPicture n p  the picture of a refusal
 use mathlib.Core.List.{List, _++_}
 use Prim.Native.Nat.{ℕ, _+_, _-_, _*_, _/_}
 use Rattle.grid.specs.declared.Window.{Window}
-use Rattle.text.specs.Pages.{ascii, refusal}
+use Rattle.text.specs.Pages.{ascii}
 use Rattle.marks.specs.Marks.{labelled, labelledPair, pointMark, keptMark}
 use Rattle.view.specs.Views.{width, height, extent}
 
@@ -26,10 +25,3 @@ placed v =
     (ascii "/title>\n<rect width=\"100%\" height=\"100%\" fill=\"white\"/>\n<g fill=\"none\" stroke-linecap=\"round\" transform=\"translate(")
     (56 * extent v - 50 * width v) (6 * extent v) (ascii ")")
     ++ ascii "scale(-100 100)translate(" ++ pointMark (v .left) (v .top) (ascii ")") ++ ascii "scale(-1)\">\n"
-
-unfoldable pub refusedPicture : ℕ → ℕ → List ℕ
-refusedPicture n p =
-    ascii "<svg xmlns=\"http://www.w3.org/2000/svg\" font-family=\"sans-serif\" width=\"320\" height=\"64\">\n<title>"
-    ++ (refusal n p ++ ascii "<")
-    ++ ascii "/title>\n<rect width=\"100%\" height=\"100%\" fill=\"white\"/>\n<text x=\"20\" y=\"38\" font-size=\"18\" fill=\"#8c2f23\">"
-    ++ (refusal n p ++ ascii "<") ++ ascii "/text>\n</svg>\n"

@@ -1,9 +1,9 @@
-// What stands before the paths of a picture: its size, its title and its place; and the picture of a refusal.
+// What stands before the artwork of a picture: its size, its title and the drawing's place.
 ghost use mathlib.Core.Path.{_≡_};
 ghost use Prim.Native.Nat.{_+_, _≤_};
 ghost use lib.ListN.{length};
 ghost use Rattle.text.specs.Pages.{Put};
-ghost use Rattle.frames.specs.Frames.{pixelsHigh, frame, placed, refusedPicture};
+ghost use Rattle.frames.specs.Frames.{pixelsHigh, frame, placed};
 use grid::Window;
 
 // How many pixels a picture is high that is 1120 wide.
@@ -70,24 +70,4 @@ pub fn put_placed(page: &mut [u8], at: usize, v: Window) -> usize
     let b = text::put(page, a, b"scale(-100 100)translate(");
     let c = marks::put_point(page, b, v.left, v.top, b')');
     text::put(page, c, b"scale(-1)\">\n")
-}
-
-// Puts the picture of a refusal.
-pub fn put_refused(page: &mut [u8], number: u8, place: usize) -> usize
-    requires { ⌜ 500 ≤ length (now page) ⌝ }
-    ensures { λ r. ⌜ Put (now (page .entry)) (now (page .exit)) 0 r (refusedPicture number place) ⌝ }
-{
-    let a = text::put(
-        page,
-        0,
-        b"<svg xmlns=\"http://www.w3.org/2000/svg\" font-family=\"sans-serif\" width=\"320\" height=\"64\">\n<title>",
-    );
-    let b = text::put_refusal(page, a, number, place, b'<');
-    let c = text::put(
-        page,
-        b,
-        b"/title>\n<rect width=\"100%\" height=\"100%\" fill=\"white\"/>\n<text x=\"20\" y=\"38\" font-size=\"18\" fill=\"#8c2f23\">",
-    );
-    let d = text::put_refusal(page, c, number, place, b'<');
-    text::put(page, d, b"/text>\n</svg>\n")
 }

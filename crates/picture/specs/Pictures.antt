@@ -8,9 +8,10 @@ use lib.IntN.{ℤ}
 use lib.ListN.{length}
 use Rattle.grid.specs.declared.Window.{Window}
 use Rattle.view.specs.Views.{reach}
-use Rattle.frames.specs.Frames.{frame, placed, refusedPicture}
+use Rattle.frames.specs.Frames.{frame, placed}
 use Rattle.artwork.specs.Artwork.{artwork}
 use Rattle.captions.specs.Captions.{caption}
+use Rattle.refused.specs.Refused.{refusedPicture}
 use Rattle.reports.specs.Reports.{Report}
 
 unfoldable pub picture : Window → List ℤ → ℕ → List ℤ → ℕ → List ℕ

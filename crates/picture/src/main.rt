@@ -41,7 +41,7 @@ fn draw(bytes: &[u8], strokes: &mut [i32], rows: &mut [i32], page: &mut [u8]) ->
     let sheet = cutting::cut_drawing(bytes, strokes, rows);
     if sheet.number != 0 {
         return Made {
-            end: frames::put_refused(page, sheet.number, sheet.place),
+            end: refused::put_refused(page, sheet.number, sheet.place),
             number: sheet.number,
             place: sheet.place,
         };
