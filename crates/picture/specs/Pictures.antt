@@ -8,12 +8,16 @@ use lib.IntN.{ℤ}
 use lib.ListN.{length}
 use Rattle.grid.specs.declared.Window.{Window}
 use Rattle.view.specs.Views.{reach}
-use Rattle.paths.specs.Paths.{stripPath, drawnPaths}
-use Rattle.frames.specs.Frames.{frame, placed, caption, refusedPicture}
+use Rattle.frames.specs.Frames.{frame, placed}
+use Rattle.artwork.specs.Artwork.{artwork}
+use Rattle.captions.specs.Captions.{caption}
+use Rattle.refused.specs.Refused.{refusedPicture}
 use Rattle.reports.specs.Reports.{Report}
 
 unfoldable pub picture : Window → List ℤ → ℕ → List ℤ → ℕ → List ℕ
-picture w zs n xs k = let v = reach w zs (length zs / 2) in frame v k n ++ placed v ++ stripPath w ++ drawnPaths zs n xs k ++ caption v k n
+picture w zs n xs k =
+    let v = reach w zs (length zs / 2) in
+    frame v k n ++ placed v ++ artwork w v zs n xs k ++ caption w v k n
 
 abbrev pub Picture : List ℕ → List ℕ → ℕ → ℕ → Type 0
 Picture bytes text number place = Report refusedPicture picture bytes text number place

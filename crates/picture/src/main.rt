@@ -19,29 +19,29 @@ fn put_picture(
 ) -> usize
     requires { ⌜ drawn * 4 ≤ length (now strokes) ⌝ }
     requires { ⌜ kept * 5 ≤ length (now rows) ⌝ }
-    requires { ⌜ 49 * drawn + 49 * kept + 1600 ≤ length (now page) ⌝ }
+    requires { ⌜ kept ≤ 4096 ⌝ }
+    requires { ⌜ 49 * drawn + 147 * kept + 8000 ≤ length (now page) ⌝ }
     ensures { λ r. ⌜ Put (now (page .entry)) (now (page .exit)) 0 r (picture w (now (strokes .entry)) drawn (now (rows .entry)) kept) ⌝ }
 {
     let v = view::reach(w, strokes);
     let a = frames::put_frame(page, 0, v, kept, drawn);
     let b = frames::put_placed(page, a, v);
-    let c = paths::put_strip(page, b, w);
-    let d = paths::put_drawn(page, c, strokes, drawn, rows, kept);
-    frames::put_caption(page, d, v, kept, drawn)
+    let c = artwork::put_artwork(page, b, w, v, strokes, drawn, rows, kept);
+    captions::put_caption(page, c, w, v, kept, drawn)
 }
 
 // Draws a drawing into a page.
 fn draw(bytes: &[u8], strokes: &mut [i32], rows: &mut [i32], page: &mut [u8]) -> Made
     requires { ⌜ 16384 ≡ length (now strokes) ⌝ }
     requires { ⌜ 20480 ≡ length (now rows) ⌝ }
-    requires { ⌜ 420000 ≤ length (now page) ⌝ }
+    requires { ⌜ 820000 ≤ length (now page) ⌝ }
     ensures { λ r. ⌜ Picture (now (bytes .entry)) (take (r .end) (now (page .exit))) (r .number) (r .place) ⌝ }
     ensures { λ r. ⌜ Counts (r .end) (now (page .exit)) ⌝ }
 {
     let sheet = cutting::cut_drawing(bytes, strokes, rows);
     if sheet.number != 0 {
         return Made {
-            end: frames::put_refused(page, sheet.number, sheet.place),
+            end: refused::put_refused(page, sheet.number, sheet.place),
             number: sheet.number,
             place: sheet.place,
         };
@@ -68,7 +68,7 @@ fn draw(bytes: &[u8], strokes: &mut [i32], rows: &mut [i32], page: &mut [u8]) ->
 fn run(bytes: &mut [u8], strokes: &mut [i32], rows: &mut [i32], page: &mut [u8])
     requires { ⌜ 16384 ≡ length (now strokes) ⌝ }
     requires { ⌜ 20480 ≡ length (now rows) ⌝ }
-    requires { ⌜ 420000 ≤ length (now page) ⌝ }
+    requires { ⌜ 820000 ≤ length (now page) ⌝ }
 {
     let taken = streams::read_all(bytes);
     if taken.failed {
@@ -85,6 +85,6 @@ fn main() {
     let mut bytes = [0u8; 65537];
     let mut strokes = [0i32; 16384];
     let mut rows = [0i32; 20480];
-    let mut page = [0u8; 420000];
+    let mut page = [0u8; 820000];
     run(&mut bytes, &mut strokes, &mut rows, &mut page);
 }

@@ -39,43 +39,40 @@ fn put_words(page: &mut [u8], at: usize, long: u64) -> usize
     }
 }
 
-// Puts a bar of that length, in ten parts.
-fn put_bar(page: &mut [u8], at: usize, long: u64) -> usize
-    requires { ⌜ at + 150 ≤ length (now page) ⌝ }
-    ensures { λ r. ⌜ Put (now (page .entry)) (now (page .exit)) at r (bar long) ⌝ }
-    ensures { λ r. ⌜ r ≤ at + 150 ⌝ }
+// Puts a bar of that length, in ten parts, where the view's longer side is e.
+fn put_bar(page: &mut [u8], at: usize, long: u64, e: u64) -> usize
+    requires { ⌜ at + 250 ≤ length (now page) ⌝ }
+    ensures { λ r. ⌜ Put (now (page .entry)) (now (page .exit)) at r (bar long e) ⌝ }
+    ensures { λ r. ⌜ r ≤ at + 250 ⌝ }
 {
-    let a = marks::put_labelled(
-        page,
-        at,
-        b">\n<path stroke=\"#c9d4d8\" d=\"M0 0h",
-        long,
-        b'"',
-    );
-    marks::put_labelled(
+    let a = marks::put_labelled_pair(page, at, b"<g transform=\"scale(", long, e, b')');
+    let b = text::put(
         page,
         a,
-        b"/>\n<path stroke=\"#1d2f38\" stroke-dasharray=\"1\" pathLength=\"10\" d=\"M0 0h",
-        long,
-        b'"',
+        b"\">\n<path fill=\"#c9d4d8\" d=\"M0 0h1v1h-1z\"/>\n<path fill=\"#1d2f38\" d=\"M0 0h.1v1h-.1z",
+    );
+    text::put(
+        page,
+        b,
+        b"m.2 0h.1v1h-.1zm.2 0h.1v1h-.1zm.2 0h.1v1h-.1zm.2 0h.1v1h-.1z\"/>\n</g>\n",
     )
 }
 
 // Puts the bar that goes with the view, and the words for it.
 pub fn put_ruler(page: &mut [u8], at: usize, e: u64) -> usize
-    requires { ⌜ at + 300 ≤ length (now page) ⌝ }
+    requires { ⌜ at + 370 ≤ length (now page) ⌝ }
     ensures { λ r. ⌜ Put (now (page .entry)) (now (page .exit)) at r (ruler e) ⌝ }
-    ensures { λ r. ⌜ r ≤ at + 300 ⌝ }
+    ensures { λ r. ⌜ r ≤ at + 370 ⌝ }
 {
     let long = bar_length(e);
-    let a = put_bar(page, at, long);
+    let a = put_bar(page, at, long, e);
     let b = marks::put_labelled(
         page,
         a,
-        b"/>\n<g font-size=\"3\" fill=\"#1d2f38\" stroke=\"none\" transform=\"scale(",
+        b"<g font-size=\"3\" fill=\"#1d2f38\" transform=\"scale(",
         e,
         b')',
     );
-    let c = text::put(page, b, b"\">\n<text y=\"4.5\">");
+    let c = text::put(page, b, b"\">\n<text y=\"5\">");
     put_words(page, c, long)
 }

@@ -32,7 +32,7 @@ pub fn reach(w: Window, points: &[i32]) -> Window
 }
 
 // How far two numbers are apart.
-fn apart(a: i32, b: i32) -> u64
+pub fn apart(a: i32, b: i32) -> u64
     ensures { λ n. ⌜ n ≡ apart a b ⌝ }
     ensures { λ n. ⌜ n ≤ 4294967296 ⌝ }
 {

@@ -6,11 +6,20 @@ use borrow.Author.Needs.{needs}
 use Rattle.frames.proofs.put_frame.Statement.{statement}
 use Rattle.frames.proofs.put_frame.Tie as tie
 
+pixels-high-requires : tie.Need-pixels-high-requires
+pixels-high-requires c κs = search needs
+
 extent-requires : tie.Need-extent-requires
 extent-requires c κs = search needs
 
 height-requires : tie.Need-height-requires
 height-requires c κs = search needs
+
+slice-aggregate-put-labelled : tie.Need-slice-aggregate-put-labelled
+slice-aggregate-put-labelled c = search needs
+
+put-labelled-requires : tie.Need-put-labelled-requires
+put-labelled-requires c κs = search needs
 
 slice-aggregate-put-labelled-pair : tie.Need-slice-aggregate-put-labelled-pair
 slice-aggregate-put-labelled-pair c = search needs
@@ -45,22 +54,30 @@ same-length c = search needs
 returns : tie.Need-returns
 unfolding frame
 returns c =
-    let at₅ = c .before .before in
-    let at₄ = at₅ .before .before .before .before in
-    let at₃ = at₄ .before .before .before .before .before in
-    let at₂ = at₃ .before .before .before in
+    let at₇ = c .before .before in
+    let at₆ = at₇ .before .before .before .before in
+    let at₅ = at₆ .before .before .before .before .before in
+    let at₄ = at₅ .before .before .before .before .before in
+    let at₃ = at₄ .before .before .before in
+    let at₂ = at₃ .before in
     let at₁ = at₂ .before in
-    let p = at₃ .put-labelled-pair .ensures in
-    let q = at₄ .put .ensures in
-    let r = at₅ .put-kept .ensures in
-    (rw (← at₁ .extent .ensures .0, ← at₂ .height .ensures .0) (put-then (put-then (p .0) q) (r .0)), omega (arith, p .1, q .ends, r .1))
+    let p = at₄ .put-labelled .ensures in
+    let q = at₅ .put-labelled-pair .ensures in
+    let r = at₆ .put .ensures in
+    let s = at₇ .put-kept .ensures in (
+      rw (← at₁ .pixels-high .ensures, ← at₂ .extent .ensures .0, ← at₃ .height .ensures .0) (put-then (put-then (put-then (p .0) (q .0)) r) (s .0)),
+      omega (arith, p .1, q .1, r .ends, s .1),
+    )
 
 pub put-frame-spec : {M : Type 1} → statement M
 put-frame-spec =
     tie.close
     (tie.spec
+    pixels-high-requires
     extent-requires
     height-requires
+    slice-aggregate-put-labelled
+    put-labelled-requires
     slice-aggregate-put-labelled-pair
     mul-put-labelled-pair
     mul-put-labelled-pair-2

@@ -61,9 +61,10 @@ slice-aggregate-put-picture-2 c = sym (length-take-le _ _ (rows-fit (cut-sheet (
 
 -- the page has room for all strokes and rows that there can be
 room : (ss rs : List ℤ) (n k : ℕ) {strokes rows page : ℕ} → n * 4 ≤ length ss → k * 5 ≤ length rs → length ss ≡ strokes → length rs ≡ rows
-    → 16384 ≡ strokes → 20480 ≡ rows → 420000 ≤ page
-    → (n * 4 ≤ length (take (n * 4) ss)) × ((k * 5 ≤ length (take (k * 5) rs)) × (49 * n + 49 * k + 1600 ≤ page))
-room ss rs n k h g e f s r p = (le-of-eq (sym (length-take-le (n * 4) ss h)), (le-of-eq (sym (length-take-le (k * 5) rs g)), omega arith))
+    → 16384 ≡ strokes → 20480 ≡ rows → 820000 ≤ page
+    → (n * 4 ≤ length (take (n * 4) ss)) × ((k * 5 ≤ length (take (k * 5) rs)) × ((k ≤ 4096) × (49 * n + 147 * k + 8000 ≤ page)))
+room ss rs n k h g e f s r p =
+    (le-of-eq (sym (length-take-le (n * 4) ss h)), (le-of-eq (sym (length-take-le (k * 5) rs g)), (omega arith, omega arith)))
 
 put-picture-requires : tie.Need-put-picture-requires
 put-picture-requires c κs =
@@ -85,7 +86,8 @@ same-length-6 : tie.Need-same-length-6
 same-length-6 c = search needs
 
 returns-2 : tie.Need-returns-2
-returns-2 c = cut-report (cut-sheet (c .before .before .before .before .before .before .before .before .before)) (c .before .before .put-picture .ensures)
+returns-2 c =
+    cut-report (cut-sheet (c .before .before .before .before .before .before .before .before .before)) (c .before .before .put-picture .ensures)
 
 pub draw-spec : {M : Type 1} → statement M
 draw-spec =

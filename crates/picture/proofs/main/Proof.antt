@@ -17,10 +17,10 @@ slice-aggregate-run-3 : tie.Need-slice-aggregate-run-3
 slice-aggregate-run-3 c = sym (length-replicate 20480 (pos 0))
 
 slice-aggregate-run-4 : tie.Need-slice-aggregate-run-4
-slice-aggregate-run-4 c = sym (length-replicate {A = ℕ} 420000 0)
+slice-aggregate-run-4 c = sym (length-replicate {A = ℕ} 820000 0)
 
 run-requires : tie.Need-run-requires
-run-requires c κs = (sym (length-replicate 16384 (pos 0)), (sym (length-replicate 20480 (pos 0)), le-of-eq (sym (length-replicate {A = ℕ} 420000 0))))
+run-requires c κs = (sym (length-replicate 16384 (pos 0)), (sym (length-replicate 20480 (pos 0)), le-of-eq (sym (length-replicate {A = ℕ} 820000 0))))
 
 returns : tie.Need-returns
 returns c = tt

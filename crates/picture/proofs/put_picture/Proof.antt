@@ -14,11 +14,8 @@ put-frame-requires c κs = search needs
 put-placed-requires : tie.Need-put-placed-requires
 put-placed-requires c κs = search needs
 
-put-strip-requires : tie.Need-put-strip-requires
-put-strip-requires c κs = search needs
-
-put-drawn-requires : tie.Need-put-drawn-requires
-put-drawn-requires c κs = search needs
+put-artwork-requires : tie.Need-put-artwork-requires
+put-artwork-requires c κs = search needs
 
 put-caption-requires : tie.Need-put-caption-requires
 put-caption-requires c κs = search needs
@@ -29,18 +26,16 @@ same-length c = search needs
 returns : tie.Need-returns
 unfolding picture
 returns c =
-    let at₆ = c .before .before in
-    let at₅ = at₆ .before .before .before .before in
+    let at₅ = c .before .before in
     let at₄ = at₅ .before .before .before .before in
     let at₃ = at₄ .before .before .before .before in
     let at₂ = at₃ .before .before .before .before in
     let at₁ = at₂ .before .before in
     let p = at₂ .put-frame .ensures in
     let q = at₃ .put-placed .ensures in
-    let r = at₄ .put-strip .ensures in
-    let s = at₅ .put-drawn .ensures in
-    let t = at₆ .put-caption .ensures in
-    rw (← at₁ .reach .ensures) (put-then (put-then (put-then (put-then (p .0) (q .0)) (r .0)) (s .0)) t)
+    let r = at₄ .put-artwork .ensures in
+    let s = at₅ .put-caption .ensures in
+    rw (← at₁ .reach .ensures) (put-then (put-then (put-then (p .0) (q .0)) (r .0)) s)
 
 pub put-picture-spec : {M : Type 1} → statement M
 put-picture-spec =
@@ -49,8 +44,7 @@ put-picture-spec =
     reach-requires
     put-frame-requires
     put-placed-requires
-    put-strip-requires
-    put-drawn-requires
+    put-artwork-requires
     put-caption-requires
     same-length
     returns)

@@ -1,0 +1,38 @@
+-- The points of a picture: kept rows whose two ends are one grid point. Where the drawn stroke has no length either, the dot is meant, and it is
+-- filled. Else the stroke only touches the strip, or so little of it is kept that both ends round to one grid point: that is an open ring.
+--   spread xs i            how far the ends of a stroke are apart, along both axes together, by the four numbers of the list xs from the place i on
+--   marked l zs xs n       whether row n of the list xs has no length, and its stroke in the list zs a spread of l or more
+--   pointPath l zs xs n    row n, if it is marked
+--   pointPaths l zs xs n   the marked ones of the first n rows
+--   points e zs xs n       all points dark, 10 thousandths of the view's longer side e wide; over those whose stroke has a length a white one,
+--                          half as wide
+use mathlib.Core.Bool.{Bool, false}
+use mathlib.Core.List.{List, [], _++_}
+use Prim.Native.Nat.{ℕ, zero, suc, _+_, _*_}
+use lib.Dec.{eqb, leb}
+use lib.IntN.{ℤ, pos}
+use lib.ListN.{getD}
+use Rattle.whole.specs.Choice.{if_then_else_}
+use Rattle.text.specs.Pages.{ascii}
+use Rattle.view.specs.Views.{apart}
+use Rattle.paths.specs.Paths.{pathStart, strokePath}
+
+unfoldable pub spread : List ℤ → ℕ → ℕ
+spread xs i =
+    apart (getD xs i (pos 0)) (getD xs (i + 2) (pos 0)) + apart (getD xs (i + 1) (pos 0)) (getD xs (i + 3) (pos 0))
+
+-- A row's first number is its stroke's index, counted from 0.
+unfoldable pub marked : ℕ → List ℤ → List ℤ → ℕ → Bool
+marked l zs xs n = if eqb (spread xs (n * 5 + 1)) 0 then leb l (spread zs (apart (pos 0) (getD xs (n * 5) (pos 0)) * 4)) else false
+
+unfoldable pub pointPath : ℕ → List ℤ → List ℤ → ℕ → List ℕ
+pointPath l zs xs n = if marked l zs xs n then strokePath xs (n * 5 + 1) else []
+
+unfoldable pub pointPaths : ℕ → List ℤ → List ℤ → ℕ → List ℕ
+pointPaths l zs xs zero = []
+pointPaths l zs xs (suc n) = pointPaths l zs xs n ++ pointPath l zs xs n
+
+unfoldable pub points : ℕ → List ℤ → List ℤ → ℕ → List ℕ
+points e zs xs n =
+    pathStart (ascii "<path stroke=\"#14324f\" stroke-width=\"") (10 * e) ++ pointPaths 0 zs xs n
+    ++ pathStart (ascii "\"/>\n<path stroke=\"white\" stroke-width=\"") (5 * e) ++ pointPaths 1 zs xs n ++ ascii "\"/>\n"
