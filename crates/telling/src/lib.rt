@@ -7,7 +7,7 @@ use replies::Reply;
 // So many lines are told.
 const MOST: u64 = 10;
 
-// The lines there are. A new command gets its line here, and in README.md.
+// The lines there are. A new command gets its line here, and in docs/DESK.md.
 fn list_lines() {
     streams::tell(b"mm2 H H\n");
     streams::tell(b"mm4 H H H H\n");
