@@ -1,4 +1,4 @@
--- A label and a number, three times, and words.
+-- Two labelled numbers, the number on its side, and words.
 use native.Mathlib.Omega.{arith}
 use Rattle.text.proofs.Puts.{put-then}
 use Rattle.labels.specs.Labels.{numberAt}
