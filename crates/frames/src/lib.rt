@@ -3,7 +3,7 @@ ghost use mathlib.Core.Path.{_≡_};
 ghost use Prim.Native.Nat.{_+_, _≤_};
 ghost use lib.ListN.{length};
 ghost use Rattle.text.specs.Pages.{Put};
-ghost use Rattle.frames.specs.Frames.{pixelsHigh, frame, placed};
+ghost use Rattle.frames.specs.Frames.{pixelsHigh, size, frame, placed};
 use grid::Window;
 
 // How many pixels a picture is high that is 1120 wide.
@@ -19,11 +19,11 @@ fn pixels_high(v: Window) -> u64
     1000 * high / e + 260
 }
 
-// Puts the picture's size and the title.
-pub fn put_frame(page: &mut [u8], at: usize, v: Window, kept: usize, all: usize) -> usize
-    requires { ⌜ at + 400 ≤ length (now page) ⌝ }
-    ensures { λ r. ⌜ Put (now (page .entry)) (now (page .exit)) at r (frame v kept all) ⌝ }
-    ensures { λ r. ⌜ r ≤ at + 400 ⌝ }
+// Puts the picture's size.
+fn put_size(page: &mut [u8], at: usize, v: Window) -> usize
+    requires { ⌜ at + 300 ≤ length (now page) ⌝ }
+    ensures { λ r. ⌜ Put (now (page .entry)) (now (page .exit)) at r (size v) ⌝ }
+    ensures { λ r. ⌜ r ≤ at + 300 ⌝ }
 {
     let pixels = pixels_high(v);
     let e = view::extent(v);
@@ -43,15 +43,29 @@ pub fn put_frame(page: &mut [u8], at: usize, v: Window, kept: usize, all: usize)
         100 * high + 26 * e,
         b'"',
     );
-    let c = text::put(
+    text::put(
         page,
         b,
         b">\n<style>@media screen{:root{width:100%;height:100%;background:white}}</style>\n<title>",
-    );
-    marks::put_kept(page, c, kept, all, b'<')
+    )
 }
 
-// Puts the place of the drawing in the view.
+// Puts the picture's size, the title and a white ground.
+pub fn put_frame(page: &mut [u8], at: usize, v: Window, kept: usize, all: usize) -> usize
+    requires { ⌜ at + 450 ≤ length (now page) ⌝ }
+    ensures { λ r. ⌜ Put (now (page .entry)) (now (page .exit)) at r (frame v kept all) ⌝ }
+    ensures { λ r. ⌜ r ≤ at + 450 ⌝ }
+{
+    let a = put_size(page, at, v);
+    let b = marks::put_kept(page, a, kept, all, b'<');
+    text::put(
+        page,
+        b,
+        b"/title>\n<rect width=\"100%\" height=\"100%\" fill=\"white\"/>\n",
+    )
+}
+
+// Puts the start of a group with the drawing's own grid numbers, at the drawing's place in the picture.
 pub fn put_placed(page: &mut [u8], at: usize, v: Window) -> usize
     requires { ⌜ at + 300 ≤ length (now page) ⌝ }
     ensures { λ r. ⌜ Put (now (page .entry)) (now (page .exit)) at r (placed v) ⌝ }
@@ -62,7 +76,7 @@ pub fn put_placed(page: &mut [u8], at: usize, v: Window) -> usize
     let a = marks::put_labelled_pair(
         page,
         at,
-        b"/title>\n<rect width=\"100%\" height=\"100%\" fill=\"white\"/>\n<g fill=\"none\" stroke-linecap=\"round\" transform=\"translate(",
+        b"<g fill=\"none\" stroke-linecap=\"round\" transform=\"translate(",
         56 * e - 50 * wide,
         6 * e,
         b')',

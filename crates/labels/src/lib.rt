@@ -3,7 +3,7 @@ ghost use mathlib.Core.Path.{_≡_};
 ghost use Prim.Native.Nat.{_+_, _*_, _≤_};
 ghost use lib.ListN.{length};
 ghost use Rattle.text.specs.Pages.{Put};
-ghost use Rattle.labels.specs.Labels.{middle, numberAt, label, labelTexts, labelPlace, labels};
+ghost use Rattle.labels.specs.Labels.{middle, beside, numberAt, label, labelTexts, labelPlace, labels};
 use grid::Window;
 
 // How far the middle of a and b is from a side of the view, in half grid steps.
@@ -13,24 +13,42 @@ fn middle(side: i32, a: i32, b: i32) -> u64
     view::apart(side, a) + view::apart(side, b)
 }
 
+// Puts a number's side and the number: above its place to the right if it is even, below it to the left if it is odd.
+fn put_beside(page: &mut [u8], at: usize, number: u64) -> usize
+    requires { ⌜ at + 70 ≤ length (now page) ⌝ }
+    ensures { λ r. ⌜ Put (now (page .entry)) (now (page .exit)) at r (beside number) ⌝ }
+    ensures { λ r. ⌜ r ≤ at + 70 ⌝ }
+{
+    if number % 2 == 0 {
+        return marks::put_labelled(page, at, b">", number, b'<');
+    }
+    marks::put_labelled(
+        page,
+        at,
+        b" dx=\"-.5em\" dy=\"1.25em\" text-anchor=\"end\">",
+        number,
+        b'<',
+    )
+}
+
 // Puts a number at a place.
 fn put_number(page: &mut [u8], at: usize, right: u64, down: u64, number: u64) -> usize
-    requires { ⌜ at + 84 ≤ length (now page) ⌝ }
+    requires { ⌜ at + 132 ≤ length (now page) ⌝ }
     ensures { λ r. ⌜ Put (now (page .entry)) (now (page .exit)) at r (numberAt right down number) ⌝ }
-    ensures { λ r. ⌜ r ≤ at + 84 ⌝ }
+    ensures { λ r. ⌜ r ≤ at + 132 ⌝ }
 {
     let a = marks::put_labelled(page, at, b"<text x=\"", right, b'"');
     let b = marks::put_labelled(page, a, b" y=\"", down, b'"');
-    let c = marks::put_labelled(page, b, b">", number, b'<');
+    let c = put_beside(page, b, number);
     text::put(page, c, b"/text>\n")
 }
 
 // Puts the number of a stroke at its middle.
 fn put_label(page: &mut [u8], at: usize, v: Window, strokes: &[i32], k: usize) -> usize
     requires { ⌜ k * 4 + 4 ≤ length (now strokes) ⌝ }
-    requires { ⌜ at + 84 ≤ length (now page) ⌝ }
+    requires { ⌜ at + 132 ≤ length (now page) ⌝ }
     ensures { λ r. ⌜ Put (now (page .entry)) (now (page .exit)) at r (label v (now (strokes .entry)) k) ⌝ }
-    ensures { λ r. ⌜ r ≤ at + 84 ⌝ }
+    ensures { λ r. ⌜ r ≤ at + 132 ⌝ }
 {
     let right = middle(v.left, strokes[k * 4], strokes[k * 4 + 2]);
     let down = middle(v.top, strokes[k * 4 + 1], strokes[k * 4 + 3]);
@@ -40,9 +58,9 @@ fn put_label(page: &mut [u8], at: usize, v: Window, strokes: &[i32], k: usize) -
 // Puts the numbers of all strokes.
 fn put_texts(page: &mut [u8], at: usize, v: Window, strokes: &[i32], count: usize) -> usize
     requires { ⌜ count * 4 ≤ length (now strokes) ⌝ }
-    requires { ⌜ at + 84 * count ≤ length (now page) ⌝ }
+    requires { ⌜ at + 132 * count ≤ length (now page) ⌝ }
     ensures { λ r. ⌜ Put (now (page .entry)) (now (page .exit)) at r (labelTexts v (now (strokes .entry)) count) ⌝ }
-    ensures { λ r. ⌜ r ≤ at + 84 * count ⌝ }
+    ensures { λ r. ⌜ r ≤ at + 132 * count ⌝ }
 {
     let mut end = at;
     let mut k = 0;
@@ -81,9 +99,9 @@ fn put_place(page: &mut [u8], at: usize, v: Window) -> usize
 // Puts the numbers of the strokes, if there are at most 30.
 pub fn put_labels(page: &mut [u8], at: usize, v: Window, strokes: &[i32], count: usize) -> usize
     requires { ⌜ count * 4 ≤ length (now strokes) ⌝ }
-    requires { ⌜ at + 5350 ≤ length (now page) ⌝ }
+    requires { ⌜ at + 8210 ≤ length (now page) ⌝ }
     ensures { λ r. ⌜ Put (now (page .entry)) (now (page .exit)) at r (labels v (now (strokes .entry)) count) ⌝ }
-    ensures { λ r. ⌜ r ≤ at + 5350 ⌝ }
+    ensures { λ r. ⌜ r ≤ at + 8210 ⌝ }
 {
     if count > 30 {
         return at;

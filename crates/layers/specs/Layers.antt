@@ -2,7 +2,8 @@
 -- 2 for what was drawn, 3 for what is kept. A width told so needs no word of SVG that only browsers know.
 --   roundPath w              the way along the strip's sides, back to where it starts
 --   stripPath w e            the strip
---   drawnPaths e zs n xs k   the n strokes whose numbers are zs, light; over them, dark, the k rows xs of those that are kept
+--   drawnPaths e zs n xs k   the n strokes whose numbers are zs, light; over them, dark, the k rows xs of those that are kept;
+--                            and the end of the group
 use mathlib.Core.List.{List, _++_}
 use Prim.Native.Nat.{ℕ, _*_}
 use lib.IntN.{ℤ}
@@ -22,4 +23,4 @@ stripPath w e = pathStart (ascii "<path fill=\"#e6f1f4\" stroke=\"#7d9ba6\" stro
 unfoldable pub drawnPaths : ℕ → List ℤ → ℕ → List ℤ → ℕ → List ℕ
 drawnPaths e zs n xs k =
     pathStart (ascii "<path stroke=\"#cbb79a\" stroke-width=\"") (2 * e) ++ strokePaths 4 zs n
-    ++ pathStart (ascii "\"/>\n<path stroke=\"#14324f\" stroke-width=\"") (3 * e) ++ strokePaths 5 xs k ++ ascii "\"/>\n"
+    ++ pathStart (ascii "\"/>\n<path stroke=\"#14324f\" stroke-width=\"") (3 * e) ++ strokePaths 5 xs k ++ ascii "\"/>\n</g>\n"

@@ -34,7 +34,7 @@ pub fn put_strip(page: &mut [u8], at: usize, w: Window, e: u64) -> usize
     text::put(page, c, b"\"/>\n")
 }
 
-// Puts what was drawn, and over it what is kept.
+// Puts what was drawn, and over it what is kept, and ends the group.
 pub fn put_drawn(
     page: &mut [u8],
     at: usize,
@@ -60,5 +60,5 @@ pub fn put_drawn(
         3 * e,
     );
     let d = paths::put_strokes(page, c, rows, 5, kept);
-    text::put(page, d, b"\"/>\n")
+    text::put(page, d, b"\"/>\n</g>\n")
 }

@@ -1,6 +1,6 @@
 // Measures put into a text: a number of thousandths, and a length in millimetres.
-ghost use mathlib.Core.List.{[], _∷_, _++_};
-ghost use Prim.Native.Nat.{_+_, _*_, _<_, _≤_};
+ghost use mathlib.Core.List.{[], _∷_};
+ghost use Prim.Native.Nat.{_+_, _<_, _≤_};
 ghost use lib.ListN.{length};
 ghost use Rattle.text.specs.Pages.{Put};
 ghost use Rattle.measures.specs.Measures.{thousandths, decimals, millimetres};

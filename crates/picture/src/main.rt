@@ -20,7 +20,7 @@ fn put_picture(
     requires { ⌜ drawn * 4 ≤ length (now strokes) ⌝ }
     requires { ⌜ kept * 5 ≤ length (now rows) ⌝ }
     requires { ⌜ kept ≤ 4096 ⌝ }
-    requires { ⌜ 49 * drawn + 147 * kept + 8000 ≤ length (now page) ⌝ }
+    requires { ⌜ 49 * drawn + 147 * kept + 11200 ≤ length (now page) ⌝ }
     ensures { λ r. ⌜ Put (now (page .entry)) (now (page .exit)) 0 r (picture w (now (strokes .entry)) drawn (now (rows .entry)) kept) ⌝ }
 {
     let v = view::reach(w, strokes);

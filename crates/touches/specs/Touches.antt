@@ -5,7 +5,7 @@
 --   pointPath l zs xs n    row n, if it is marked
 --   pointPaths l zs xs n   the marked ones of the first n rows
 --   points e zs xs n       all points dark, 10 thousandths of the view's longer side e wide; over those whose stroke has a length a white one,
---                          half as wide
+--                          half as wide; and the end of the group
 use mathlib.Core.Bool.{Bool, false}
 use mathlib.Core.List.{List, [], _++_}
 use Prim.Native.Nat.{ℕ, zero, suc, _+_, _*_}
@@ -35,4 +35,4 @@ pointPaths l zs xs (suc n) = pointPaths l zs xs n ++ pointPath l zs xs n
 unfoldable pub points : ℕ → List ℤ → List ℤ → ℕ → List ℕ
 points e zs xs n =
     pathStart (ascii "<path stroke=\"#14324f\" stroke-width=\"") (10 * e) ++ pointPaths 0 zs xs n
-    ++ pathStart (ascii "\"/>\n<path stroke=\"white\" stroke-width=\"") (5 * e) ++ pointPaths 1 zs xs n ++ ascii "\"/>\n"
+    ++ pathStart (ascii "\"/>\n<path stroke=\"white\" stroke-width=\"") (5 * e) ++ pointPaths 1 zs xs n ++ ascii "\"/>\n</g>\n"

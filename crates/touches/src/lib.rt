@@ -83,7 +83,7 @@ fn put_points(
     end
 }
 
-// Puts all points dark, and over those that only touch a smaller one that is white.
+// Puts all points dark, and over those that only touch a smaller one that is white, and ends the group.
 pub fn put_all(
     page: &mut [u8],
     at: usize,
@@ -113,5 +113,5 @@ pub fn put_all(
         5 * e,
     );
     let d = put_points(page, c, strokes, rows, kept, 1);
-    text::put(page, d, b"\"/>\n")
+    text::put(page, d, b"\"/>\n</g>\n")
 }

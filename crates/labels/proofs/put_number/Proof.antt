@@ -1,4 +1,4 @@
--- A label and a number, three times, and words.
+-- Two labelled numbers, the number on its side, and words.
 use native.Mathlib.Omega.{arith}
 use Rattle.text.proofs.Puts.{put-then}
 use Rattle.labels.specs.Labels.{numberAt}
@@ -18,11 +18,8 @@ slice-aggregate-put-labelled-2 c = search needs
 put-labelled-requires-2 : tie.Need-put-labelled-requires-2
 put-labelled-requires-2 c κs = search needs
 
-slice-aggregate-put-labelled-3 : tie.Need-slice-aggregate-put-labelled-3
-slice-aggregate-put-labelled-3 c = search needs
-
-put-labelled-requires-3 : tie.Need-put-labelled-requires-3
-put-labelled-requires-3 c κs = search needs
+put-beside-requires : tie.Need-put-beside-requires
+put-beside-requires c κs = search needs
 
 slice-aggregate-put : tie.Need-slice-aggregate-put
 slice-aggregate-put c = search needs
@@ -38,11 +35,11 @@ unfolding numberAt
 returns c =
     let at₄ = c .before .before in
     let at₃ = at₄ .before .before .before .before .before in
-    let at₂ = at₃ .before .before .before .before .before in
+    let at₂ = at₃ .before .before .before .before in
     let at₁ = at₂ .before .before .before .before .before in
     let p = at₁ .put-labelled .ensures in
     let q = at₂ .put-labelled2 .ensures in
-    let r = at₃ .put-labelled3 .ensures in
+    let r = at₃ .put-beside .ensures in
     let s = at₄ .put .ensures in
     (put-then (put-then (put-then (p .0) (q .0)) (r .0)) s, omega (arith, p .1, q .1, r .1, s .ends))
 
@@ -54,8 +51,7 @@ put-number-spec =
     put-labelled-requires
     slice-aggregate-put-labelled-2
     put-labelled-requires-2
-    slice-aggregate-put-labelled-3
-    put-labelled-requires-3
+    put-beside-requires
     slice-aggregate-put
     put-requires
     same-length

@@ -1,4 +1,4 @@
--- After k strokes the text is that of the first k, and each took at most 84 bytes.
+-- After k strokes the text is that of the first k, and each took at most 132 bytes.
 use mathlib.Core.Path.{_≡_}
 use Prim.Native.Nat.{_+_, _*_, _-_, _≤_}
 use native.Mathlib.Omega.{arith}
@@ -11,7 +11,7 @@ use Rattle.labels.proofs.put_texts.Tie as tie
 
 abbrev Inv-loop : tie.InvT-loop
 Inv-loop page₀ at v strokes count end₀ k₀ page end k =
-    (k ≤ count) × ((end ≤ at + 84 * k) × Put page₀ page at end (labelTexts v strokes k))
+    (k ≤ count) × ((end ≤ at + 132 * k) × Put page₀ page at end (labelTexts v strokes k))
 
 abbrev μ-loop : tie.MeasureT-loop
 μ-loop page₀ at v strokes count end₀ k₀ page end k = count - k

@@ -62,7 +62,7 @@ slice-aggregate-put-picture-2 c = sym (length-take-le _ _ (rows-fit (cut-sheet (
 -- the page has room for all strokes and rows that there can be
 room : (ss rs : List ℤ) (n k : ℕ) {strokes rows page : ℕ} → n * 4 ≤ length ss → k * 5 ≤ length rs → length ss ≡ strokes → length rs ≡ rows
     → 16384 ≡ strokes → 20480 ≡ rows → 820000 ≤ page
-    → (n * 4 ≤ length (take (n * 4) ss)) × ((k * 5 ≤ length (take (k * 5) rs)) × ((k ≤ 4096) × (49 * n + 147 * k + 8000 ≤ page)))
+    → (n * 4 ≤ length (take (n * 4) ss)) × ((k * 5 ≤ length (take (k * 5) rs)) × ((k ≤ 4096) × (49 * n + 147 * k + 11200 ≤ page)))
 room ss rs n k h g e f s r p =
     (le-of-eq (sym (length-take-le (n * 4) ss h)), (le-of-eq (sym (length-take-le (k * 5) rs g)), (omega arith, omega arith)))
 
