@@ -1,7 +1,7 @@
 -- The picture of a drawing.
 --   picture w zs n xs k   the picture of a drawing that is cut: its strip w, the numbers zs of its n strokes, and the rows xs of the k that are kept
---   Picture bytes text number place   what `draw` promises to put on its page and to answer: text is the picture of the drawing whose bytes these are, or
---                         of its refusal, whose number and place these are; they are 0 where there is none
+--   Picture bytes text number place   what `draw` promises to put on its page and to answer: text is the picture of the drawing whose bytes these
+--                         are, or of its refusal, whose number and place these are; they are 0 where there is none
 use mathlib.Core.List.{List, _++_}
 use Prim.Native.Nat.{ℕ, _/_}
 use lib.IntN.{ℤ}
