@@ -1,6 +1,4 @@
 // The desk: each line of standard input is one call, and each gets one line back, in order.
-mod commands;
-
 use input::Chunk;
 use input::Line;
 use output::Page;
@@ -11,12 +9,11 @@ fn run(chunk: &mut Chunk, line: &mut Line, lent: &mut [i32; 40960], page: &mut P
     let mut number: u64 = 0;
     while number < 0x4000_0000_0000_0000 {
         talk = exchange::next_line(chunk, line, page, talk);
-        let source = talk.source;
-        if !source.whole {
+        if !talk.source.whole {
             break;
         }
         number += 1;
-        let reply = commands::reply(line, source.have, lent);
+        let reply = commands::reply(line, talk.source.have, lent);
         talk = exchange::answer(page, line, lent, talk, number, reply);
     }
 }
