@@ -19,7 +19,7 @@ fn list_lines() {
     streams::tell(b"outline ORDER ROOM l b r t M c1 .. cM\n");
     streams::tell(b"draw ROOM HEX\n");
     streams::tell(
-        b"H: an f32 as the eight hexadecimal digits of its bits; HEX: a file's bytes as pairs of digits, - for none; ROOM: how many numbers are lent\n",
+        b"H: an f32 as the eight hexadecimal digits of its bits; HEX: a file's bytes as pairs of digits, - for none; ROOM: numbers lent as output\n",
     );
 }
 
