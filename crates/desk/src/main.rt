@@ -6,15 +6,15 @@ use output::Page;
 // Answers every line. A proved loop has to end, so it counts its lines, to a number that no run reaches.
 fn run(chunk: &mut Chunk, line: &mut Line, lent: &mut [i32; 40960], page: &mut Page) {
     let mut talk = exchange::start();
+    let mut reply = replies::unknown();
     let mut number: u64 = 0;
     while number < 0x4000_0000_0000_0000 {
-        talk = exchange::next_line(chunk, line, page, talk);
+        talk = exchange::turn(chunk, line, lent, page, talk, number, reply);
         if !talk.source.whole {
             break;
         }
+        reply = commands::reply(line, talk.source.have, lent);
         number += 1;
-        let reply = commands::reply(line, talk.source.have, lent);
-        talk = exchange::answer(page, line, lent, talk, number, reply);
     }
 }
 
