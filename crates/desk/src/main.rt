@@ -1,6 +1,4 @@
 // The desk: each line of standard input is one call, and each gets one line back, in order.
-mod commands;
-
 use input::Chunk;
 use input::Line;
 use output::Page;
@@ -8,16 +6,15 @@ use output::Page;
 // Answers every line. A proved loop has to end, so it counts its lines, to a number that no run reaches.
 fn run(chunk: &mut Chunk, line: &mut Line, lent: &mut [i32; 40960], page: &mut Page) {
     let mut talk = exchange::start();
+    let mut reply = replies::unknown();
     let mut number: u64 = 0;
     while number < 0x4000_0000_0000_0000 {
-        talk = exchange::next_line(chunk, line, page, talk);
-        let source = talk.source;
-        if !source.whole {
+        talk = exchange::turn(chunk, line, lent, page, talk, number, reply);
+        if !talk.source.whole {
             break;
         }
+        reply = commands::reply(line, talk.source.have, lent);
         number += 1;
-        let reply = commands::reply(line, source.have, lent);
-        talk = exchange::answer(page, line, lent, talk, number, reply);
     }
 }
 

@@ -42,7 +42,7 @@ fn over() -> Talk
 
 // Goes on to the next whole line; there is none any more where the input has ended, or a read or write failed. What the page holds is written out
 // before a read. A proved loop has to end, so it counts its turns, to a number that no run reaches.
-pub fn next_line(chunk: &mut Chunk, line: &mut Line, page: &Page, talk: Talk) -> Talk
+fn next_line(chunk: &mut Chunk, line: &mut Line, page: &Page, talk: Talk) -> Talk
     requires { ⌜ Sound talk ⌝ }
     ensures { λ r. ⌜ Sound r ⌝ }
 {
@@ -70,7 +70,7 @@ pub fn next_line(chunk: &mut Chunk, line: &mut Line, page: &Page, talk: Talk) ->
 
 // Puts the reply to a line on the page. The page is written out where it is past its mark, and before something is told of the line, so that at a
 // terminal the answer stands before its reason.
-pub fn answer(
+fn answer(
     page: &mut Page,
     line: &[u8],
     lent: &[i32; 40960],
@@ -109,4 +109,25 @@ pub fn answer(
         used: 0,
         told,
     }
+}
+
+// One turn of the exchange: the reply to line `number`, if there was one already, and then the next line.
+pub fn turn(
+    chunk: &mut Chunk,
+    line: &mut Line,
+    lent: &[i32; 40960],
+    page: &mut Page,
+    talk: Talk,
+    number: u64,
+    reply: Reply,
+) -> Talk
+    requires { ⌜ Sound talk ⌝ }
+    requires { ⌜ reply .count ≤ 16 ⌝ }
+    ensures { λ r. ⌜ Sound r ⌝ }
+{
+    if number == 0 {
+        return next_line(chunk, line, page, talk);
+    }
+    let after = answer(page, line, lent, talk, number, reply);
+    next_line(chunk, line, page, after)
 }

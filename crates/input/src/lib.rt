@@ -99,8 +99,8 @@ pub fn take_line(chunk: &Chunk, line: &mut Line, source: Source) -> Source
     }
 }
 
-// Reads the next chunk when all of the last is taken. Where the input ends, a line without a newline is whole, unless it is nothing; a read that fails
-// leaves no line.
+// Reads the next chunk when all of the last is taken. Where the input ends, a line without a newline is whole, unless it is nothing; where a read
+// fails, there is no line.
 pub fn read_on(chunk: &mut Chunk, source: Source) -> Source
     requires { ⌜ Within source ⌝ }
     ensures { λ r. ⌜ Within r ⌝ }

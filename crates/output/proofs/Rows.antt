@@ -39,7 +39,10 @@ more-on {forms} {sizes} {n = n} m h l p s =
     record {
       text = m .text ++ word;
       put = put-then (m .put) (put-behind 32 l p);
-      whole = sym (append-assoc (fieldsText 1 forms sizes) (m .text) word) ∙ ap (λ (x : List ℕ). x ++ word) (m .whole) ∙ sym (one-more n forms sizes h);
+      whole =
+          sym (append-assoc (fieldsText 1 forms sizes) (m .text) word)
+          ∙ ap (λ (x : List ℕ). x ++ word) (m .whole)
+          ∙ sym (one-more n forms sizes h);
       short = omega (arith, m .short);
     }
 

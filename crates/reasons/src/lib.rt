@@ -39,15 +39,7 @@ struct Wants {
     most: u32,
 }
 
-fn plain(least: usize) -> Wants {
-    Wants {
-        least,
-        counts: 0,
-        most: 0,
-    }
-}
-
-fn with_list(least: usize, counts: usize, most: u32) -> Wants {
+fn taking(least: usize, counts: usize, most: u32) -> Wants {
     Wants {
         least,
         counts,
@@ -58,14 +50,14 @@ fn with_list(least: usize, counts: usize, most: u32) -> Wants {
 // What the command of a word takes; nothing where there is no such command.
 fn wanted(word: u64) -> Wants {
     match word {
-        BACK => plain(1),
-        MM2 | DRAW => plain(2),
-        MM4 => plain(4),
-        LB | CS => plain(8),
-        CB => with_list(5, 1, 64),
-        BATCH => with_list(6, 6, 20000),
-        OUTLINE => with_list(7, 7, 256),
-        _ => plain(0),
+        BACK => taking(1, 0, 0),
+        MM2 | DRAW => taking(2, 0, 0),
+        MM4 => taking(4, 0, 0),
+        LB | CS => taking(8, 0, 0),
+        CB => taking(5, 1, 64),
+        BATCH => taking(6, 6, 20000),
+        OUTLINE => taking(7, 7, 256),
+        _ => taking(0, 0, 0),
     }
 }
 
@@ -90,33 +82,21 @@ fn kind_at(word: u64, place: usize) -> Kind {
     }
 }
 
-fn is_whole(argument: &[u8]) -> bool {
-    match words::read_integer(argument) {
-        Integer::Is(_) => true,
-        Integer::Bad => false,
-    }
-}
-
-fn is_up_to(argument: &[u8], most: u32) -> bool {
-    match words::read_unsigned(argument, most as u64) {
-        Natural::Is(_) => true,
-        Natural::Bad => false,
-    }
-}
-
-fn is_float(argument: &[u8]) -> bool {
-    match words::read_single(argument) {
-        Single::Is(_) => true,
-        Single::Bad => false,
-    }
-}
-
 // Whether an argument is what it has to be. Of bytes it is not asked: they come last, so that they are wrong where nothing else is.
 fn is(argument: &[u8], kind: Kind) -> bool {
     match kind {
-        Kind::Whole => is_whole(argument),
-        Kind::UpTo(most) => is_up_to(argument, most),
-        Kind::Float => is_float(argument),
+        Kind::Whole => match words::read_integer(argument) {
+            Integer::Is(_) => true,
+            Integer::Bad => false,
+        },
+        Kind::UpTo(most) => match words::read_unsigned(argument, most as u64) {
+            Natural::Is(_) => true,
+            Natural::Bad => false,
+        },
+        Kind::Float => match words::read_single(argument) {
+            Single::Is(_) => true,
+            Single::Bad => false,
+        },
         Kind::Bytes => false,
     }
 }

@@ -1,7 +1,7 @@
 // What standard error says: why a line is refused or no call, for the first ten such lines; and the lines there are, for who asks.
-ghost use Prim.Native.Nat.{_+_, _≤_};
-ghost use lib.ListN.{length};
 use arguments::HELP;
+use reasons::Kind;
+use reasons::Reason;
 use replies::Reply;
 
 // So many lines are told.
@@ -19,31 +19,51 @@ fn list_lines() {
     streams::tell(b"outline ORDER ROOM l b r t M c1 .. cM\n");
     streams::tell(b"draw ROOM HEX\n");
     streams::tell(
-        b"H: an f32 as the eight hexadecimal digits of its bits; HEX: a file's bytes as pairs of digits, - for none; ROOM: how many numbers are lent\n",
+        b"H: an f32 as the eight hexadecimal digits of its bits; HEX: a file's bytes as pairs of digits, - for none; ROOM: numbers lent as output\n",
     );
 }
 
-// Puts why a line is no call, or its refusal.
-fn put_why(page: &mut [u8], at: usize, line: &[u8], reply: Reply) -> usize
-    requires { ⌜ at + 160 ≤ length (now page) ⌝ }
-    ensures { λ r. ⌜ r ≤ at + 160 ⌝ }
-{
-    if reply.count == 0 {
-        let reason = reasons::why(line);
-        return explanations::put_reason(page, at, reason);
-    }
-    // Every refusal's number is below 256.
-    let number = (reply.sizes[0] % 256) as u8;
-    refusals::put_line(page, at, number, reply.sizes[1] as usize)
+// Tells words, a number and a byte behind it.
+fn tell_number(words: &[u8], n: u64, last: u8) {
+    let mut page = [0u8; 21];
+    let end = text::put_count(&mut page, 0, n, last);
+    streams::tell(words);
+    streams::tell(&page[0..end]);
 }
 
-// Tells it, behind the line's number.
-fn tell_line(line: &[u8], number: u64, reply: Reply) {
-    let mut page = [0u8; 187];
-    let a = text::put(&mut page, 0, b"line ");
-    let b = text::put_count(&mut page, a, number, b':');
-    let c = text::put(&mut page, b, b" ");
-    let end = put_why(&mut page, c, line, reply);
+// Tells what an argument should have been.
+fn tell_kind(kind: Kind) {
+    match kind {
+        Kind::Whole => streams::tell(b"a whole number of 32 bits\n"),
+        Kind::UpTo(most) => tell_number(b"a number from 0 to ", most as u64, b'\n'),
+        Kind::Float => streams::tell(b"eight hexadecimal digits\n"),
+        Kind::Bytes => streams::tell(b"pairs of hexadecimal digits, at most 70,000, or a minus\n"),
+    }
+}
+
+// Tells why a line is no call.
+fn tell_reason(reason: Reason) {
+    match reason {
+        Reason::Long => streams::tell(b"longer than 400,000 bytes\n"),
+        Reason::Word => streams::tell(b"unknown word; help lists the lines there are\n"),
+        Reason::Few => streams::tell(b"too few numbers\n"),
+        Reason::Many => streams::tell(b"too many numbers\n"),
+        Reason::Blank(place) => {
+            tell_number(b"argument ", place as u64, b' ');
+            streams::tell(b"is empty: one space stands before each\n");
+        }
+        Reason::Wrong(place, kind) => {
+            tell_number(b"argument ", place as u64, b' ');
+            streams::tell(b"is not ");
+            tell_kind(kind);
+        }
+    }
+}
+
+// Tells a refusal; its number is below 256.
+fn tell_refusal(number: u64, place: u64) {
+    let mut page = [0u8; 160];
+    let end = refusals::put_line(&mut page, 0, (number % 256) as u8, place as usize);
     streams::tell(&page[0..end]);
 }
 
@@ -66,10 +86,16 @@ pub fn tell(line: &[u8], number: u64, reply: Reply, told: u64) -> u64 {
         list_lines();
         return told;
     }
-    if told < MOST {
-        tell_line(line, number, reply);
-        return told + 1;
+    if MOST <= told {
+        streams::tell(b"more lines are refused or no call; the first ten are told\n");
+        return MOST + 1;
     }
-    streams::tell(b"more lines are refused or no call; the first ten are told\n");
-    MOST + 1
+    tell_number(b"line ", number, b':');
+    streams::tell(b" ");
+    if reply.count == 0 {
+        tell_reason(reasons::why(line));
+    } else {
+        tell_refusal(reply.sizes[0], reply.sizes[1]);
+    }
+    told + 1
 }

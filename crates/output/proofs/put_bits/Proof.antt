@@ -23,7 +23,8 @@ slice-aggregate-put c = search needs
 
 eight : (c : tie.After-hex) → c .hex .result ≡ 8
 eight c =
-    let most : c .hex .result ≤ 8 = enough 16 8 8 (lit< tt) (lit≤ tt) (mod-lt (c .before .before .before .args .bits) (lit< tt)) (c .hex .ensures .1 .0) in
+    let below = mod-lt (c .before .before .before .args .bits) (lit< tt) in
+    let most : c .hex .result ≤ 8 = enough 16 8 8 (lit< tt) (lit≤ tt) below (c .hex .ensures .1 .0) in
     let least : 8 ≤ c .hex .result = c .hex .ensures .1 .0 .0 in
     omega arith
 

@@ -36,10 +36,12 @@ same-length-2 c = search needs
 returns-2 : tie.Need-returns-2
 unfolding written
 returns-2 c =
-    let a = c .before .before .before .before .before .before .before .before .before .before .before .before .args in
-    let p = c .before .before .before .before .before .before .before .put-fields .ensures in
-    rw (ne-eqb (a .reply .count) 0 (c .before .before .before .before .before .before .before .before .before .if1 .left), take-all (a .reply .room) (now (a .lent)) (omega arith))
-    (put-then (p .0) (c .before .before .put-integers .ensures))
+    let at₃ = c .before .before in
+    let at₂ = at₃ .before .before .before .before .before in
+    let at₁ = at₂ .before .before in
+    let a = at₁ .before .before .before .args in
+    rw (ne-eqb (a .reply .count) 0 (at₁ .if1 .left), take-all (a .reply .room) (now (a .lent)) (omega arith))
+    (put-then (at₂ .put-fields .ensures .0) (at₃ .put-integers .ensures))
 
 sub-put-integers : tie.Need-sub-put-integers
 sub-put-integers c = search needs
@@ -59,10 +61,12 @@ same-length-3 c = search needs
 returns-3 : tie.Need-returns-3
 unfolding written
 returns-3 c =
-    let a = c .before .before .before .before .before .before .before .before .before .before .before .before .before .args in
-    let p = c .before .before .before .before .before .before .before .before .put-fields .ensures in
+    let at₃ = c .before .before in
+    let at₂ = at₃ .before .before .before .before .before .before in
+    let at₁ = at₂ .before .before in
+    let a = at₁ .before .before .before .args in
     let e : a .reply .room - 0 ≡ a .reply .room = omega arith in
-    rw (ne-eqb (a .reply .count) 0 (c .before .before .before .before .before .before .before .before .before .before .if1 .left)) (put-then (p .0) (rw e at (c .before .before .put-integers2 .ensures)))
+    rw (ne-eqb (a .reply .count) 0 (at₁ .if1 .left)) (put-then (at₂ .put-fields .ensures .0) (rw e at (at₃ .put-integers2 .ensures)))
 
 pub put-reply-spec : {M : Type 1} → statement M
 put-reply-spec =

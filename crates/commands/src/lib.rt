@@ -1,9 +1,9 @@
 // Which family of commands a line goes to, by its word.
 //
-// A new command is a function in the crate of its family, `.._commands`, from the text after the word to a reply, and there stands its arm in `reply`;
-// here it is one word more at the family's arm. Its word stands in `arguments`, what it takes in `reasons`, and its line for `help` in `telling`. It takes
-// 1 to 3 s to check in its family and 0.1 s here, and the call's own library 0.02 s a megabyte in both. A family of its own takes about 5 s, and an arm
-// here.
+// A new command is a function in the crate of its family, `.._commands`, from the text after the word to a reply, with its arm in `reply` there; here
+// it is one word more at the family's arm. Its word stands in `arguments`, what it takes in `reasons`, and its line for `help` in `telling`. It takes
+// 1 to 3 s to check in its family and 0.1 s here, and the call's own library 0.02 s a megabyte in both and in `desk`. A family of its own takes about
+// 5 s, and an arm here.
 ghost use Prim.Native.Nat.{_≤_};
 ghost use lib.ListN.{length};
 use arguments::BACK;
