@@ -32,7 +32,7 @@ pub enum Reason {
 }
 
 // What a command takes: so many arguments, and where one of them is the count of a list, the list behind them. That one stands at the place `counts`,
-// and may be `most`.
+// and is at most `most`.
 struct Wants {
     least: usize,
     counts: usize,
@@ -139,7 +139,7 @@ fn number_at(rest: &[u8], place: usize, most: u32) -> Natural {
     Natural::Bad
 }
 
-// The first argument that is not what it has to be.
+// The first argument that is not what it has to be. A line that is no call has one, so that the loop does not come to its end.
 fn first_wrong(rest: &[u8], word: u64) -> Reason {
     let mut at = 0;
     let mut place: usize = 0;
