@@ -5,8 +5,11 @@
 sum_of() {
     local root=$1
     shift
-    { find "$root/crates.txt" "$root/crates" -type f \( -name '*.rt' -o -name '*.antt' -o -name crates.txt \) -print0 | LC_ALL=C sort -z | xargs -0 cat -- && cat -- "$@"; } 2>/dev/null |
-        sha256sum
+    {
+        find "$root/crates.txt" "$root/crates" -type f \( -name '*.rt' -o -name '*.antt' -o -name crates.txt \) -print0 | LC_ALL=C sort -z |
+            xargs -0 cat --
+        cat -- "$@"
+    } 2>/dev/null | sha256sum
 }
 
 # crates_below ROOT NAME..: the crates to be proved for these, each once.
