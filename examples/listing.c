@@ -1,6 +1,7 @@
 /* Reads a drawing on standard input, cuts it to its strip and prints the strip's job list, as the program listing does. The status is 1 where it
  * could not read, the drawing is refused, or it could not write; standard error says which. */
 #include <gerlyantu.h>
+#include <signal.h>
 #include <stdio.h>
 
 /* One byte more than a drawing may have, so that a longer one is seen to be. */
@@ -34,6 +35,8 @@ static bool print_listing(gerlyantu_window strip, size_t kept, size_t drawn) {
 }
 
 int main(void) {
+    /* A pipe that nobody reads any more is then a write that fails. */
+    signal(SIGPIPE, SIG_IGN);
     size_t length = fread(drawing, 1, sizeof drawing, stdin);
     if (ferror(stdin)) return fail("could not read");
     gerlyantu_drawing_answer read = gerlyantu_read_drawing(drawing, length, strokes, GERLYANTU_DRAWING_ROOM);

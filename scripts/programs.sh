@@ -3,7 +3,7 @@
 # A line a program: its name, how many words it takes after its name, what it reads, and what it writes.
 programs='desk|0|lines, each one call (the line help lists them)|a line for each
 listing|0|a drawing file|its strip, the strokes that are kept and their count
-pen|0|lines of text|the drawing file that they tell
+pen|0|lines of text (strip, move, line and close, in millimetres)|the drawing file that they tell
 picture|0|a drawing file|its picture as an SVG'
 
 # kit: where the toolchain is; one line where it is missing.
@@ -14,7 +14,7 @@ kit() {
     elif rt=$(command -v rt); then
         dirname -- "$(dirname -- "$(readlink -f -- "$rt")")"
     else
-        echo "The Rattle toolchain is missing: there is no rt on the path. README.md says what is needed (What you need)." >&2
+        echo "The Rattle toolchain is missing: there is no rt on the path. See "What you need" in the README.md of Gerlyantu." >&2
         return 1
     fi
 }
@@ -38,21 +38,24 @@ row() {
 
 # about COMMAND: what there is.
 about() {
-    local name words reads writes
-    echo "usage: $1 NAME < FILE"
-    echo "Runs a program on standard input:"
+    local name words reads writes text
+    text="usage: $1 NAME < FILE"$'\n'"Runs a program on standard input:"$'\n'
     while IFS='|' read -r name words reads writes; do
-        printf '  %-8s reads %s and writes %s\n' "$name" "$reads" "$writes"
+        text+=$(printf '  %-8s reads %s and writes %s' "$name" "$reads" "$writes")$'\n'
     done <<<"$programs"
-    echo "What is refused, a line that is not taken, and a read or write that fails are told in words on standard error, and the status is then 1."
+    said "${text}What is refused, a line that is not taken, and a read or write that fails are told in words on standard error; the status is then 1."
 }
 
 # about_program COMMAND NAME: what one program reads and writes.
 about_program() {
     local name words reads writes
     IFS='|' read -r name words reads writes <<<"$(row "$2")"
-    echo "usage: $1 $name < FILE"
-    echo "$name reads $reads from standard input, and writes $writes to standard output."
+    said "usage: $1 $name < FILE"$'\n'"$name reads $reads from standard input, and writes $writes to standard output."
+}
+
+# said TEXT: puts a text on standard output, or tells that it could not.
+said() {
+    printf '%s\n' "$1" 2>/dev/null || { echo "could not write" >&2; return 1; }
 }
 
 # chosen COMMAND NAME WORD..: ends here with usage, unless NAME is a program and takes that many words.
@@ -62,7 +65,7 @@ chosen() {
     case ${1-} in
     --help | -h)
         about "$command"
-        exit 0
+        exit
         ;;
     '')
         about "$command" >&2
@@ -77,7 +80,7 @@ chosen() {
     shift
     case ${1-} in --help | -h)
         about_program "$command" "$name"
-        exit 0
+        exit
         ;;
     esac
     IFS='|' read -r _ words _ <<<"$line"
@@ -102,8 +105,11 @@ start() {
     { : 3<&0; } 2>/dev/null || exec 0>/dev/null
     { : 3>&1; } 2>/dev/null || exec 1</dev/null
     { : 3>&2; } 2>/dev/null || exec 2>/dev/null
+    [ ! -t 0 ] || echo "$name reads standard input, which is the terminal here; Ctrl-D ends it" >&2
     # A pipe that nobody reads any more is a failed write, which the program tells, and no signal.
     trap '' PIPE
+    # Where this script is stopped, its program is stopped too.
+    ! setpriv --pdeathsig TERM true 2>/dev/null || set -- setpriv --pdeathsig TERM -- "$@"
     {
         "$@" 2>&1 >&3 3>&- | {
             IFS= read -r first && first+=$'\n'

@@ -1,15 +1,13 @@
 # Proves and builds what is not proved yet, with a line for each crate as it is done. It is sourced by bash, after programs.sh.
 
-# sum_of ROOT FILE..: a sum over the sources' bytes and those of what was made from them. Dates say nothing: a checkout may bring a change that is
-# older than the program.
-sum_of() {
-    local root=$1
-    shift
-    {
-        find "$root/crates.txt" "$root/crates" -type f \( -name '*.rt' -o -name '*.antt' -o -name crates.txt \) -print0 | LC_ALL=C sort -z |
-            xargs -0 cat --
-        cat -- "$@"
-    } 2>/dev/null | sha256sum
+# sums ROOT FILE: two sums on a line, over the sources' bytes and over those of what was made from them. Dates say nothing: a checkout may bring a
+# change that is older than the program.
+sums() {
+    local sources made
+    sources=$(find "$1/crates.txt" "$1/crates" -type f \( -name '*.rt' -o -name '*.antt' -o -name crates.txt \) -print0 | LC_ALL=C sort -z |
+        xargs -0 cat -- | sha256sum)
+    made=$(sha256sum <"$2")
+    echo "${sources%% *} ${made%% *}"
 }
 
 # crates_below ROOT NAME..: the crates to be proved for these, each once.
@@ -47,21 +45,37 @@ proved() {
     built "$root" "$name" "$root/target/bin/$name" rt check "$name"
 }
 
+# is_made ROOT FILE STAMP: the file is what was made from just these sources.
+is_made() {
+    [ -f "$2" ] && [ -f "$3" ] && [ "$(sums "$1" "$2")" = "$(cat "$3")" ]
+}
+
+# changed FILE STAMP: the file is not there, or is another than was made.
+changed() {
+    local sources made
+    [ -f "$1" ] || return 0
+    [ -f "$2" ] && read -r sources made <"$2" && [ "$(sha256sum <"$1")" != "$made  -" ]
+}
+
 # built ROOT NAME FILE COMMAND..: makes FILE of the crate NAME by the command, unless it was made from just these sources.
 built() {
     local root=$1 name=$2 file=$3 stamp=$1/target/made/$2 began status total known
     shift 3
-    [ ! -f "$file" ] || [ "$(sum_of "$root" "$file")" != "$(cat "$stamp" 2>/dev/null)" ] || return 0
+    ! is_made "$root" "$file" "$stamp" || return 0
     kit >/dev/null || return 1
-    mkdir -p "$root/target/made" || return 1
+    if ! { mkdir -p "$root/target/made" && : >>"$root/target/made/lock"; } 2>/dev/null; then
+        echo "$name is not proved yet, and target/ cannot be written" >&2
+        return 1
+    fi
     # Two that prove in one folder at once hinder each other: the second waits here, and finds it done.
-    exec 9>"$root/target/made/lock" && flock 9
-    if [ -f "$file" ] && [ "$(sum_of "$root" "$file")" = "$(cat "$stamp" 2>/dev/null)" ]; then
+    exec 9>"$root/target/made/lock"
+    flock -n 9 || { echo "another command is proving here; waiting for it" >&2; flock 9; }
+    if is_made "$root" "$file" "$stamp"; then
         exec 9>&-
         return 0
     fi
-    # rt goes by its own stamp, and would not make again what somebody removed.
-    [ -f "$file" ] || rm -f "$root/target/stamp/$name"
+    # rt goes by its own stamp, and would not make again what somebody removed or changed.
+    changed "$file" "$stamp" && rm -f "$file" "$root/target/stamp/$name"
     total=$(crates_below "$root" "$name" | wc -l)
     known=$(expected "$root" "$name")
     known="$name is proved and built first, with all that it stands on: $total crates${known:+, $known}"
@@ -71,13 +85,13 @@ built() {
     (cd "$root" && "$@") </dev/null 9>&- 2>&1 | tee "$stamp.log" | awk -v crates="$total" -v first="$known" -f "$root/scripts/progress.awk" >&2
     status=${PIPESTATUS[0]}
     if [ "$status" -ne 0 ]; then
-        tail -n 20 "$stamp.log" >&2
+        grep 'error\|NOT PROVED\|FAILED' "$stamp.log" | cut -c 1-300 | head -n 20 >&2
         echo "$name is not proved; all that was said is in target/made/$name.log" >&2
         exec 9>&-
         return 1
     fi
     # Only a proof from nothing says how long the next takes.
     grep -q '^rt: .* proved (unchanged' "$stamp.log" || echo "$(($(date +%s) - began))" >"$stamp.seconds"
-    sum_of "$root" "$file" >"$stamp"
+    sums "$root" "$file" >"$stamp"
     exec 9>&-
 }

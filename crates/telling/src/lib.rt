@@ -37,7 +37,7 @@ fn tell_kind(kind: Kind) {
         Kind::Whole => streams::tell(b"a whole number of 32 bits\n"),
         Kind::UpTo(most) => tell_number(b"a number from 0 to ", most as u64, b'\n'),
         Kind::Float => streams::tell(b"eight hexadecimal digits\n"),
-        Kind::Bytes => streams::tell(b"pairs of hexadecimal digits, at most 70,000, or a minus\n"),
+        Kind::Bytes => streams::tell(b"at most 70,000 pairs of hexadecimal digits, or a minus\n"),
     }
 }
 
