@@ -66,7 +66,7 @@ enum {
     /* stroke list not a multiple of four or too long; outline of odd length or wrong count; 0 */ \
     R(GERLYANTU_WRONG_LENGTH, 5, "the list has a wrong length") \
     /* a stroke or outline number is off the grid range; index of the first */ \
-    R(GERLYANTU_NUMBER_OFF, 6, "a number of the stroke or outline is off the table") \
+    R(GERLYANTU_NUMBER_OFF, 6, "a grid number is off the table") \
     /* outline not strictly convex counterclockwise; 0 */ \
     R(GERLYANTU_NOT_CONVEX, 7, "the outline is not strictly convex counterclockwise") \
     /* output shorter than needed; numbers needed */ \

@@ -12,7 +12,7 @@ use Rattle.pen_line.specs.declared.Fault.{Fault}
 use Rattle.pen_line.specs.declared.Fault.the-variants.{NoStrip, SecondStrip, UnknownWord, NotNumbers, LongDrawing, LongText}
 use Rattle.slips.specs.Texts.{lineAfter, slipFor}
 use Rattle.slips.specs.declared.Slip.{Slip}
-use Rattle.slips.specs.declared.Slip.the-variants.{Mark, Tab, Capital, Comma, PointLast, PointFirst, Plus, Exponent, Other}
+use Rattle.slips.specs.declared.Slip.the-variants.{Mark, Unseen, Capital, Comma, PointLast, PointFirst, Plus, Exponent, Other}
 
 unfoldable pub expected : ℕ → List ℕ
 expected n =
@@ -30,7 +30,7 @@ reason LongText = ascii "the text is longer than 524,288 bytes"
 
 unfoldable pub said : Slip → Fault → List ℕ
 said Mark f = ascii "a byte-order mark before the first word; save the file without it"
-said Tab f = ascii "a tab; words are parted by spaces"
+said Unseen f = ascii "a tab or a carriage return; words are parted by spaces"
 said Capital f = ascii "a capital letter; the words are strip, move, line and close"
 said Comma f = ascii "a comma in a number; write a point, or a space between two numbers"
 said PointLast f = ascii "a point with no digit after it; leave it out"

@@ -47,7 +47,11 @@ fn put_said(page: &mut [u8], at: usize, slip: Slip, fault: Fault) -> usize
             at,
             b"a byte-order mark before the first word; save the file without it",
         ),
-        Slip::Tab => text::put(page, at, b"a tab; words are parted by spaces"),
+        Slip::Unseen => text::put(
+            page,
+            at,
+            b"a tab or a carriage return; words are parted by spaces",
+        ),
         Slip::Capital => text::put(
             page,
             at,

@@ -24,6 +24,8 @@ pub enum Kind {
 // An argument is named by its place, the first after the word by 1.
 pub enum Reason {
     Long,
+    // A tab or a carriage return stands in it.
+    Unseen,
     Word,
     Blank(usize),
     Few,
@@ -185,10 +187,17 @@ fn by_arguments(rest: &[u8], word: u64, wants: Wants) -> Reason {
     }
 }
 
+fn has(line: &[u8], b: u8) -> bool {
+    text::find(line, 0, b) < line.len()
+}
+
 // Why a line is no call.
 pub fn why(line: &[u8]) -> Reason {
     if LONGEST < line.len() {
         return Reason::Long;
+    }
+    if has(line, b'\t') || has(line, b'\r') {
+        return Reason::Unseen;
     }
     let end = text::find(line, 0, b' ');
     let word = arguments::word_number(&line[0..end]);

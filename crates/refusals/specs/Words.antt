@@ -14,7 +14,7 @@ meaning n =
     else if eqb n 3 then ascii "the window has no area, or its corners are not a strictly convex ring"
     else if eqb n 4 then ascii "there is no such side order: they are 0 to 23"
     else if eqb n 5 then ascii "the list has a wrong length"
-    else if eqb n 6 then ascii "a number of the stroke or outline is off the table"
+    else if eqb n 6 then ascii "a grid number is off the table"
     else if eqb n 7 then ascii "the outline is not strictly convex counterclockwise"
     else if eqb n 8 then ascii "the output is too short: the place says how many numbers it needs"
     else if eqb n 9 then ascii "a number of millimetres is not a number"

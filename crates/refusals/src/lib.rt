@@ -20,11 +20,7 @@ pub fn put_meaning(page: &mut [u8], at: usize, number: u8) -> usize
         ),
         4 => text::put(page, at, b"there is no such side order: they are 0 to 23"),
         5 => text::put(page, at, b"the list has a wrong length"),
-        6 => text::put(
-            page,
-            at,
-            b"a number of the stroke or outline is off the table",
-        ),
+        6 => text::put(page, at, b"a grid number is off the table"),
         7 => text::put(
             page,
             at,

@@ -12,9 +12,9 @@ use Rattle.text.specs.Runs.{run, is, isNot}
 use Rattle.decimal.specs.Decimals.{isDigit}
 use Rattle.pen_line.specs.Lines.{startOf, endOf, word, wordsEnd, spoken}
 use Rattle.pen_line.proofs.Words.{end-is, word-is}
-use Rattle.slips.specs.Slips.{isIn, marked, isCapital, ofDigits, ofPlain, ofNumber, _or-else_, ofNumbers, ofLine}
+use Rattle.slips.specs.Slips.{isIn, marked, unseen, isCapital, ofDigits, ofPlain, ofNumber, _or-else_, ofNumbers, ofLine}
 use Rattle.slips.specs.declared.Slip.{Slip}
-use Rattle.slips.specs.declared.Slip.the-variants.{Mark, Tab, Capital, Comma, PointLast, PointFirst, Plus, Exponent, Other}
+use Rattle.slips.specs.declared.Slip.the-variants.{Mark, Unseen, Capital, Comma, PointLast, PointFirst, Plus, Exponent, Other}
 
 -- ---- a byte-order mark
 
@@ -99,7 +99,7 @@ or-else-other t e = rw e refl
 or-else-known : (s t : Slip) → (s ≡ Other → ⊥) → s or-else t ≡ s
 unfolding _or-else_
 or-else-known Mark t f = refl
-or-else-known Tab t f = refl
+or-else-known Unseen t f = refl
 or-else-known Capital t f = refl
 or-else-known Comma t f = refl
 or-else-known PointLast t f = refl
@@ -139,11 +139,11 @@ module _ (l : List ℕ) (n : ℕ) where
   mark e = simp e
 
   module _ (a : marked l ≡ false) where
-    pub tab : isIn 9 l ≡ true → Tab ≡ ofLine l n
+    pub blank : unseen l ≡ true → Unseen ≡ ofLine l n
     unfolding ofLine
-    tab e = simp (a, e)
+    blank e = simp (a, e)
 
-    module _ (b : isIn 9 l ≡ false) where
+    module _ (b : unseen l ≡ false) where
       pub capital : isCapital (getD l (startOf l 0) 0) ≡ true → Capital ≡ ofLine l n
       unfolding ofLine
       capital e = simp (a, b, e)

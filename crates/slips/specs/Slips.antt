@@ -1,6 +1,7 @@
 -- What a line that is not taken may have meant: the slips that are known, in the order in which they are looked for.
 --   isIn b bs          the byte b stands in bs
 --   marked l           the line l starts with a byte-order mark, the three bytes that some editors put before a text
+--   unseen l           a tab stands in the line l, or a carriage return
 --   isCapital b        b is the code of a capital letter
 --   ofDigits w         the slip in a number that starts with a digit: an e
 --   ofPlain w          the slip in a number without its minus, the first of these that applies
@@ -18,13 +19,16 @@ use Rattle.text.specs.Runs.{run, is, isNot}
 use Rattle.decimal.specs.Decimals.{isDigit}
 use Rattle.pen_line.specs.Lines.{startOf, endOf, word}
 use Rattle.slips.specs.declared.Slip.{Slip}
-use Rattle.slips.specs.declared.Slip.the-variants.{Mark, Tab, Capital, Comma, PointLast, PointFirst, Plus, Exponent, Other}
+use Rattle.slips.specs.declared.Slip.the-variants.{Mark, Unseen, Capital, Comma, PointLast, PointFirst, Plus, Exponent, Other}
 
 unfoldable pub isIn : ℕ → List ℕ → Bool
 isIn b bs = ltb (run (isNot b) bs) (length bs)
 
 unfoldable pub marked : List ℕ → Bool
 marked l = eqb (getD l 0 0) 239 && (eqb (getD l 1 0) 187 && eqb (getD l 2 0) 191)
+
+unfoldable pub unseen : List ℕ → Bool
+unseen l = isIn 9 l || isIn 13 l
 
 unfoldable pub isCapital : ℕ → Bool
 isCapital b = leb 65 b && leb b 90
@@ -48,7 +52,7 @@ ofNumber w = ofPlain (drop (run (is 45) w) w)
 infixr 30 _or-else_
 unfoldable pub _or-else_ : Slip → Slip → Slip
 Mark or-else s = Mark
-Tab or-else s = Tab
+Unseen or-else s = Unseen
 Capital or-else s = Capital
 Comma or-else s = Comma
 PointLast or-else s = PointLast
@@ -62,10 +66,10 @@ unfoldable pub ofNumbers : List ℕ → ℕ → ℕ → Slip
 ofNumbers l i zero = Other
 ofNumbers l i (suc n) = ofNumber (word l i) or-else ofNumbers l (endOf l i) n
 
--- A mark and a tab are not seen on a screen, so they come first.
+-- What is not seen on a screen comes first.
 unfoldable pub ofLine : List ℕ → ℕ → Slip
 ofLine l n =
     if marked l then Mark
-    else if isIn 9 l then Tab
+    else if unseen l then Unseen
     else if isCapital (getD l (startOf l 0) 0) then Capital
     else ofNumbers l (endOf l 0) n

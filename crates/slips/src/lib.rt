@@ -3,7 +3,7 @@ ghost use mathlib.Core.Path.{_≡_};
 ghost use Prim.Native.Nat.{_≤_};
 ghost use lib.ListN.{length, getD};
 ghost use Rattle.pen_line.specs.Lines.{spoken};
-ghost use Rattle.slips.specs.Slips.{isIn, marked, isCapital, ofDigits, ofPlain, ofNumber, ofNumbers, ofLine};
+ghost use Rattle.slips.specs.Slips.{isIn, marked, unseen, isCapital, ofDigits, ofPlain, ofNumber, ofNumbers, ofLine};
 ghost use Rattle.slips.specs.Texts.{lineAfter, slipFor};
 use pen_line::Fault;
 
@@ -11,7 +11,8 @@ use pen_line::Fault;
 pub enum Slip {
     // A byte-order mark before the first word.
     Mark,
-    Tab,
+    // A tab, or a carriage return that does not end the line.
+    Unseen,
     // A first word that starts with a capital letter.
     Capital,
     // The others are in a number: a comma, a point with no digit after it or before it, a plus sign, an e.
@@ -50,6 +51,16 @@ fn marked(line: &[u8]) -> bool
         return false;
     }
     byte_at(line, 2) == 0xBF
+}
+
+// Whether something stands in a line that looks like a space, or like nothing.
+fn unseen(line: &[u8]) -> bool
+    ensures { λ r. ⌜ r ≡ unseen (now (line .entry)) ⌝ }
+{
+    if is_in(line, b'\t') {
+        return true;
+    }
+    is_in(line, b'\r')
 }
 
 fn is_capital(b: u8) -> bool
@@ -135,8 +146,8 @@ fn of_words(line: &[u8], count: usize) -> Slip
     if marked(line) {
         return Slip::Mark;
     }
-    if is_in(line, b'\t') {
-        return Slip::Tab;
+    if unseen(line) {
+        return Slip::Unseen;
     }
     let start = text::skip(line, 0, b' ');
     if is_capital(byte_at(line, start)) {

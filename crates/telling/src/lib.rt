@@ -45,6 +45,9 @@ fn tell_kind(kind: Kind) {
 fn tell_reason(reason: Reason) {
     match reason {
         Reason::Long => streams::tell(b"longer than 400,000 bytes\n"),
+        Reason::Unseen => streams::tell(
+            b"a tab or a carriage return; words are parted by one space\n",
+        ),
         Reason::Word => streams::tell(b"unknown word; help lists the lines there are\n"),
         Reason::Few => streams::tell(b"too few numbers\n"),
         Reason::Many => streams::tell(b"too many numbers\n"),

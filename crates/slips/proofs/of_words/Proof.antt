@@ -6,8 +6,8 @@ use denote.Ref.{now}
 use lib.ListN.{getD}
 use Rattle.pen_line.specs.Lines.{startOf}
 use Rattle.pen_line.proofs.Words.{end-is}
-use Rattle.slips.specs.Slips.{isIn, marked, isCapital, ofNumbers}
-use Rattle.slips.proofs.Tests.{mark, tab, capital, small}
+use Rattle.slips.specs.Slips.{marked, unseen, isCapital, ofNumbers}
+use Rattle.slips.proofs.Tests.{mark, blank, capital, small}
 use borrow.Author.Needs.{needs}
 use Rattle.slips.proofs.of_words.Statement.{statement}
 use Rattle.slips.proofs.of_words.Tie as tie
@@ -23,8 +23,8 @@ returns c = mark _ _ (sym (c .before .marked .ensures) ∙ c .if1 .taken)
 no-mark : (c : tie.Else1) → marked (now (c .before .before .before .args .line)) ≡ false
 no-mark c = sym (c .before .marked .ensures) ∙ c .if1 .left
 
-no-tab : (c : tie.Else2) → isIn 9 (now (c .before .before .before .before .before .args .line)) ≡ false
-no-tab c = sym (c .before .is-in .ensures) ∙ c .if2 .left
+seen-all : (c : tie.Else2) → unseen (now (c .before .before .before .before .before .args .line)) ≡ false
+seen-all c = sym (c .before .unseen .ensures) ∙ c .if2 .left
 
 first : (c : tie.After-is-capital)
     → let l = now (c .before .before .before .before .before .before .before .before .args .line) in
@@ -33,11 +33,11 @@ first c =
     let l = now (c .before .before .before .before .before .before .before .before .args .line) in
     c .is-capital .ensures ∙ ap isCapital (c .before .byte-at .ensures ∙ ap (λ (k : ℕ). getD l k 0) (c .before .before .skip .ensures .0))
 
-is-in-requires : tie.Need-is-in-requires
-is-in-requires c κs = search needs
+unseen-requires : tie.Need-unseen-requires
+unseen-requires c κs = search needs
 
 returns-2 : tie.Need-returns-2
-returns-2 c = tab _ _ (no-mark (c .before .before)) (sym (c .before .is-in .ensures) ∙ c .if2 .taken)
+returns-2 c = blank _ _ (no-mark (c .before .before)) (sym (c .before .unseen .ensures) ∙ c .if2 .taken)
 
 skip-requires : tie.Need-skip-requires
 skip-requires c κs = search needs
@@ -51,7 +51,7 @@ is-capital-requires c κs = search needs
 returns-3 : tie.Need-returns-3
 returns-3 c =
     let d = c .before in
-    capital _ _ (no-mark (d .before .before .before .before .before)) (no-tab (d .before .before .before)) (sym (first d) ∙ c .if3 .taken)
+    capital _ _ (no-mark (d .before .before .before .before .before)) (seen-all (d .before .before .before)) (sym (first d) ∙ c .if3 .taken)
 
 find-requires : tie.Need-find-requires
 find-requires c κs = search needs
@@ -66,7 +66,7 @@ returns-4 c =
     c .of-numbers .ensures
     ∙ ap (λ (k : ℕ). ofNumbers (now (a .line)) k (a .count))
     (end-is (now (a .line)) 0 (d .before .before .skip .ensures .0) (c .before .find .ensures .0))
-    ∙ small _ _ (no-mark (d .before .before .before .before .before)) (no-tab (d .before .before .before))
+    ∙ small _ _ (no-mark (d .before .before .before .before .before)) (seen-all (d .before .before .before))
     (sym (first d) ∙ c .before .before .if3 .left)
 
 pub of-words-spec : {M : Type 1} → statement M
@@ -75,7 +75,7 @@ of-words-spec =
     (tie.spec
     marked-requires
     returns
-    is-in-requires
+    unseen-requires
     returns-2
     skip-requires
     byte-at-requires
