@@ -39,6 +39,27 @@ expected() {
     fi
 }
 
+# progress CRATES EDITS FIRST: from what rt says, a line for each crate as it is proved and for each wrong program as it is tried, which of how many
+# and its seconds; before them the line FIRST, if there is one. The rest is passed over. (awk would wait for a block of input.)
+progress() {
+    local crates=$1 edits=$2 first=$3 line found=0 kept=0 tried=0
+    while IFS= read -r line; do
+        if [[ $line =~ ^rt:\ [a-z_]+\ proved\ \(unchanged ]]; then
+            found=$((found + 1)) kept=1
+        elif [[ $line =~ ^rt:\ ([a-z_]+)\ (proved|NOT\ PROVED)\ \((.*[^0-9])?([0-9]+)\ s\) ]]; then
+            [ -z "$first" ] || echo "$first"
+            [ "$kept" -eq 0 ] || echo "  $found of $crates: proved already"
+            found=$((found + 1)) kept=0 first=
+            line="${BASH_REMATCH[1]} ${BASH_REMATCH[2]}, ${BASH_REMATCH[4]} s"
+            echo "  $found of $crates: ${line/ proved,/,}"
+        elif [[ $line =~ ^rt:\ must-fail\ ([A-Za-z_0-9/]+):\ (.*) ]]; then
+            tried=$((tried + 1))
+            line=${BASH_REMATCH[2]}
+            echo "  wrong program $tried of $edits: ${BASH_REMATCH[1]}: ${line%%[,:(]*}"
+        fi
+    done
+}
+
 # proved ROOT NAME: a program is proved, and is what its sources make.
 proved() {
     local root=$1 name=$2
@@ -82,7 +103,7 @@ built() {
     # Where the file is there, it may well be that all is proved, and then there is nothing to say.
     [ -f "$file" ] || { echo "$known" >&2; known=; }
     began=$(date +%s)
-    (cd "$root" && "$@") </dev/null 9>&- 2>&1 | tee "$stamp.log" | awk -v crates="$total" -v first="$known" -f "$root/scripts/progress.awk" >&2
+    (cd "$root" && "$@") </dev/null 9>&- 2>&1 | tee "$stamp.log" | progress "$total" 0 "$known" >&2
     status=${PIPESTATUS[0]}
     if [ "$status" -ne 0 ]; then
         grep 'error\|NOT PROVED\|FAILED' "$stamp.log" | cut -c 1-300 | head -n 20 >&2
