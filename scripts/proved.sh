@@ -54,8 +54,9 @@ progress() {
             echo "  $found of $crates: ${line/ proved,/,}"
         elif [[ $line =~ ^rt:\ must-fail\ ([A-Za-z_0-9/]+):\ (.*) ]]; then
             tried=$((tried + 1))
-            line=${BASH_REMATCH[2]}
-            echo "  wrong program $tried of $edits: ${BASH_REMATCH[1]}: ${line%%[,:(]*}"
+            line="${BASH_REMATCH[1]} ${BASH_REMATCH[2]%%[,:(]*}"
+            [[ ! ${BASH_REMATCH[2]} =~ ([0-9]+)\ s\)$ ]] || line+=", ${BASH_REMATCH[1]} s"
+            echo "  wrong program $tried of $edits: $line"
         fi
     done
 }

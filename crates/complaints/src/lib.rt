@@ -2,14 +2,14 @@
 ghost use Prim.Native.Nat.{_+_, _≤_};
 ghost use lib.ListN.{length};
 ghost use Rattle.text.specs.Pages.{Put};
-ghost use Rattle.complaints.specs.Complaints.{expected, reason, said, complaint};
+ghost use Rattle.complaints.specs.Complaints.{expectation, reason, remark, complaint};
 use pen_line::Fault;
 use slips::Slip;
 
 // Puts what is expected in place of the numbers of a line.
 fn put_expected(page: &mut [u8], at: usize, count: usize) -> usize
     requires { ⌜ at + 80 ≤ length (now page) ⌝ }
-    ensures { λ r. ⌜ Put (now (page .entry)) (now (page .exit)) at r (expected count) ⌝ }
+    ensures { λ r. ⌜ Put (now (page .entry)) (now (page .exit)) at r (expectation count) ⌝ }
     ensures { λ r. ⌜ r ≤ at + 80 ⌝ }
 {
     match count {
@@ -38,7 +38,7 @@ fn put_reason(page: &mut [u8], at: usize, fault: Fault) -> usize
 // Puts what slip was seen and what to write, or else why the line is not taken.
 fn put_said(page: &mut [u8], at: usize, slip: Slip, fault: Fault) -> usize
     requires { ⌜ at + 80 ≤ length (now page) ⌝ }
-    ensures { λ r. ⌜ Put (now (page .entry)) (now (page .exit)) at r (said slip fault) ⌝ }
+    ensures { λ r. ⌜ Put (now (page .entry)) (now (page .exit)) at r (remark slip fault) ⌝ }
     ensures { λ r. ⌜ r ≤ at + 80 ⌝ }
 {
     match slip {

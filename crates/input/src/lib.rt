@@ -1,7 +1,7 @@
 // The input's lines, one after another; the last may lack its newline.
 ghost use Prim.Native.Nat.{_≤_};
 ghost use lib.ListN.{length};
-ghost use Rattle.input.specs.Sources.{Within};
+ghost use Rattle.input.specs.Sources.{InReach};
 
 // What is read at a time.
 pub type Chunk = [u8; 65536];
@@ -20,7 +20,7 @@ pub struct Source {
 }
 
 pub fn start() -> Source
-    ensures { λ r. ⌜ Within r ⌝ }
+    ensures { λ r. ⌜ InReach r ⌝ }
 {
     Source {
         from: 0,
@@ -33,7 +33,7 @@ pub fn start() -> Source
 
 // Nothing is read any more, and a part of a line is dropped.
 pub fn closed() -> Source
-    ensures { λ r. ⌜ Within r ⌝ }
+    ensures { λ r. ⌜ InReach r ⌝ }
 {
     Source {
         from: 0,
@@ -70,8 +70,8 @@ fn take(line: &mut [u8], have: usize, chunk: &[u8], from: usize, to: usize) -> u
 
 // Takes what the chunk has of the next line, or of the line that is not whole yet.
 pub fn take_line(chunk: &Chunk, line: &mut Line, source: Source) -> Source
-    requires { ⌜ Within source ⌝ }
-    ensures { λ r. ⌜ Within r ⌝ }
+    requires { ⌜ InReach source ⌝ }
+    ensures { λ r. ⌜ InReach r ⌝ }
 {
     let to = source.to;
     let open = source.open;
@@ -102,8 +102,8 @@ pub fn take_line(chunk: &Chunk, line: &mut Line, source: Source) -> Source
 // Reads the next chunk when all of the last is taken. Where the input ends, a line without a newline is whole, unless it is nothing; where a read
 // fails, there is no line.
 pub fn read_on(chunk: &mut Chunk, source: Source) -> Source
-    requires { ⌜ Within source ⌝ }
-    ensures { λ r. ⌜ Within r ⌝ }
+    requires { ⌜ InReach source ⌝ }
+    ensures { λ r. ⌜ InReach r ⌝ }
 {
     if !source.open {
         return closed();

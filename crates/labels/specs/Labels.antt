@@ -2,7 +2,7 @@
 --   middle s a b        how far the middle of a and b is from the side s of the view, which neither is beyond
 --   beside k            the number k and its side: above its place to the right if it is even, below it to the left if it is odd, so that two
 --                       strokes that cross in their middles can both be read
---   numberAt x y k      the number k at a place, x to the right and y down
+--   numberText x y k    the number k at a place, x to the right and y down
 --   label v zs k        the number of stroke k of the list zs, counted from 0 as in a listing, at the stroke's middle
 --   labelTexts v zs n   the numbers of the first n strokes
 --   labelPlace v        where they stand: as the drawing, but not turned over, and e / 2 hundredths of a step to the right and upward, beside their
@@ -27,13 +27,13 @@ unfoldable pub beside : ℕ → List ℕ
 beside k =
     if eqb (k % 2) 0 then labelled (ascii ">") k (ascii "<") else labelled (ascii " dx=\"-.5em\" dy=\"1.25em\" text-anchor=\"end\">") k (ascii "<")
 
-unfoldable pub numberAt : ℕ → ℕ → ℕ → List ℕ
-numberAt x y k =
+unfoldable pub numberText : ℕ → ℕ → ℕ → List ℕ
+numberText x y k =
     labelled (ascii "<text x=\"") x (ascii "\"") ++ labelled (ascii " y=\"") y (ascii "\"") ++ beside k ++ ascii "/text>\n"
 
 unfoldable pub label : Window → List ℤ → ℕ → List ℕ
 label v zs k =
-    numberAt (middle (v .left) (getD zs (k * 4) (pos 0)) (getD zs (k * 4 + 2) (pos 0)))
+    numberText (middle (v .left) (getD zs (k * 4) (pos 0)) (getD zs (k * 4 + 2) (pos 0)))
     (middle (v .top) (getD zs (k * 4 + 1) (pos 0)) (getD zs (k * 4 + 3) (pos 0))) k
 
 unfoldable pub labelTexts : Window → List ℤ → ℕ → List ℕ

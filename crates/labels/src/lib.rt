@@ -3,7 +3,7 @@ ghost use mathlib.Core.Path.{_≡_};
 ghost use Prim.Native.Nat.{_+_, _*_, _≤_};
 ghost use lib.ListN.{length};
 ghost use Rattle.text.specs.Pages.{Put};
-ghost use Rattle.labels.specs.Labels.{middle, beside, numberAt, label, labelTexts, labelPlace, labels};
+ghost use Rattle.labels.specs.Labels.{middle, beside, numberText, label, labelTexts, labelPlace, labels};
 use grid::Window;
 
 // How far the middle of a and b is from a side of the view, in half grid steps.
@@ -34,7 +34,7 @@ fn put_beside(page: &mut [u8], at: usize, number: u64) -> usize
 // Puts a number at a place.
 fn put_number(page: &mut [u8], at: usize, right: u64, down: u64, number: u64) -> usize
     requires { ⌜ at + 132 ≤ length (now page) ⌝ }
-    ensures { λ r. ⌜ Put (now (page .entry)) (now (page .exit)) at r (numberAt right down number) ⌝ }
+    ensures { λ r. ⌜ Put (now (page .entry)) (now (page .exit)) at r (numberText right down number) ⌝ }
     ensures { λ r. ⌜ r ≤ at + 132 ⌝ }
 {
     let a = marks::put_labelled(page, at, b"<text x=\"", right, b'"');

@@ -4,7 +4,7 @@
 --   fieldsText n forms sizes     the first n fields of these forms and sizes, parted by spaces
 --   lentText xs                  numbers of the lent output, a space before each
 --   lentLine xs                  the same, and the newline
---   written r lent               the line of the reply r, with as many numbers of the lent output behind its fields as r says;
+--   replyLine r lent             the line of the reply r, with as many numbers of the lent output behind its fields as r says;
 --                                a question mark where it says nothing
 use mathlib.Core.List.{List, [], _∷_, _++_}
 use Prim.Native.Nat.{ℕ, zero, suc, _%_, _^_}
@@ -34,6 +34,6 @@ lentText (z ∷ zs) = (32 ∷ integer z) ++ lentText zs
 unfoldable pub lentLine : List ℤ → List ℕ
 lentLine zs = lentText zs ++ ascii "\n"
 
-unfoldable pub written : Reply → List ℤ → List ℕ
-written r lent =
+unfoldable pub replyLine : Reply → List ℤ → List ℕ
+replyLine r lent =
     if eqb (r .count) 0 then ascii "?\n" else fieldsText (r .count) (r .forms) (r .sizes) ++ lentLine (take (r .room) lent)

@@ -3,7 +3,7 @@ ghost use mathlib.Core.List.{[], _∷_};
 ghost use Prim.Native.Nat.{_+_, _*_, _≤_};
 ghost use lib.ListN.{length};
 ghost use Rattle.text.specs.Pages.{Put, integer};
-ghost use Rattle.output.specs.Written.{bitsText, fieldText, fieldsText, lentText, lentLine, written};
+ghost use Rattle.output.specs.Written.{bitsText, fieldText, fieldsText, lentText, lentLine, replyLine};
 use replies::BITS;
 use replies::MINUS;
 use replies::Reply;
@@ -94,7 +94,7 @@ fn put_integers(page: &mut [u8], at: usize, numbers: &[i32]) -> usize
 pub fn put_reply(page: &mut [u8], at: usize, reply: Reply, lent: &[i32]) -> usize
     requires { ⌜ reply .count ≤ 16 ⌝ }
     requires { ⌜ at + 12 * length (now lent) + 375 ≤ length (now page) ⌝ }
-    ensures { λ r. ⌜ Put (now (page .entry)) (now (page .exit)) at r (written reply (now (lent .entry))) ⌝ }
+    ensures { λ r. ⌜ Put (now (page .entry)) (now (page .exit)) at r (replyLine reply (now (lent .entry))) ⌝ }
 {
     if reply.count == 0 {
         return text::put(page, at, b"?\n");

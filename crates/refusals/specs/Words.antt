@@ -1,14 +1,14 @@
 -- What each refusal means, in a sentence.
---   meaning n         the sentence for the number n
---   refusalLine n p   the line that tells of a refusal: its number, its place and its meaning
+--   sentence n         the sentence for the number n
+--   refusalWords n p   the line that tells of a refusal: its number, its place and its meaning
 use mathlib.Core.List.{List, _++_}
 use Prim.Native.Nat.{ℕ}
 use lib.Dec.{eqb}
 use Rattle.whole.specs.Choice.{if_then_else_}
 use Rattle.text.specs.Pages.{ascii, refusal}
 
-unfoldable pub meaning : ℕ → List ℕ
-meaning n =
+unfoldable pub sentence : ℕ → List ℕ
+sentence n =
     if eqb n 0 then ascii "done"
     else if eqb n 2 then ascii "a number of the window is off the table"
     else if eqb n 3 then ascii "the window has no area, or its corners are not a strictly convex ring"
@@ -22,5 +22,5 @@ meaning n =
     else if eqb n 11 then ascii "not a drawing file, or damaged"
     else ascii "unknown refusal"
 
-unfoldable pub refusalLine : ℕ → ℕ → List ℕ
-refusalLine n p = (refusal n p ++ ascii ":") ++ ascii " " ++ meaning n ++ ascii "\n"
+unfoldable pub refusalWords : ℕ → ℕ → List ℕ
+refusalWords n p = (refusal n p ++ ascii ":") ++ ascii " " ++ sentence n ++ ascii "\n"

@@ -2,12 +2,12 @@
 ghost use Prim.Native.Nat.{_+_, _≤_};
 ghost use lib.ListN.{length};
 ghost use Rattle.text.specs.Pages.{Put};
-ghost use Rattle.refusals.specs.Words.{meaning, refusalLine};
+ghost use Rattle.refusals.specs.Words.{sentence, refusalWords};
 
 // Puts what a refusal's number means.
 pub fn put_meaning(page: &mut [u8], at: usize, number: u8) -> usize
     requires { ⌜ at + 100 ≤ length (now page) ⌝ }
-    ensures { λ r. ⌜ Put (now (page .entry)) (now (page .exit)) at r (meaning number) ⌝ }
+    ensures { λ r. ⌜ Put (now (page .entry)) (now (page .exit)) at r (sentence number) ⌝ }
     ensures { λ r. ⌜ r ≤ at + 100 ⌝ }
 {
     match number {
@@ -45,7 +45,7 @@ pub fn put_meaning(page: &mut [u8], at: usize, number: u8) -> usize
 // Puts the line that tells of a refusal: its number, its place and its meaning.
 pub fn put_line(page: &mut [u8], at: usize, number: u8, place: usize) -> usize
     requires { ⌜ at + 160 ≤ length (now page) ⌝ }
-    ensures { λ r. ⌜ Put (now (page .entry)) (now (page .exit)) at r (refusalLine number place) ⌝ }
+    ensures { λ r. ⌜ Put (now (page .entry)) (now (page .exit)) at r (refusalWords number place) ⌝ }
     ensures { λ r. ⌜ r ≤ at + 160 ⌝ }
 {
     let a = text::put_refusal(page, at, number, place, b':');

@@ -12,24 +12,24 @@ use Rattle.text.specs.Runs.{run, is, isNot}
 use Rattle.decimal.specs.Decimals.{isDigit}
 use Rattle.pen_line.specs.Lines.{startOf, endOf, word, wordsEnd, spoken}
 use Rattle.pen_line.proofs.Words.{end-is, word-is}
-use Rattle.slips.specs.Slips.{isIn, marked, unseen, isCapital, ofDigits, ofPlain, ofNumber, _or-else_, ofNumbers, ofLine}
+use Rattle.slips.specs.Slips.{isIn, hasMark, unseen, isCapital, ofDigits, ofPlain, ofNumber, _or-else_, ofNumbers, ofLine}
 use Rattle.slips.specs.declared.Slip.{Slip}
 use Rattle.slips.specs.declared.Slip.the-variants.{Mark, Unseen, Capital, Comma, PointLast, PointFirst, Plus, Exponent, Other}
 
 -- ---- a byte-order mark
 
 module _ (l : List ℕ) where
-  pub no-first : (getD l 0 0 ≡ 239 → ⊥) → false ≡ marked l
-  unfolding marked
+  pub no-first : (getD l 0 0 ≡ 239 → ⊥) → false ≡ hasMark l
+  unfolding hasMark
   no-first f = simp (ne-eqb _ 239 f)
 
   module _ (a : getD l 0 0 ≡ 239) where
-    pub no-second : (getD l 1 0 ≡ 187 → ⊥) → false ≡ marked l
-    unfolding marked
+    pub no-second : (getD l 1 0 ≡ 187 → ⊥) → false ≡ hasMark l
+    unfolding hasMark
     no-second f = simp (eq-eqb _ 239 a, ne-eqb _ 187 f)
 
-    pub by-third : getD l 1 0 ≡ 187 → eqb (getD l 2 0) 191 ≡ marked l
-    unfolding marked
+    pub by-third : getD l 1 0 ≡ 187 → eqb (getD l 2 0) 191 ≡ hasMark l
+    unfolding hasMark
     by-third b = simp (eq-eqb _ 239 a, eq-eqb _ 187 b)
 
 -- ---- a number
@@ -134,11 +134,11 @@ none-left l i {n} h = let e : n ≡ 0 = omega arith in rw e refl
 -- ---- a line
 
 module _ (l : List ℕ) (n : ℕ) where
-  pub mark : marked l ≡ true → Mark ≡ ofLine l n
+  pub mark : hasMark l ≡ true → Mark ≡ ofLine l n
   unfolding ofLine
   mark e = simp e
 
-  module _ (a : marked l ≡ false) where
+  module _ (a : hasMark l ≡ false) where
     pub blank : unseen l ≡ true → Unseen ≡ ofLine l n
     unfolding ofLine
     blank e = simp (a, e)

@@ -1,6 +1,6 @@
 -- What a line that is not taken may have meant: the slips that are known, in the order in which they are looked for.
 --   isIn b bs          the byte b stands in bs
---   marked l           the line l starts with a byte-order mark, the three bytes that some editors put before a text
+--   hasMark l          the line l starts with a byte-order mark, the three bytes that some editors put before a text
 --   unseen l           a tab stands in the line l, or a carriage return
 --   isCapital b        b is the code of a capital letter
 --   ofDigits w         the slip in a number that starts with a digit: an e
@@ -24,8 +24,8 @@ use Rattle.slips.specs.declared.Slip.the-variants.{Mark, Unseen, Capital
 unfoldable pub isIn : ℕ → List ℕ → Bool
 isIn b bs = ltb (run (isNot b) bs) (length bs)
 
-unfoldable pub marked : List ℕ → Bool
-marked l = eqb (getD l 0 0) 239 && (eqb (getD l 1 0) 187 && eqb (getD l 2 0) 191)
+unfoldable pub hasMark : List ℕ → Bool
+hasMark l = eqb (getD l 0 0) 239 && (eqb (getD l 1 0) 187 && eqb (getD l 2 0) 191)
 
 unfoldable pub unseen : List ℕ → Bool
 unseen l = isIn 9 l || isIn 13 l
@@ -69,7 +69,7 @@ ofNumbers l i (suc n) = ofNumber (word l i) or-else ofNumbers l (endOf l i) n
 -- What is not seen on a screen comes first.
 unfoldable pub ofLine : List ℕ → ℕ → Slip
 ofLine l n =
-    if marked l then Mark
+    if hasMark l then Mark
     else if unseen l then Unseen
     else if isCapital (getD l (startOf l 0) 0) then Capital
     else ofNumbers l (endOf l 0) n

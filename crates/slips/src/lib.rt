@@ -3,7 +3,7 @@ ghost use mathlib.Core.Path.{_≡_};
 ghost use Prim.Native.Nat.{_≤_};
 ghost use lib.ListN.{length, getD};
 ghost use Rattle.pen_line.specs.Lines.{spoken};
-ghost use Rattle.slips.specs.Slips.{isIn, marked, unseen, isCapital, ofDigits, ofPlain, ofNumber, ofNumbers, ofLine};
+ghost use Rattle.slips.specs.Slips.{isIn, hasMark, unseen, isCapital, ofDigits, ofPlain, ofNumber, ofNumbers, ofLine};
 ghost use Rattle.slips.specs.Texts.{lineAfter, slipFor};
 use pen_line::Fault;
 
@@ -42,7 +42,7 @@ fn is_in(bytes: &[u8], b: u8) -> bool
 
 // Whether a line starts with a byte-order mark.
 fn marked(line: &[u8]) -> bool
-    ensures { λ r. ⌜ r ≡ marked (now (line .entry)) ⌝ }
+    ensures { λ r. ⌜ r ≡ hasMark (now (line .entry)) ⌝ }
 {
     if byte_at(line, 0) != 0xEF {
         return false;

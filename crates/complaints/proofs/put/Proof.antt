@@ -3,7 +3,7 @@ use mathlib.Core.Path.{ap, subst}
 use Rattle.text.specs.Pages.{Put}
 use Rattle.text.proofs.Puts.{put-then}
 use Rattle.slips.specs.declared.Slip.{Slip}
-use Rattle.complaints.specs.Complaints.{said, complaint}
+use Rattle.complaints.specs.Complaints.{remark, complaint}
 use borrow.Author.Needs.{needs}
 use Rattle.complaints.proofs.put.Statement.{statement}
 use Rattle.complaints.proofs.put.Tie as tie
@@ -50,7 +50,7 @@ returns c =
     let first = second .before .before .before .before in
     let seen = first .before .before .before in
     let fault = seen .before .before .before .args .fault in
-    let words = subst (Put _ _ _ _) (ap (λ (s : Slip). said s fault) (seen .shown .ensures)) (fourth .put-said .ensures .0) in
+    let words = subst (Put _ _ _ _) (ap (λ (s : Slip). remark s fault) (seen .shown .ensures)) (fourth .put-said .ensures .0) in
     put-then (put-then (put-then (put-then (first .put .ensures) (second .put-natural .ensures .0)) (third .put2 .ensures)) words)
     (c .before .before .put3 .ensures)
 

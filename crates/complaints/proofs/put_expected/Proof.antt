@@ -1,7 +1,7 @@
 -- `complaints::put_expected` meets its contract: each arm puts the words that the definition has for its count. Assumes nothing.
 use native.Mathlib.Omega.{arith}
 use borrow.Author.Tests.{ne-eqb}
-use Rattle.complaints.specs.Complaints.{expected}
+use Rattle.complaints.specs.Complaints.{expectation}
 use borrow.Author.Needs.{needs}
 use Rattle.complaints.proofs.put_expected.Statement.{statement}
 use Rattle.complaints.proofs.put_expected.Tie as tie
@@ -28,21 +28,21 @@ same-length : tie.Need-same-length
 same-length c = search needs
 
 returns : tie.Need-returns
-unfolding expected
+unfolding expectation
 returns c = let p = c .before .before .put .ensures in (rw (c .before .before .before .before .before .match .keys1) p, omega (arith, p .ends))
 
 same-length-2 : tie.Need-same-length-2
 same-length-2 c = search needs
 
 returns-2 : tie.Need-returns-2
-unfolding expected
+unfolding expectation
 returns-2 c = let p = c .before .before .put2 .ensures in (rw (c .before .before .before .before .before .match .keys2) p, omega (arith, p .ends))
 
 same-length-3 : tie.Need-same-length-3
 same-length-3 c = search needs
 
 returns-3 : tie.Need-returns-3
-unfolding expected
+unfolding expectation
 returns-3 c =
     let p = c .before .before .put3 .ensures in
     let n = c .before .before .before .before .before .match .rest in

@@ -1,6 +1,6 @@
 -- `complaints::put_said` meets its contract: each arm puts the words that the definition has for its slip. Assumes nothing.
 use native.Mathlib.Omega.{arith}
-use Rattle.complaints.specs.Complaints.{said}
+use Rattle.complaints.specs.Complaints.{remark}
 use borrow.Author.Needs.{needs}
 use Rattle.complaints.proofs.put_said.Statement.{statement}
 use Rattle.complaints.proofs.put_said.Tie as tie
@@ -87,7 +87,7 @@ same-length : tie.Need-same-length
 same-length c = search needs
 
 returns : tie.Need-returns
-unfolding said
+unfolding remark
 returns c =
     let p = c .before .before .put .ensures in
     (rw (c .before .before .before .before .before .enum-told .given .1) p, omega (arith, p .ends))
@@ -96,7 +96,7 @@ same-length-2 : tie.Need-same-length-2
 same-length-2 c = search needs
 
 returns-2 : tie.Need-returns-2
-unfolding said
+unfolding remark
 returns-2 c =
     let p = c .before .before .put2 .ensures in
     (rw (c .before .before .before .before .before .enum-told2 .given .1) p, omega (arith, p .ends))
@@ -105,7 +105,7 @@ same-length-3 : tie.Need-same-length-3
 same-length-3 c = search needs
 
 returns-3 : tie.Need-returns-3
-unfolding said
+unfolding remark
 returns-3 c =
     let p = c .before .before .put3 .ensures in
     (rw (c .before .before .before .before .before .enum-told3 .given .1) p, omega (arith, p .ends))
@@ -114,7 +114,7 @@ same-length-4 : tie.Need-same-length-4
 same-length-4 c = search needs
 
 returns-4 : tie.Need-returns-4
-unfolding said
+unfolding remark
 returns-4 c =
     let p = c .before .before .put4 .ensures in
     (rw (c .before .before .before .before .before .enum-told4 .given .1) p, omega (arith, p .ends))
@@ -123,7 +123,7 @@ same-length-5 : tie.Need-same-length-5
 same-length-5 c = search needs
 
 returns-5 : tie.Need-returns-5
-unfolding said
+unfolding remark
 returns-5 c =
     let p = c .before .before .put5 .ensures in
     (rw (c .before .before .before .before .before .enum-told5 .given .1) p, omega (arith, p .ends))
@@ -132,7 +132,7 @@ same-length-6 : tie.Need-same-length-6
 same-length-6 c = search needs
 
 returns-6 : tie.Need-returns-6
-unfolding said
+unfolding remark
 returns-6 c =
     let p = c .before .before .put6 .ensures in
     (rw (c .before .before .before .before .before .enum-told6 .given .1) p, omega (arith, p .ends))
@@ -141,7 +141,7 @@ same-length-7 : tie.Need-same-length-7
 same-length-7 c = search needs
 
 returns-7 : tie.Need-returns-7
-unfolding said
+unfolding remark
 returns-7 c =
     let p = c .before .before .put7 .ensures in
     (rw (c .before .before .before .before .before .enum-told7 .given .1) p, omega (arith, p .ends))
@@ -150,7 +150,7 @@ same-length-8 : tie.Need-same-length-8
 same-length-8 c = search needs
 
 returns-8 : tie.Need-returns-8
-unfolding said
+unfolding remark
 returns-8 c =
     let p = c .before .before .put8 .ensures in
     (rw (c .before .before .before .before .before .enum-told8 .given .1) p, omega (arith, p .ends))
@@ -159,7 +159,7 @@ same-length-9 : tie.Need-same-length-9
 same-length-9 c = search needs
 
 returns-9 : tie.Need-returns-9
-unfolding said
+unfolding remark
 returns-9 c =
     let p = c .before .before .put-reason .ensures in
     (rw (c .before .before .before .before .enum-told9 .given .1) (p .0), p .1)

@@ -1,12 +1,12 @@
 -- The reading stays within its bounds, and the page within its mark.
 use Prim.Native.Nat.{_-_, _≤_}
-use Rattle.input.specs.Sources.{Within}
+use Rattle.input.specs.Sources.{InReach}
 use borrow.Author.Needs.{needs}
 use Rattle.exchange.proofs.next_line.Statement.{statement}
 use Rattle.exchange.proofs.next_line.Tie as tie
 
 abbrev Inv-loop : tie.InvT-loop
-Inv-loop chunk₀ line₀ page source₀ told used₀ turns₀ chunk line source used turns = Within source × (used ≤ 65536)
+Inv-loop chunk₀ line₀ page source₀ told used₀ turns₀ chunk line source used turns = InReach source × (used ≤ 65536)
 
 abbrev μ-loop : tie.MeasureT-loop
 μ-loop chunk₀ line₀ page source₀ told used₀ turns₀ chunk line source used turns = 0x4000_0000_0000_0000 - turns

@@ -1,7 +1,7 @@
 -- Two labelled numbers, the number on its side, and words.
 use native.Mathlib.Omega.{arith}
 use Rattle.text.proofs.Puts.{put-then}
-use Rattle.labels.specs.Labels.{numberAt}
+use Rattle.labels.specs.Labels.{numberText}
 use borrow.Author.Needs.{needs}
 use Rattle.labels.proofs.put_number.Statement.{statement}
 use Rattle.labels.proofs.put_number.Tie as tie
@@ -31,7 +31,7 @@ same-length : tie.Need-same-length
 same-length c = search needs
 
 returns : tie.Need-returns
-unfolding numberAt
+unfolding numberText
 returns c =
     let at₄ = c .before .before in
     let at₃ = at₄ .before .before .before .before .before in

@@ -6,7 +6,7 @@ use denote.Ref.{now}
 use lib.Seq.{take-all}
 use native.Mathlib.Omega.{arith}
 use Rattle.text.proofs.Puts.{put-then}
-use Rattle.output.specs.Written.{written}
+use Rattle.output.specs.Written.{replyLine}
 use borrow.Author.Needs.{needs}
 use Rattle.output.proofs.put_reply.Statement.{statement}
 use Rattle.output.proofs.put_reply.Tie as tie
@@ -21,7 +21,7 @@ same-length : tie.Need-same-length
 same-length c = search needs
 
 returns : tie.Need-returns
-unfolding written
+unfolding replyLine
 returns c = rw (c .before .before .before .before .before .if1 .taken) (c .before .before .put .ensures)
 
 put-fields-requires : tie.Need-put-fields-requires
@@ -34,7 +34,7 @@ same-length-2 : tie.Need-same-length-2
 same-length-2 c = search needs
 
 returns-2 : tie.Need-returns-2
-unfolding written
+unfolding replyLine
 returns-2 c =
     let at₃ = c .before .before in
     let at₂ = at₃ .before .before .before .before .before in
@@ -59,7 +59,7 @@ same-length-3 : tie.Need-same-length-3
 same-length-3 c = search needs
 
 returns-3 : tie.Need-returns-3
-unfolding written
+unfolding replyLine
 returns-3 c =
     let at₃ = c .before .before in
     let at₂ = at₃ .before .before .before .before .before .before in

@@ -1,6 +1,6 @@
 -- Four pieces, one after the other.
 use native.Mathlib.Omega.{arith}
-use Rattle.refusals.specs.Words.{refusalLine}
+use Rattle.refusals.specs.Words.{refusalWords}
 use Rattle.text.proofs.Puts.{put-then}
 use borrow.Author.Needs.{needs}
 use Rattle.refusals.proofs.put_line.Statement.{statement}
@@ -28,7 +28,7 @@ same-length : tie.Need-same-length
 same-length c = search needs
 
 returns : tie.Need-returns
-unfolding refusalLine
+unfolding refusalWords
 returns c =
     let third = c .before .before .before .before .before .before .before in
     let second = third .before .before .before .before in

@@ -1,7 +1,7 @@
 -- Each arm puts the words that the definition has for its number.
 use native.Mathlib.Omega.{arith}
 use borrow.Author.Tests.{ne-eqb}
-use Rattle.refusals.specs.Words.{meaning}
+use Rattle.refusals.specs.Words.{sentence}
 use borrow.Author.Needs.{needs}
 use Rattle.refusals.proofs.put_meaning.Statement.{statement}
 use Rattle.refusals.proofs.put_meaning.Tie as tie
@@ -82,84 +82,84 @@ same-length : tie.Need-same-length
 same-length c = search needs
 
 returns : tie.Need-returns
-unfolding meaning
+unfolding sentence
 returns c = let p = c .before .before .put .ensures in (rw (c .before .before .before .before .before .match .keys1) p, omega (arith, p .ends))
 
 same-length-2 : tie.Need-same-length-2
 same-length-2 c = search needs
 
 returns-2 : tie.Need-returns-2
-unfolding meaning
+unfolding sentence
 returns-2 c = let p = c .before .before .put2 .ensures in (rw (c .before .before .before .before .before .match .keys2) p, omega (arith, p .ends))
 
 same-length-3 : tie.Need-same-length-3
 same-length-3 c = search needs
 
 returns-3 : tie.Need-returns-3
-unfolding meaning
+unfolding sentence
 returns-3 c = let p = c .before .before .put3 .ensures in (rw (c .before .before .before .before .before .match .keys3) p, omega (arith, p .ends))
 
 same-length-4 : tie.Need-same-length-4
 same-length-4 c = search needs
 
 returns-4 : tie.Need-returns-4
-unfolding meaning
+unfolding sentence
 returns-4 c = let p = c .before .before .put4 .ensures in (rw (c .before .before .before .before .before .match .keys4) p, omega (arith, p .ends))
 
 same-length-5 : tie.Need-same-length-5
 same-length-5 c = search needs
 
 returns-5 : tie.Need-returns-5
-unfolding meaning
+unfolding sentence
 returns-5 c = let p = c .before .before .put5 .ensures in (rw (c .before .before .before .before .before .match .keys5) p, omega (arith, p .ends))
 
 same-length-6 : tie.Need-same-length-6
 same-length-6 c = search needs
 
 returns-6 : tie.Need-returns-6
-unfolding meaning
+unfolding sentence
 returns-6 c = let p = c .before .before .put6 .ensures in (rw (c .before .before .before .before .before .match .keys6) p, omega (arith, p .ends))
 
 same-length-7 : tie.Need-same-length-7
 same-length-7 c = search needs
 
 returns-7 : tie.Need-returns-7
-unfolding meaning
+unfolding sentence
 returns-7 c = let p = c .before .before .put7 .ensures in (rw (c .before .before .before .before .before .match .keys7) p, omega (arith, p .ends))
 
 same-length-8 : tie.Need-same-length-8
 same-length-8 c = search needs
 
 returns-8 : tie.Need-returns-8
-unfolding meaning
+unfolding sentence
 returns-8 c = let p = c .before .before .put8 .ensures in (rw (c .before .before .before .before .before .match .keys8) p, omega (arith, p .ends))
 
 same-length-9 : tie.Need-same-length-9
 same-length-9 c = search needs
 
 returns-9 : tie.Need-returns-9
-unfolding meaning
+unfolding sentence
 returns-9 c = let p = c .before .before .put9 .ensures in (rw (c .before .before .before .before .before .match .keys9) p, omega (arith, p .ends))
 
 same-length-10 : tie.Need-same-length-10
 same-length-10 c = search needs
 
 returns-10 : tie.Need-returns-10
-unfolding meaning
+unfolding sentence
 returns-10 c = let p = c .before .before .put10 .ensures in (rw (c .before .before .before .before .before .match .keys10) p, omega (arith, p .ends))
 
 same-length-11 : tie.Need-same-length-11
 same-length-11 c = search needs
 
 returns-11 : tie.Need-returns-11
-unfolding meaning
+unfolding sentence
 returns-11 c = let p = c .before .before .put11 .ensures in (rw (c .before .before .before .before .before .match .keys11) p, omega (arith, p .ends))
 
 same-length-12 : tie.Need-same-length-12
 same-length-12 c = search needs
 
 returns-12 : tie.Need-returns-12
-unfolding meaning
+unfolding sentence
 returns-12 c =
     let p = c .before .before .put12 .ensures in
     let l = c .before .before .before .before .before .before .before .args .number in

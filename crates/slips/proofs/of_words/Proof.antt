@@ -6,7 +6,7 @@ use denote.Ref.{now}
 use lib.ListN.{getD}
 use Rattle.pen_line.specs.Lines.{startOf}
 use Rattle.pen_line.proofs.Words.{end-is}
-use Rattle.slips.specs.Slips.{marked, unseen, isCapital, ofNumbers}
+use Rattle.slips.specs.Slips.{hasMark, unseen, isCapital, ofNumbers}
 use Rattle.slips.proofs.Tests.{mark, blank, capital, small}
 use borrow.Author.Needs.{needs}
 use Rattle.slips.proofs.of_words.Statement.{statement}
@@ -20,7 +20,7 @@ returns c = mark _ _ (sym (c .before .marked .ensures) ∙ c .if1 .taken)
 
 -- ---- what the tests show
 
-no-mark : (c : tie.Else1) → marked (now (c .before .before .before .args .line)) ≡ false
+no-mark : (c : tie.Else1) → hasMark (now (c .before .before .before .args .line)) ≡ false
 no-mark c = sym (c .before .marked .ensures) ∙ c .if1 .left
 
 seen-all : (c : tie.Else2) → unseen (now (c .before .before .before .before .before .args .line)) ≡ false
