@@ -14,7 +14,7 @@ kit() {
     elif rt=$(command -v rt); then
         dirname -- "$(dirname -- "$(readlink -f -- "$rt")")"
     else
-        echo "The Rattle toolchain is missing: there is no rt on the path. See "What you need" in the README.md of Gerlyantu." >&2
+        echo "The Rattle toolchain is missing: there is no rt on the path. See 'What you need' in the README.md of Gerlyantu." >&2
         return 1
     fi
 }
@@ -98,7 +98,7 @@ chosen() {
 # start NAME COMMAND..: runs a program by the command given. What it writes goes through unchanged; the status is 1 where it said anything on
 # standard error, and 0 otherwise.
 start() {
-    local name=$1 said
+    local name=$1 ended
     shift
     # A standard descriptor that is closed would be given to the next file that is opened. One that cannot be read or written takes its place, and
     # the program tells that its read or write failed.
@@ -117,13 +117,13 @@ start() {
             { printf %s "$first" && cat; } >&2
             exit 1
         }
-        said=("${PIPESTATUS[@]}")
+        ended=("${PIPESTATUS[@]}")
     } 3>&1
-    if [ "${said[0]}" -ne 0 ]; then
-        stopped "$name" "${said[0]}" >&2
+    if [ "${ended[0]}" -ne 0 ]; then
+        stopped "$name" "${ended[0]}" >&2
         return 1
     fi
-    return "${said[1]}"
+    return "${ended[1]}"
 }
 
 # stopped NAME STATUS: a program ends with 0, so whatever else is not its own doing.
