@@ -9,9 +9,10 @@ use native.Mathlib.Nat.{eq-or-lt-of-le}
 use native.Mathlib.Omega.{arith}
 use borrow.Author.Tests.{lt-ltb, le-ltb, eq-eqb, ne-eqb, eqb-true, eqb-false}
 use lib.Dec.{eqb, ltb}
-use lib.ListN.{length, getD, take, drop, length-append, take-append-drop}
+use lib.ListN.{length, getD, length-append}
 use Rattle.whole.specs.Choice.{if_then_else_}
 use Rattle.text.specs.Pages.{Put, bigEndian}
+use Rattle.text.proofs.Puts.{put-unique}
 use Rattle.decimal.specs.Decimals.{Reads}
 use Rattle.decimal.specs.declared.Reading.the-variants.{Number, Nothing}
 use Rattle.decimal.proofs.Unique.{reads-unique}
@@ -152,14 +153,6 @@ module _ {l : List ℕ} {n room : ℕ} where
   refused-unique p q = one-reason (reason p) (reason q)
 
 -- ---- steps
-
-put-unique : {before after after′ word : List ℕ} {at end end′ : ℕ} → Put before after at end word
-    → Put before after′ at end′ word → (end ≡ end′) × (after ≡ after′)
-put-unique {before} {after} {after′} {end = end} p q =
-    let e = p .ends ∙ sym (q .ends) in
-    let front = p .text ∙ sym (q .text) ∙ ap (λ (x : ℕ). take x after′) (sym e) in
-    let back = p .rest ∙ ap (λ (x : ℕ). drop x before) e ∙ sym (q .rest) ∙ ap (λ (x : ℕ). drop x after′) (sym e) in
-    (e, sym (take-append-drop end after) ∙ ap₂ _++_ front back ∙ take-append-drop end after′)
 
 pub one-step : OneStep
 one-step l before after after′ at r s p q = go p q

@@ -104,23 +104,23 @@ fn is(argument: &[u8], kind: Kind) -> bool {
 }
 
 // How many arguments there are, each with a space before it; or the place of the first that is empty.
-struct Counted {
+struct Tally {
     count: usize,
     blank: bool,
 }
 
-fn count(rest: &[u8]) -> Counted {
+fn count(rest: &[u8]) -> Tally {
     let mut count = 0;
     let mut at = 0;
     while at < rest.len() {
         let end = text::find(rest, at + 1, b' ');
         count += 1;
         if end == at + 1 {
-            return Counted { count, blank: true };
+            return Tally { count, blank: true };
         }
         at = end;
     }
-    Counted {
+    Tally {
         count,
         blank: false,
     }
@@ -187,16 +187,12 @@ fn by_arguments(rest: &[u8], word: u64, wants: Wants) -> Reason {
     }
 }
 
-fn has(line: &[u8], b: u8) -> bool {
-    text::find(line, 0, b) < line.len()
-}
-
 // Why a line is no call.
 pub fn why(line: &[u8]) -> Reason {
     if LONGEST < line.len() {
         return Reason::Long;
     }
-    if has(line, b'\t') || has(line, b'\r') {
+    if text::has(line, b'\t') || text::has(line, b'\r') {
         return Reason::Unseen;
     }
     let end = text::find(line, 0, b' ');

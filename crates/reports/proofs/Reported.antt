@@ -11,9 +11,9 @@ use Rattle.io.specs.Counts.{Counts}
 use Rattle.text.specs.Pages.{Put}
 use Rattle.cutting.specs.Sheets as Sheets
 use Rattle.cutting.specs.declared.Sheet.{Sheet}
-use Rattle.reports.specs.Reports.{Report, faulty, no-area, sound}
+use Rattle.reports.specs.Reports.{RefusedText, CutText, Report, faulty, no-area, sound}
 
-module _ {refused : ℕ → ℕ → List ℕ} {cut : Window → List ℤ → ℕ → List ℤ → ℕ → List ℕ} {bytes before after : List ℕ} {end : ℕ} where
+module _ {refused : RefusedText} {cut : CutText} {bytes before after : List ℕ} {end : ℕ} where
   front : {text : List ℕ} {n k : ℕ} → Put before after 0 end text → Report refused cut bytes text n k
       → Report refused cut bytes (take end after) n k × Counts end after
   front {n = n} {k = k} p l = (subst (λ (t : List ℕ). Report refused cut bytes t n k) (sym (p .text)) l, (p .fits, sym (length-take-le _ _ (p .fits))))

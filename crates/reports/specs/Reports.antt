@@ -1,4 +1,6 @@
 -- What is reported of a drawing, whatever the report looks like.
+--   RefusedText   the texts for all refusals, by number and place
+--   CutText       the texts for all drawings that are cut
 --   Report refused cut bytes text number place   text is the report on the drawing whose bytes these are, where `refused n p` is the text of a refusal
 --       and `cut w zs n xs k` the text of a drawing that is cut: its strip w, the numbers zs of its n strokes, and the batch's rows xs of the k that are
 --       kept; number and place are the refusal's, or 0. A refusal is reported where the drawing has a fault or its window no area. No other can be: a
@@ -14,7 +16,13 @@ use Rattle.grid.specs.Refusals.{badDrawing, noArea}
 use Rattle.grid.specs.declared.Stroke.{Stroke}
 use Rattle.grid.specs.declared.Window.{Window}
 
-pub data Report (refused : ℕ → ℕ → List ℕ) (cut : Window → List ℤ → ℕ → List ℤ → ℕ → List ℕ) (bytes : List ℕ) : List ℕ → ℕ → ℕ → Type 0 where
+abbrev pub RefusedText : Type 0
+RefusedText = ℕ → ℕ → List ℕ
+
+abbrev pub CutText : Type 0
+CutText = Window → List ℤ → ℕ → List ℤ → ℕ → List ℕ
+
+pub data Report (refused : RefusedText) (cut : CutText) (bytes : List ℕ) : List ℕ → ℕ → ℕ → Type 0 where
   faulty : {place : ℕ} → Means bytes (fault place) → Report refused cut bytes (refused badDrawing 0) badDrawing 0
   no-area : {w : Window} {ss : List Stroke} → Means bytes (drawn w ss) → (noArea w .number ≡ 0 → ⊥)
       → Report refused cut bytes (refused (noArea w .number) (noArea w .place)) (noArea w .number) (noArea w .place)

@@ -8,11 +8,11 @@ use borrow.Author.Tests.{eq-eqb, ne-eqb}
 use lib.Dec.{eqb}
 use lib.ListN.{length, getD, take, drop, length-drop}
 use lib.Seq.{take-all}
-use Rattle.text.specs.Runs.{run, is, isNot}
+use Rattle.text.specs.Runs.{run, is, isNot, isIn}
 use Rattle.decimal.specs.Decimals.{isDigit}
 use Rattle.pen_line.specs.Lines.{startOf, endOf, word, wordsEnd, spoken}
 use Rattle.pen_line.proofs.Words.{end-is, word-is}
-use Rattle.slips.specs.Slips.{isIn, hasMark, unseen, isCapital, ofDigits, ofPlain, ofNumber, _or-else_, ofNumbers, ofLine}
+use Rattle.slips.specs.Slips.{hasMark, unseen, isCapital, ofDigits, ofPlain, ofNumber, _or-else_, ofNumbers, ofLine}
 use Rattle.slips.specs.declared.Slip.{Slip}
 use Rattle.slips.specs.declared.Slip.the-variants.{Mark, Unseen, Capital, Comma, PointLast, PointFirst, Plus, Exponent, Other}
 

@@ -1,5 +1,4 @@
 -- What a line that is not taken may have meant: the slips that are known, in the order in which they are looked for.
---   isIn b bs          the byte b stands in bs
 --   hasMark l          the line l starts with a byte-order mark, the three bytes that some editors put before a text
 --   unseen l           a tab stands in the line l, or a carriage return
 --   isCapital b        b is the code of a capital letter
@@ -12,17 +11,14 @@
 use mathlib.Core.Bool.{Bool, _&&_, _||_}
 use mathlib.Core.List.{List}
 use Prim.Native.Nat.{ℕ, zero, suc, _-_}
-use lib.Dec.{eqb, ltb, leb}
+use lib.Dec.{eqb, leb}
 use lib.ListN.{length, getD, drop}
 use Rattle.whole.specs.Choice.{if_then_else_}
-use Rattle.text.specs.Runs.{run, is, isNot}
+use Rattle.text.specs.Runs.{run, is, isIn}
 use Rattle.decimal.specs.Decimals.{isDigit}
 use Rattle.pen_line.specs.Lines.{startOf, endOf, word}
 use Rattle.slips.specs.declared.Slip.{Slip}
 use Rattle.slips.specs.declared.Slip.the-variants.{Mark, Unseen, Capital, Comma, PointLast, PointFirst, Plus, Exponent, Other}
-
-unfoldable pub isIn : ℕ → List ℕ → Bool
-isIn b bs = ltb (run (isNot b) bs) (length bs)
 
 unfoldable pub hasMark : List ℕ → Bool
 hasMark l = eqb (getD l 0 0) 239 && (eqb (getD l 1 0) 187 && eqb (getD l 2 0) 191)

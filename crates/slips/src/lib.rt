@@ -3,7 +3,7 @@ ghost use mathlib.Core.Path.{_≡_};
 ghost use Prim.Native.Nat.{_≤_};
 ghost use lib.ListN.{length, getD};
 ghost use Rattle.pen_line.specs.Lines.{spoken};
-ghost use Rattle.slips.specs.Slips.{isIn, hasMark, unseen, isCapital, ofDigits, ofPlain, ofNumber, ofNumbers, ofLine};
+ghost use Rattle.slips.specs.Slips.{hasMark, unseen, isCapital, ofDigits, ofPlain, ofNumber, ofNumbers, ofLine};
 ghost use Rattle.slips.specs.Texts.{lineAfter, slipFor};
 use pen_line::Fault;
 
@@ -34,12 +34,6 @@ fn byte_at(bytes: &[u8], i: usize) -> u8
     0
 }
 
-fn is_in(bytes: &[u8], b: u8) -> bool
-    ensures { λ r. ⌜ r ≡ isIn b (now (bytes .entry)) ⌝ }
-{
-    text::find(bytes, 0, b) < bytes.len()
-}
-
 // Whether a line starts with a byte-order mark.
 fn marked(line: &[u8]) -> bool
     ensures { λ r. ⌜ r ≡ hasMark (now (line .entry)) ⌝ }
@@ -57,10 +51,10 @@ fn marked(line: &[u8]) -> bool
 fn unseen(line: &[u8]) -> bool
     ensures { λ r. ⌜ r ≡ unseen (now (line .entry)) ⌝ }
 {
-    if is_in(line, b'\t') {
+    if text::has(line, b'\t') {
         return true;
     }
-    is_in(line, b'\r')
+    text::has(line, b'\r')
 }
 
 fn is_capital(b: u8) -> bool
@@ -76,10 +70,10 @@ fn is_capital(b: u8) -> bool
 fn of_digits(word: &[u8]) -> Slip
     ensures { λ r. ⌜ r ≡ ofDigits (now (word .entry)) ⌝ }
 {
-    if is_in(word, b'e') {
+    if text::has(word, b'e') {
         return Slip::Exponent;
     }
-    if is_in(word, b'E') {
+    if text::has(word, b'E') {
         return Slip::Exponent;
     }
     Slip::Other
@@ -89,7 +83,7 @@ fn of_digits(word: &[u8]) -> Slip
 fn of_plain(word: &[u8]) -> Slip
     ensures { λ r. ⌜ r ≡ ofPlain (now (word .entry)) ⌝ }
 {
-    if is_in(word, b',') {
+    if text::has(word, b',') {
         return Slip::Comma;
     }
     let count = word.len();

@@ -11,7 +11,7 @@ use libc::STDIN_FILENO;
 use libc::STDOUT_FILENO;
 
 // What was read: how many bytes; or that a read failed, of which standard error then says why.
-pub struct Taken {
+pub struct Received {
     pub count: usize,
     pub failed: bool,
 }
@@ -31,11 +31,11 @@ fn try_again() -> bool {
 }
 
 // Tells that a read failed.
-fn unread() -> Taken
+fn unread() -> Received
     ensures { λ r. ⌜ r .count ≡ 0 ⌝ }
 {
     os::fail(b"could not read");
-    Taken {
+    Received {
         count: 0,
         failed: true,
     }
@@ -43,14 +43,14 @@ fn unread() -> Taken
 
 // Reads what is there, and waits where nothing is there yet; no bytes are the end of the input. A proved loop has to end, so it counts its turns, to
 // a number that no run reaches.
-pub fn read_some(buf: &mut [u8]) -> Taken
+pub fn read_some(buf: &mut [u8]) -> Received
     ensures { λ r. ⌜ Counts (r .count) (now (buf .exit)) ⌝ }
 {
     let mut turns: u64 = 0;
     while turns < 0x4000_0000_0000_0000 {
         let got = libc::read(STDIN_FILENO, buf);
         if got >= 0 {
-            return Taken {
+            return Received {
                 count: io::count(got, buf),
                 failed: false,
             };
@@ -64,14 +64,14 @@ pub fn read_some(buf: &mut [u8]) -> Taken
 }
 
 // Reads until the input ends or buf is full.
-pub fn read_all(buf: &mut [u8]) -> Taken
+pub fn read_all(buf: &mut [u8]) -> Received
     ensures { λ r. ⌜ Counts (r .count) (now (buf .exit)) ⌝ }
 {
     let mut count = 0;
     while count < buf.len() {
         let taken = read_some(&mut buf[count..]);
         if taken.failed {
-            return Taken {
+            return Received {
                 count,
                 failed: true,
             };
@@ -81,7 +81,7 @@ pub fn read_all(buf: &mut [u8]) -> Taken
         }
         count += taken.count;
     }
-    Taken {
+    Received {
         count,
         failed: false,
     }

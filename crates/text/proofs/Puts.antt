@@ -4,7 +4,7 @@ use mathlib.Core.List.{List, [], _∷_, _++_, append-assoc, append-nil}
 use Prim.Native.Nat.{ℕ, _+_, _<_, _≤_}
 use native.Mathlib.Numerals.{add-one}
 use native.Mathlib.Omega.{arith}
-use lib.ListN.{length, getD, take, drop, set, length-set, length-append}
+use lib.ListN.{length, getD, take, drop, set, length-set, length-append, take-append-drop}
 use lib.Seq.{take-suc, take-suc-set, take-add, drop-at, drop-drop, drop-set-lt, length-take-le}
 use Rattle.text.specs.Pages.{Put}
 
@@ -65,3 +65,12 @@ put-in-front {a} {b} {c} {u} {v} {i} {j} p q =
     ∙ ap (drop i) (sym (take-add i (length u) b) ∙ ap (λ (x : ℕ). take x b) e ∙ p .text)
     ∙ drop-at (take i a) u i (length-take-le i a ia) in
     ap (λ (x : ℕ). take x c) (sym e) ∙ take-add i (length u) c ∙ ap₂ _++_ (q .text) (ap (take (length u)) (q .rest) ∙ kept)
+
+-- a page, a place and a word leave one page
+pub put-unique : {before after after′ word : List ℕ} {at end end′ : ℕ} → Put before after at end word
+    → Put before after′ at end′ word → (end ≡ end′) × (after ≡ after′)
+put-unique {before} {after} {after′} {end = end} p q =
+    let e = p .ends ∙ sym (q .ends) in
+    let front = p .text ∙ sym (q .text) ∙ ap (λ (x : ℕ). take x after′) (sym e) in
+    let back = p .rest ∙ ap (λ (x : ℕ). drop x before) e ∙ sym (q .rest) ∙ ap (λ (x : ℕ). drop x after′) (sym e) in
+    (e, sym (take-append-drop end after) ∙ ap₂ _++_ front back ∙ take-append-drop end after′)

@@ -3,7 +3,7 @@ ghost use mathlib.Core.Path.{_≡_};
 ghost use mathlib.Core.List.{[], _∷_, _++_};
 ghost use Prim.Native.Nat.{_+_, _≤_};
 ghost use lib.ListN.{length, drop};
-ghost use Rattle.text.specs.Runs.{run, is, isNot};
+ghost use Rattle.text.specs.Runs.{run, is, isNot, isIn};
 ghost use Rattle.text.specs.Pages.{Put, bigEndian, natural, integer, refusal};
 
 // The place of the first byte b from `from` on, or the end.
@@ -20,6 +20,13 @@ pub fn find(text: &[u8], from: usize, b: u8) -> usize
         i += 1;
     }
     i
+}
+
+// Whether the byte b stands in a text.
+pub fn has(text: &[u8], b: u8) -> bool
+    ensures { λ r. ⌜ r ≡ isIn b (now (text .entry)) ⌝ }
+{
+    find(text, 0, b) < text.len()
 }
 
 // The place of the first byte from `from` on that is not b, or the end.

@@ -5,22 +5,22 @@ use Prim.Native.Nat.{_-_}
 use denote.Ref.{now}
 use lib.ListN.{length, getD}
 use Rattle.decimal.specs.Decimals.{isDigit}
-use Rattle.slips.specs.Slips.{isIn}
+use Rattle.text.specs.Runs.{isIn}
 use Rattle.slips.proofs.Tests.{comma, no-bytes, point-last, point-first, plus, a-digit, no-digit}
 use borrow.Author.Needs.{needs}
 use Rattle.slips.proofs.of_plain.Statement.{statement}
 use Rattle.slips.proofs.of_plain.Tie as tie
 
-is-in-requires : tie.Need-is-in-requires
-is-in-requires c κs = search needs
+has-requires : tie.Need-has-requires
+has-requires c κs = search needs
 
 returns : tie.Need-returns
-returns c = comma _ (sym (c .before .is-in .ensures) ∙ c .if1 .taken)
+returns c = comma _ (sym (c .before .has .ensures) ∙ c .if1 .taken)
 
 -- ---- what the tests show
 
 no-comma : (c : tie.Else1) → isIn 44 (now (c .before .before .before .args .word)) ≡ false
-no-comma c = sym (c .before .is-in .ensures) ∙ c .if1 .left
+no-comma c = sym (c .before .has .ensures) ∙ c .if1 .left
 
 not-last : (c : tie.Else3) → let w = now (c .before .before .before .before .before .before .args .word) in getD w (length w - 1) 0 ≡ 46 → ⊥
 not-last c e = c .if3 .left (c .before .byte-at .ensures ∙ e)
@@ -84,7 +84,7 @@ pub of-plain-spec : {M : Type 1} → statement M
 of-plain-spec =
     tie.close
     (tie.spec
-    is-in-requires
+    has-requires
     returns
     returns-2
     sub-byte-at

@@ -3,7 +3,8 @@ use mathlib.Core.Path.{_≡_, sym, _∙_}
 use mathlib.Core.Bool.{true, false}
 use mathlib.Core.List.{List}
 use Prim.Native.Nat.{ℕ}
-use Rattle.slips.specs.Slips.{isIn, unseen}
+use Rattle.text.specs.Runs.{isIn}
+use Rattle.slips.specs.Slips.{unseen}
 use borrow.Author.Needs.{needs}
 use Rattle.slips.proofs.unseen.Statement.{statement}
 use Rattle.slips.proofs.unseen.Tie as tie
@@ -16,17 +17,17 @@ by-return : (l : List ℕ) → isIn 9 l ≡ false → isIn 13 l ≡ unseen l
 unfolding unseen
 by-return l e = simp e
 
-is-in-requires : tie.Need-is-in-requires
-is-in-requires c κs = search needs
+has-requires : tie.Need-has-requires
+has-requires c κs = search needs
 
 returns : tie.Need-returns
-returns c = by-tab _ (sym (c .before .is-in .ensures) ∙ c .if1 .taken)
+returns c = by-tab _ (sym (c .before .has .ensures) ∙ c .if1 .taken)
 
-is-in-requires-2 : tie.Need-is-in-requires-2
-is-in-requires-2 c κs = search needs
+has-requires-2 : tie.Need-has-requires-2
+has-requires-2 c κs = search needs
 
 returns-2 : tie.Need-returns-2
-returns-2 c = c .is-in2 .ensures ∙ by-return _ (sym (c .before .before .is-in .ensures) ∙ c .before .if1 .left)
+returns-2 c = c .has2 .ensures ∙ by-return _ (sym (c .before .before .has .ensures) ∙ c .before .if1 .left)
 
 pub unseen-spec : {M : Type 1} → statement M
-unseen-spec = tie.close (tie.spec is-in-requires returns is-in-requires-2 returns-2)
+unseen-spec = tie.close (tie.spec has-requires returns has-requires-2 returns-2)
