@@ -1,11 +1,20 @@
 -- What each refusal means, in a sentence.
 --   sentence n         the sentence for the number n
+--   sentenceFrom12 n   the same for a number from 12 on: the table is in two halves, as the code is, which has a function for each
 --   refusalWords n p   the line that tells of a refusal: its number, its place and its meaning
 use mathlib.Core.List.{List, _++_}
 use Prim.Native.Nat.{ℕ}
 use lib.Dec.{eqb}
 use Rattle.whole.specs.Choice.{if_then_else_}
 use Rattle.text.specs.Pages.{ascii, refusal}
+
+unfoldable pub sentenceFrom12 : ℕ → List ℕ
+sentenceFrom12 n =
+    if eqb n 16 then ascii "the strip shares area with one in the book"
+    else if eqb n 17 then ascii "no slot is free for the strip"
+    else if eqb n 18 then ascii "the slot to release is not in use"
+    else if eqb n 23 then ascii "not a strip book, or damaged"
+    else ascii "unknown refusal"
 
 unfoldable pub sentence : ℕ → List ℕ
 sentence n =
@@ -20,7 +29,7 @@ sentence n =
     else if eqb n 9 then ascii "a number of millimetres is not a number"
     else if eqb n 10 then ascii "a number of millimetres is infinite or off the table"
     else if eqb n 11 then ascii "not a drawing file, or damaged"
-    else ascii "unknown refusal"
+    else sentenceFrom12 n
 
 unfoldable pub refusalWords : ℕ → ℕ → List ℕ
 refusalWords n p = (refusal n p ++ ascii ":") ++ ascii " " ++ sentence n ++ ascii "\n"

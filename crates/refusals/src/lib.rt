@@ -2,7 +2,7 @@
 ghost use Prim.Native.Nat.{_+_, _≤_};
 ghost use lib.ListN.{length};
 ghost use Rattle.text.specs.Pages.{Put};
-ghost use Rattle.refusals.specs.Words.{sentence, refusalWords};
+ghost use Rattle.refusals.specs.Words.{sentence, sentenceFrom12, refusalWords};
 
 // Puts what a refusal's number means.
 pub fn put_meaning(page: &mut [u8], at: usize, number: u8) -> usize
@@ -38,6 +38,21 @@ pub fn put_meaning(page: &mut [u8], at: usize, number: u8) -> usize
             b"a number of millimetres is infinite or off the table",
         ),
         11 => text::put(page, at, b"not a drawing file, or damaged"),
+        _ => put_meaning_from_12(page, at, number),
+    }
+}
+
+// Puts what a refusal's number means, from 12 on.
+fn put_meaning_from_12(page: &mut [u8], at: usize, number: u8) -> usize
+    requires { ⌜ at + 100 ≤ length (now page) ⌝ }
+    ensures { λ r. ⌜ Put (now (page .entry)) (now (page .exit)) at r (sentenceFrom12 number) ⌝ }
+    ensures { λ r. ⌜ r ≤ at + 100 ⌝ }
+{
+    match number {
+        16 => text::put(page, at, b"the strip shares area with one in the book"),
+        17 => text::put(page, at, b"no slot is free for the strip"),
+        18 => text::put(page, at, b"the slot to release is not in use"),
+        23 => text::put(page, at, b"not a strip book, or damaged"),
         _ => text::put(page, at, b"unknown refusal"),
     }
 }

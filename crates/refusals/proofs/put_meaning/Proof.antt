@@ -1,4 +1,4 @@
--- Each arm puts the words that the definition has for its number.
+-- Each arm puts the words that the definition has for its number, the last one those of the numbers from 12 on.
 use native.Mathlib.Omega.{arith}
 use borrow.Author.Tests.{ne-eqb}
 use Rattle.refusals.specs.Words.{sentence}
@@ -72,11 +72,8 @@ slice-aggregate-put-11 c = search needs
 put-requires-11 : tie.Need-put-requires-11
 put-requires-11 c κs = search needs
 
-slice-aggregate-put-12 : tie.Need-slice-aggregate-put-12
-slice-aggregate-put-12 c = search needs
-
-put-requires-12 : tie.Need-put-requires-12
-put-requires-12 c κs = search needs
+put-meaning-from-12-requires : tie.Need-put-meaning-from-12-requires
+put-meaning-from-12-requires c κs = search needs
 
 same-length : tie.Need-same-length
 same-length c = search needs
@@ -161,9 +158,9 @@ same-length-12 c = search needs
 returns-12 : tie.Need-returns-12
 unfolding sentence
 returns-12 c =
-    let p = c .before .before .put12 .ensures in
-    let l = c .before .before .before .before .before .before .before .args .number in
-    let n = c .before .before .before .before .before .match .rest in (
+    let p = c .before .before .put-meaning-from-12 .ensures in
+    let l = c .before .before .before .before .before .before .args .number in
+    let n = c .before .before .before .before .match .rest in (
       rw (
         ne-eqb l 0 (n .0 .0 .0 .0 .0 .0 .0 .0 .0 .0 .1),
         ne-eqb l 2 (n .0 .0 .0 .0 .0 .0 .0 .0 .0 .1),
@@ -176,8 +173,8 @@ returns-12 c =
         ne-eqb l 9 (n .0 .0 .1),
         ne-eqb l 10 (n .0 .1),
         ne-eqb l 11 (n .1),
-      ) p,
-      omega (arith, p .ends),
+      ) (p .0),
+      p .1,
     )
 
 pub put-meaning-spec : {M : Type 1} → statement M
@@ -206,8 +203,7 @@ put-meaning-spec =
     put-requires-10
     slice-aggregate-put-11
     put-requires-11
-    slice-aggregate-put-12
-    put-requires-12
+    put-meaning-from-12-requires
     same-length
     returns
     same-length-2
