@@ -76,7 +76,15 @@ enum {
     /* a millimetre number is infinite or falls off the grid range; its index */ \
     R(GERLYANTU_TOO_FAR, 10, "a number of millimetres is infinite or off the table") \
     /* any fault in a drawing file; 0 */ \
-    R(GERLYANTU_BAD_DRAWING, 11, "not a drawing file, or damaged")
+    R(GERLYANTU_BAD_DRAWING, 11, "not a drawing file, or damaged") \
+    /* an entered strip shares area with the new one; 0 */ \
+    R(GERLYANTU_STRIP_TAKEN, 16, "the strip shares area with one in the book") \
+    /* all 64 slots are in use; 0 */ \
+    R(GERLYANTU_BOOK_FULL, 17, "no slot is free for the strip") \
+    /* the slot to release is not in use, or not in 0 to 63; 0 */ \
+    R(GERLYANTU_SLOT_NOT_IN_USE, 18, "the slot to release is not in use") \
+    /* a book has not 320 numbers, a mark is neither 0 nor 1, a slot in use has numbers that 2 or 3 would refuse, or two such slots share area; 0 */ \
+    R(GERLYANTU_NO_BOOK, 23, "not a strip book, or damaged")
 
 /* The numbers by their names. */
 #define GERLYANTU_NUMBERED(name, number, words) name = number,

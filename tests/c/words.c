@@ -13,6 +13,10 @@ static const char *const words[] = {
     [9] = "a number of millimetres is not a number",
     [10] = "a number of millimetres is infinite or off the table",
     [11] = "not a drawing file, or damaged",
+    [16] = "the strip shares area with one in the book",
+    [17] = "no slot is free for the strip",
+    [18] = "the slot to release is not in use",
+    [23] = "not a strip book, or damaged",
 };
 
 /* "1.2.3" as 10203. */
