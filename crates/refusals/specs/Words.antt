@@ -1,6 +1,6 @@
 -- What each refusal means, in a sentence.
 --   sentence n         the sentence for the number n
---   sentenceFrom12 n   the same for a number from 12 on: the table is in two halves, as the code is, which has a function for each
+--   sentenceFrom12 n   the sentence for a number n from 12 on; apart, because the code has a function of its own for these
 --   refusalWords n p   the line that tells of a refusal: its number, its place and its meaning
 use mathlib.Core.List.{List, _++_}
 use Prim.Native.Nat.{ℕ}
