@@ -1,0 +1,39 @@
+-- A rack: places for 64 strips, their numbers side by side: the left sides from 0 on, the bottoms from 64, the rights from 128, the tops from 192.
+--   stripAt rack j    the strip at the place j
+--   vacant            what stands at a place without a strip: four numbers just off the table
+--   putAt rack j w    the rack with the strip w at the place j
+--   stripsOn rack n   the strips at the first n places, the last of them first
+--   Holds rack ws     the rack holds just the strips ws, the last put on it first; each would pass as a window
+use mathlib.Core.Path.{_≡_}
+use mathlib.Core.List.{List, [], _∷_}
+use Prim.Native.Nat.{ℕ, zero, suc, _+_, _≤_, _<_}
+use lib.IntN.{ℤ, pos}
+use lib.ListN.{length, getD, set}
+use Rattle.grid.specs.Table.{WindowOnTable}
+use Rattle.grid.specs.declared.Window.{Window}
+
+abbrev pub stripAt : List ℤ → ℕ → Window
+stripAt rack j =
+    record {
+      left = getD rack j (pos 0);
+      bottom = getD rack (64 + j) (pos 0);
+      right = getD rack (128 + j) (pos 0);
+      top = getD rack (192 + j) (pos 0);
+    }
+
+abbrev pub vacant : Window
+vacant = record { left = pos 16384; bottom = pos 16384; right = pos 16384; top = pos 16384 }
+
+abbrev pub putAt : List ℤ → ℕ → Window → List ℤ
+putAt rack j w = set (set (set (set rack j (w .left)) (64 + j) (w .bottom)) (128 + j) (w .right)) (192 + j) (w .top)
+
+unfoldable pub stripsOn : List ℤ → ℕ → List Window
+stripsOn rack zero = []
+stripsOn rack (suc n) = stripAt rack n ∷ stripsOn rack n
+
+pub record Holds (rack : List ℤ) (ws : List Window) : Type 0 where
+  pub long : length rack ≡ 256
+  pub few : length ws ≤ 64
+  pub are : stripsOn rack (length ws) ≡ ws
+  pub on : (j : ℕ) → j < length ws → WindowOnTable (stripAt rack j)
+  pub rest : (j : ℕ) → length ws ≤ j → j < 64 → stripAt rack j ≡ vacant
