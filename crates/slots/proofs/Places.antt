@@ -1,0 +1,67 @@
+-- The slots of a table by their places: five numbers further on is the next slot.
+use mathlib.Core.Path.{_≡_, refl, sym, ap, _∙_}
+use mathlib.Core.List.{List, [], _∷_}
+use Prim.Native.Nat.{ℕ, zero, suc, _+_, _*_, _≤_, _<_}
+use native.Mathlib.Nat.{add-zero}
+use native.Mathlib.Numerals.{towards-suc}
+use native.Mathlib.Omega.{arith}
+use lib.IntN.{ℤ, pos}
+use lib.ListN.{length, drop, getD}
+use lib.Seq.{drop-cons, getD-drop}
+use Rattle.slots.specs.Slots.{Slot, slotsOf}
+use Rattle.slots.specs.Workers.{slotIn, slotAt, slotsFrom}
+
+-- how many there are: one for every five numbers
+pub slots-length : (n : ℕ) (zs : List ℤ) → length zs ≡ 5 * n → length (slotsOf zs) ≡ n
+unfolding slotsOf
+slots-length zero [] h = refl
+slots-length zero (m ∷ zs) h = absurd (omega arith)
+slots-length (suc n) [] h = absurd (omega arith)
+slots-length (suc n) (a ∷ []) h = absurd (omega arith)
+slots-length (suc n) (a ∷ b ∷ []) h = absurd (omega arith)
+slots-length (suc n) (a ∷ b ∷ c ∷ []) h = absurd (omega arith)
+slots-length (suc n) (a ∷ b ∷ c ∷ d ∷ []) h = absurd (omega arith)
+slots-length (suc n) (a ∷ b ∷ c ∷ d ∷ e ∷ zs) h = ap suc (slots-length n zs (omega arith))
+
+-- five numbers left out are one slot left out
+past : (k : ℕ) → 5 * suc k ≡ suc (suc (suc (suc (suc (5 * k)))))
+past k = omega arith
+
+pub slots-drop : (k : ℕ) (zs : List ℤ) → slotsFrom k zs ≡ drop k (slotsOf zs)
+unfolding slotsOf
+slots-drop zero zs = refl
+slots-drop (suc k) [] = ap (λ (n : ℕ). slotsOf (drop n [])) (past k)
+slots-drop (suc k) (a ∷ []) = ap (λ (n : ℕ). slotsOf (drop n (a ∷ []))) (past k)
+slots-drop (suc k) (a ∷ b ∷ []) = ap (λ (n : ℕ). slotsOf (drop n (a ∷ b ∷ []))) (past k)
+slots-drop (suc k) (a ∷ b ∷ c ∷ []) = ap (λ (n : ℕ). slotsOf (drop n (a ∷ b ∷ c ∷ []))) (past k)
+slots-drop (suc k) (a ∷ b ∷ c ∷ d ∷ []) = ap (λ (n : ℕ). slotsOf (drop n (a ∷ b ∷ c ∷ d ∷ []))) (past k)
+slots-drop (suc k) (a ∷ b ∷ c ∷ d ∷ e ∷ zs) = ap (λ (n : ℕ). slotsOf (drop n (a ∷ b ∷ c ∷ d ∷ e ∷ zs))) (past k) ∙ slots-drop k zs
+
+-- the slots from k on are the slot k and those behind it
+five : (zs : List ℤ) (p : ℕ) → p + 5 ≤ length zs → slotsOf (drop p zs) ≡ slotIn zs p ∷ slotsOf (drop (p + 5) zs)
+unfolding slotsOf
+five zs p h =
+    let h₀ : p < length zs = omega arith in
+    let h₁ : suc p < length zs = omega arith in
+    let h₂ : suc (suc p) < length zs = omega arith in
+    let h₃ : suc (suc (suc p)) < length zs = omega arith in
+    let h₄ : suc (suc (suc (suc p))) < length zs = omega arith in
+    simp towards-suc (rw (
+      drop-cons zs p (pos 0) h₀,
+      drop-cons zs (suc p) (pos 0) h₁,
+      drop-cons zs (suc (suc p)) (pos 0) h₂,
+      drop-cons zs (suc (suc (suc p))) (pos 0) h₃,
+      drop-cons zs (suc (suc (suc (suc p)))) (pos 0) h₄,
+    ))
+
+pub slots-more : (zs : List ℤ) (k : ℕ) → 5 * k + 5 ≤ length zs → slotsFrom k zs ≡ slotAt zs k ∷ slotsFrom (k + 1) zs
+slots-more zs k h =
+    let next : 5 * k + 5 ≡ 5 * (k + 1) = omega arith in
+    five zs (5 * k) h ∙ ap (λ (n : ℕ). slotAt zs k ∷ slotsOf (drop n zs)) next
+
+-- the slot k stands at the place k
+pub slot-at : (k : ℕ) (zs : List ℤ) (s : Slot) → 5 * k + 5 ≤ length zs → getD (slotsOf zs) k s ≡ slotAt zs k
+slot-at k zs s h =
+    ap (λ (n : ℕ). getD (slotsOf zs) n s) (sym (add-zero k))
+    ∙ sym (getD-drop k (slotsOf zs) 0 s)
+    ∙ ap (λ (ss : List Slot). getD ss 0 s) (sym (slots-drop k zs) ∙ slots-more zs k h)

@@ -1,0 +1,124 @@
+// The strip book: a strip is tested and entered in one call, and a slot is released. The book is a table that the caller lends.
+ghost use mathlib.Core.Path.{_≡_};
+ghost use lib.ListN.{length};
+ghost use Rattle.grid.specs.Refusals.{refuse};
+ghost use Rattle.slots.specs.Slots.{slotsOf};
+ghost use Rattle.strip_book.specs.Books.{usedAt, refusedBooking, BookStrip, refusedRelease, ReleaseSlot};
+use grid::Refusal;
+use grid::Window;
+use slots::Tested;
+
+// The numbers of the book's own refusals, as specs/Books.antt defines them.
+pub const STRIP_TAKEN: u8 = 16;
+
+pub const BOOK_FULL: u8 = 17;
+
+pub const SLOT_NOT_IN_USE: u8 = 18;
+
+pub const NO_BOOK: u8 = 23;
+
+// What booking returns: number and place of a refusal, or the slot that the strip is in.
+#[repr(C)]
+pub struct BookingAnswer {
+    pub number: u8,
+    pub place: usize,
+    pub slot: i32,
+}
+
+// What releasing returns: number and place of a refusal.
+#[repr(C)]
+pub struct ReleaseAnswer {
+    pub number: u8,
+    pub place: usize,
+}
+
+// A refusal of the book's own, whose place is 0.
+fn refused(number: u8) -> Refusal
+    ensures { λ r. ⌜ r ≡ refuse number 0 ⌝ }
+{
+    Refusal { number, place: 0 }
+}
+
+// The answer of a booking that refuses.
+fn refused_booking(r: Refusal) -> BookingAnswer
+    ensures { λ a. ⌜ a ≡ refusedBooking r ⌝ }
+{
+    BookingAnswer {
+        number: r.number,
+        place: r.place,
+        slot: 0,
+    }
+}
+
+// The answer of a release that refuses; number 0 refuses nothing.
+fn refused_release(number: u8) -> ReleaseAnswer
+    ensures { λ a. ⌜ a ≡ refusedRelease (refuse number 0) ⌝ }
+{
+    ReleaseAnswer { number, place: 0 }
+}
+
+// Enters a strip in the lowest free slot, unless it shares area with one that is entered.
+// Its statement is `BookStrip`, specs/Books.antt.
+pub fn book_strip(book: &mut [i32], w: Window) -> BookingAnswer
+    ensures { λ a. ⌜ BookStrip w a (now (book .entry)) (now (book .exit)) ⌝ }
+{
+    let mut rack = [racks::VACANT; 256];
+    let tested = slots::test_book(book, &mut rack);
+    let Tested::Good(n) = tested else {
+        return refused_booking(refused(NO_BOOK));
+    };
+    let bad = grid::window_refusal(w);
+    if bad.number != 0 {
+        return refused_booking(bad);
+    }
+    if racks::shares(&rack, n, w) {
+        return refused_booking(refused(STRIP_TAKEN));
+    }
+    let k = slots::lowest_free(book, 0, 64);
+    if k == 64 {
+        return refused_booking(refused(BOOK_FULL));
+    }
+    slots::put(book, k, 1, w);
+    BookingAnswer {
+        number: 0,
+        place: 0,
+        slot: k as i32,
+    }
+}
+
+// Whether there is a slot of this number, and it is in use.
+fn used_at(book: &[i32], slot: i32) -> bool
+    requires { ⌜ length (now book) ≡ 320 ⌝ }
+    ensures { λ r. ⌜ r ≡ usedAt (slotsOf (now (book .entry))) slot ⌝ }
+{
+    if slot < 0 {
+        return false;
+    }
+    if 63 < slot {
+        return false;
+    }
+    slots::in_use(book, slot as usize)
+}
+
+// Frees a slot, which then holds five zeros.
+// Its statement is `ReleaseSlot`, specs/Books.antt.
+pub fn release_slot(book: &mut [i32], slot: i32) -> ReleaseAnswer
+    ensures { λ a. ⌜ ReleaseSlot slot a (now (book .entry)) (now (book .exit)) ⌝ }
+{
+    let mut rack = [racks::VACANT; 256];
+    let tested = slots::test_book(book, &mut rack);
+    let Tested::Good(n) = tested else {
+        return refused_release(NO_BOOK);
+    };
+    if !used_at(book, slot) {
+        return refused_release(SLOT_NOT_IN_USE);
+    }
+    let nothing = Window {
+        left: 0,
+        bottom: 0,
+        right: 0,
+        top: 0,
+    };
+    slots::put(book, slot as usize, 0, nothing);
+    refused_release(0)
+}
