@@ -16,7 +16,7 @@ pub enum Tested {
 }
 
 // The strip of the slot k.
-fn strip_at(book: &[i32], k: usize) -> Window
+pub fn strip_at(book: &[i32], k: usize) -> Window
     requires { ⌜ 5 * k + 5 ≤ length (now book) ⌝ }
     ensures { λ r. ⌜ r ≡ stripIn (now (book .entry)) (5 * k) ⌝ }
 {

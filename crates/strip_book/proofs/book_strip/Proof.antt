@@ -159,8 +159,8 @@ lower c =
 put-requires : tie.Need-put-requires
 put-requires c κs = omega (arith, lower (c .before), long (c .before .before .before .before .before .before .before .before .before .before))
 
-cast-t22 : tie.Need-cast-t22
-cast-t22 c = record { sfits = omega (arith, lower (c .before .before .before)) }
+cast-slot : tie.Need-cast-slot
+cast-slot c = record { sfits = omega (arith, lower (c .before .before .before)) }
 
 same-length-5 : tie.Need-same-length-5
 same-length-5 c = search needs
@@ -204,6 +204,6 @@ book-strip-spec =
     same-length-4
     returns-4
     put-requires
-    cast-t22
+    cast-slot
     same-length-5
     returns-5)
