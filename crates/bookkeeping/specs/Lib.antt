@@ -1,0 +1,3 @@
+pub mod PlainList
+pub mod Runs
+pub mod Laws
