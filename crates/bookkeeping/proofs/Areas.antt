@@ -12,7 +12,7 @@ use Rattle.whole.proofs.Expressions.{_⊖_, _⊗_, x0, x1, x2}
 use Rattle.whole.proofs.Naturals.{add-is, mul-is}
 use Rattle.whole.proofs.Order.{zarith, <-diff, diff-<, cancel-pos, ≤-total}
 use Rattle.whole.proofs.Polynomials.{ring}
-use Rattle.grid.specs.Sides.{Side, left, right, bottom, top, Beyond}
+use Rattle.grid.specs.Sides.{left, right, bottom, top}
 use Rattle.grid.specs.declared.Window.{Window}
 use Rattle.racks.specs.Areas.{sharesArea}
 use Rattle.rings.specs.Lists.{∅, _◂_}

@@ -4,7 +4,7 @@ use mathlib.Core.Bool.{Bool, true, false, not, _&&_, _||_}
 use mathlib.Core.List.{List, [], _∷_}
 use Prim.Native.Nat.{ℕ, zero, suc, _<_}
 use native.Mathlib.Omega.{arith}
-use borrow.Author.Tests.{not-true, not-false}
+use borrow.Author.Tests.{not-true}
 use lib.ListN.{length, getD}
 use Rattle.whole.specs.Choice.{if_then_else_}
 use Rattle.whole.proofs.Comparisons.{ff-tt, tt-ff}

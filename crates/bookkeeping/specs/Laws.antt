@@ -8,7 +8,7 @@
 --   NeverNoBook       23 is never answered
 --   NoTwoShareArea    no two entered strips share area
 --   TakesLowest       a booking gets a slot that was free, all below being in use; there its strip is, and the other slots are as they were
---   LowestFreeSlot    so does each booking that is done
+--   LowestFreeSlot    each booking that is done does so, whatever was called before
 --   StrictlyIn w p    the point p lies strictly inside the strip w
 --   InBoth v w        a point that lies strictly inside v and w
 --   SharesAPoint      two strips share area exactly when there is such a point
@@ -74,8 +74,7 @@ pub record TakesLowest (w : Window) (a : BookingAnswer) (before after : List ℤ
   pub others : (j : ℕ) → (j ≡ slot → ⊥) → slotAt after j ≡ slotAt before j
 
 abbrev pub LowestFreeSlot : Type 0
-LowestFreeSlot = (events : List Event) (before : List ℤ) → FromEmpty events before
-    → (w : Window) (a : BookingAnswer) (after : List ℤ) → BookStrip w a before after → a .number ≡ 0 → TakesLowest w a before after
+LowestFreeSlot = (w : Window) (a : BookingAnswer) (before after : List ℤ) → BookStrip w a before after → a .number ≡ 0 → TakesLowest w a before after
 
 -- ---- what it is to share area
 
