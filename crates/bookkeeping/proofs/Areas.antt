@@ -1,7 +1,7 @@
 -- Strips share area where each begins before the other ends, from left to right and from bottom to top; there a point half a grid number beyond the
 -- later of the two beginnings lies strictly inside both.
 use mathlib.Core.Path.{_≡_, refl, sym, subst, _∙_}
-use mathlib.Core.Bool.{Bool, true, false, _&&_}
+use mathlib.Core.Bool.{Bool, true, false, _&&_, and-eq-true-iff}
 use mathlib.Core.List.{[], _∷_}
 use mathlib.Core.Logic.{⊎-elim}
 use lib.Ieee.Bits.{is-true}
@@ -19,10 +19,9 @@ use Rattle.rings.specs.Lists.{∅, _◂_}
 use Rattle.rings.specs.Points.{Point}
 use Rattle.rings.proofs.Windows.{left-value, right-value, bottom-value, top-value}
 use Rattle.bookkeeping.specs.Laws.{StrictlyIn, SharesAPoint, TouchingSharesNone}
-use Rattle.bookkeeping.proofs.Tests.{both}
 
 -- ---- the four tests
-pub record Overlap (v w : Window) : Type 0 where
+record Overlap (v w : Window) : Type 0 where
   pub left : v .left <ℤ w .right
   pub right : w .left <ℤ v .right
   pub bottom : v .bottom <ℤ w .top
@@ -31,9 +30,9 @@ pub record Overlap (v w : Window) : Type 0 where
 overlap : (v w : Window) → sharesArea v w ≡ true → Overlap v w
 unfolding sharesArea
 overlap v w e =
-    let p = both (ltZ (v .left) (w .right) && ltZ (w .left) (v .right) && ltZ (v .bottom) (w .top)) (ltZ (w .bottom) (v .top)) e in
-    let q = both (ltZ (v .left) (w .right) && ltZ (w .left) (v .right)) (ltZ (v .bottom) (w .top)) (p .0) in
-    let r = both (ltZ (v .left) (w .right)) (ltZ (w .left) (v .right)) (q .0) in
+    let p = and-eq-true-iff (ltZ (v .left) (w .right) && ltZ (w .left) (v .right) && ltZ (v .bottom) (w .top)) (ltZ (w .bottom) (v .top)) .0 e in
+    let q = and-eq-true-iff (ltZ (v .left) (w .right) && ltZ (w .left) (v .right)) (ltZ (v .bottom) (w .top)) .0 (p .0) in
+    let r = and-eq-true-iff (ltZ (v .left) (w .right)) (ltZ (w .left) (v .right)) .0 (q .0) in
     record { left = lt-yes refl refl (r .0); right = lt-yes refl refl (r .1); bottom = lt-yes refl refl (q .1); top = lt-yes refl refl (p .1) }
 
 overlapping : (v w : Window) → Overlap v w → sharesArea v w ≡ true
@@ -118,12 +117,12 @@ shares-a-point v w hv hw = record {
       record {
         point = p;
         proper = record { lt = tt };
-        first = into-lines v p (record { left = x .1 .first-low; right = x .1 .first-high; bottom = y .1 .first-low; top = y .1 .first-high });
-        second = into-lines w p (record { left = x .1 .second-low; right = x .1 .second-high; bottom = y .1 .second-low; top = y .1 .second-high });
+        in-one = into-lines v p (record { left = x .1 .first-low; right = x .1 .first-high; bottom = y .1 .first-low; top = y .1 .first-high });
+        in-other = into-lines w p (record { left = x .1 .second-low; right = x .1 .second-high; bottom = y .1 .second-low; top = y .1 .second-high });
       };
   no = λ e h.
-      let a = from-lines v (h .point) (h .first) in
-      let b = from-lines w (h .point) (h .second) in
+      let a = from-lines v (h .point) (h .in-one) in
+      let b = from-lines w (h .point) (h .in-other) in
       tt-ff (sym (overlapping v w (record {
         left = inner (h .proper) (a .left) (b .right);
         right = inner (h .proper) (b .left) (a .right);

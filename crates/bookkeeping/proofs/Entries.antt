@@ -14,11 +14,9 @@ use Rattle.whole.proofs.Comparisons.{tt-ff}
 use Rattle.grid.specs.declared.Window.{Window}
 use Rattle.racks.specs.Areas.{any}
 use Rattle.slots.specs.Slots.{Slot, is, inUse, stripsIn, all, lowestFree, freeSlot}
-use Rattle.bookkeeping.specs.PlainList.{Entry, entry, strips, firstMissing, entered, has, without}
+use Rattle.bookkeeping.specs.Laws.{takenSlot}
+use Rattle.bookkeeping.specs.PlainList.{Entry, entry, strips, firstMissing, entered, has, struckOut}
 use Rattle.bookkeeping.specs.Runs.{entriesFrom}
-
-abbrev taken : Window → Slot
-taken w = record { mark = pos 1; strip = w }
 
 -- the entries of a slot and of those after it, by whether it is in use
 abbrev entriesIf : Bool → ℕ → Slot → List Slot → List Entry
@@ -100,14 +98,14 @@ first-missing k (s ∷ ss) = go (inUse s) (first-missing (suc k) ss)
 
 -- ---- a strip entered at a free slot
 pub enters : (k j : ℕ) (w : Window) (ss : List Slot) → j < length ss → inUse (getD ss j freeSlot) ≡ false
-    → entered (k + j) w (entriesFrom k ss) ≡ entriesFrom k (set ss j (taken w))
+    → entered (k + j) w (entriesFrom k ss) ≡ entriesFrom k (set ss j (takenSlot w))
 unfolding entriesFrom entered
 enters k j w [] h f = absurd (omega arith)
 enters k zero w (s ∷ ss) h f = rw (add-zero, f) (entered-below k (suc k) w ss (omega arith))
 enters k (suc j) w (s ∷ ss) h f = go (inUse s) (enters (suc k) j w ss (omega arith) f)
   where
-    go : (b : Bool) → entered (suc k + j) w (entriesFrom (suc k) ss) ≡ entriesFrom (suc k) (set ss j (taken w))
-        → entered (k + suc j) w (entriesIf b k s ss) ≡ entriesIf b k s (set ss j (taken w))
+    go : (b : Bool) → entered (suc k + j) w (entriesFrom (suc k) ss) ≡ entriesFrom (suc k) (set ss j (takenSlot w))
+        → entered (k + suc j) w (entriesIf b k s ss) ≡ entriesIf b k s (set ss j (takenSlot w))
     go true e = simp (lt-ltb k (k + suc j) (omega arith)) (rw (next-number k j, e))
     go false e = rw (next-number k j, e)
 
@@ -133,26 +131,26 @@ has-negative n [] = refl
 has-negative n (e ∷ es) = has-negative n es
 
 -- ---- an entry taken out
-pub without-absent : (z : ℤ) (es : List Entry) → has z es ≡ false → without z es ≡ es
-unfolding any without
-without-absent z [] h = refl
-without-absent z (e ∷ es) h = go (is (e .number) z) h (without-absent z es)
+pub struck-absent : (z : ℤ) (es : List Entry) → has z es ≡ false → struckOut z es ≡ es
+unfolding any struckOut
+struck-absent z [] h = refl
+struck-absent z (e ∷ es) h = go (is (e .number) z) h (struck-absent z es)
   where
-    go : (b : Bool) → (b || has z es) ≡ false → (has z es ≡ false → without z es ≡ es) → (if b then es else e ∷ without z es) ≡ e ∷ es
+    go : (b : Bool) → (b || has z es) ≡ false → (has z es ≡ false → struckOut z es ≡ es) → (if b then es else e ∷ struckOut z es) ≡ e ∷ es
     go true h f = absurd (tt-ff h)
     go false h f = ap (λ (rest : List Entry). e ∷ rest) (f h)
 
-pub leaves : (k j : ℕ) (ss : List Slot) → without (pos (k + j)) (entriesFrom k ss) ≡ entriesFrom k (set ss j freeSlot)
-unfolding entriesFrom without
+pub leaves : (k j : ℕ) (ss : List Slot) → struckOut (pos (k + j)) (entriesFrom k ss) ≡ entriesFrom k (set ss j freeSlot)
+unfolding entriesFrom struckOut
 leaves k j [] = refl
 leaves k zero (s ∷ ss) = go (inUse s)
   where
-    go : (b : Bool) → without (pos (k + 0)) (entriesIf b k s ss) ≡ entriesFrom (suc k) ss
+    go : (b : Bool) → struckOut (pos (k + 0)) (entriesIf b k s ss) ≡ entriesFrom (suc k) ss
     go true = simp (eq-eqb (k + 0) k (omega arith))
-    go false = rw add-zero (without-absent (pos k) (entriesFrom (suc k) ss) (has-none k (suc k) ss (omega arith)))
+    go false = rw add-zero (struck-absent (pos k) (entriesFrom (suc k) ss) (has-none k (suc k) ss (omega arith)))
 leaves k (suc j) (s ∷ ss) = go (inUse s) (leaves (suc k) j ss)
   where
-    go : (b : Bool) → without (pos (suc k + j)) (entriesFrom (suc k) ss) ≡ entriesFrom (suc k) (set ss j freeSlot)
-        → without (pos (k + suc j)) (entriesIf b k s ss) ≡ entriesIf b k s (set ss j freeSlot)
+    go : (b : Bool) → struckOut (pos (suc k + j)) (entriesFrom (suc k) ss) ≡ entriesFrom (suc k) (set ss j freeSlot)
+        → struckOut (pos (k + suc j)) (entriesIf b k s ss) ≡ entriesIf b k s (set ss j freeSlot)
     go true e = simp (ne-eqb (k + suc j) k (omega arith)) (rw (next-number k j, e))
     go false e = rw (next-number k j, e)

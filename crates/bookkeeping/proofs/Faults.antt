@@ -23,12 +23,11 @@ use Rattle.strip_book.specs.Books.{noBook, stripTaken, bookFull, notInUse}
 use Rattle.strip_book.specs.Books.{bookRefusal, clash, full, usedAt, slotRefusal, bookingRefusal, releaseRefusal}
 use Rattle.strip_book.specs.declared.BookingAnswer.{BookingAnswer}
 use Rattle.strip_book.specs.declared.ReleaseAnswer.{ReleaseAnswer}
-use Rattle.bookkeeping.specs.Laws.{number, NotABook, another-length, another-mark, refused-strip, shared-area, NoBookExactly}
+use Rattle.bookkeeping.specs.Laws.{numberAnswered, NotABook, another-length, another-mark, refused-strip, shared-area, NoBookExactly}
 use Rattle.bookkeeping.specs.Runs.{Event, booking, release, InBook}
 use Rattle.bookkeeping.proofs.Good.{Fault, bad-mark, bad-strip, bad-areas, faulty-slots}
 use Rattle.bookkeeping.proofs.Slots.{slots-count}
-use Rattle.bookkeeping.proofs.Steps.{lent-by, book-good}
-use Rattle.bookkeeping.proofs.Tests.{both}
+use Rattle.bookkeeping.proofs.Steps.{lent-by, book-good, book-numbers}
 
 -- ---- the tests of a mark
 is-number : (n : ℕ) (z : ℤ) → is n z ≡ true → z ≡ pos n
@@ -60,12 +59,8 @@ not-a-book zs = go (eqb (length zs) 320) refl
     go true l e = a-fault zs (eqb-true (length zs) 320 l) (faulty-slots (slotsOf zs) e)
     go false l e = another-length (eqb-false (length zs) 320 l)
 
-book-long-enough : (zs : List ℤ) → isBook zs ≡ true → length zs ≡ 320
-unfolding isBook
-book-long-enough zs b = eqb-true (length zs) 320 (both (eqb (length zs) 320) (slotsGood (slotsOf zs)) b .0)
-
 no-book-no-fault : (zs : List ℤ) → isBook zs ≡ true → NotABook zs → ⊥
-no-book-no-fault zs b (another-length n) = n (book-long-enough zs b)
+no-book-no-fault zs b (another-length n) = n (book-numbers zs b)
 no-book-no-fault zs b (another-mark k h m n) = good-marked (getD (slotsOf zs) k freeSlot) (book-good zs b .marks k) m n
 no-book-no-fault zs b (refused-strip k h m e) = e (eqb-true _ _ (book-good zs b .strips k (ap (is 1) m)))
 no-book-no-fault zs b (shared-area j k h l m n e) = tt-ff (sym e ∙ book-good zs b .areas j k h (ap (is 1) m) (ap (is 1) n))
@@ -112,7 +107,7 @@ release-other z zs b =
     let free : Other (slotRefusal z zs) = either (usedAt (slotsOf zs) z) fine (other notInUse 0 (omega arith)) in
     first-other (book-other zs b ◂ free ◂ ∅)
 
-pub call-never : (e : Event) (before after : List ℤ) → InBook before e after → isBook before ≡ true → number e ≡ noBook → ⊥
+pub call-never : (e : Event) (before after : List ℤ) → InBook before e after → isBook before ≡ true → numberAnswered e ≡ noBook → ⊥
 call-never (booking w a) before after p b e = lent-by p
     (λ z d. fine .differs (sym (ap (λ (x : BookingAnswer). x .number) (d .answer)) ∙ e))
     (λ n r. booking-other w before b .differs (sym (ap (λ (x : BookingAnswer). x .number) (r .answer)) ∙ e))
@@ -125,7 +120,7 @@ no-book-refusal : (zs : List ℤ) (rs : List Refusal) → isBook zs ≡ false �
 unfolding bookRefusal first
 no-book-refusal zs rs b = simp b
 
-call-always : (e : Event) (before after : List ℤ) → InBook before e after → isBook before ≡ false → number e ≡ noBook
+call-always : (e : Event) (before after : List ℤ) → InBook before e after → isBook before ≡ false → numberAnswered e ≡ noBook
 unfolding bookingRefusal releaseRefusal
 call-always (booking w a) before after p b = answer (no-book-refusal before (windowRefusal w ∷ clash w before ∷ full before ∷ []) b)
   where
@@ -141,8 +136,8 @@ call-always (release z a) before after p b = answer (no-book-refusal before (slo
         (λ n r. ap (λ (x : ReleaseAnswer). x .number) (r .answer) ∙ ap (λ (x : Refusal). x .number) q)
 
 pub no-book-exactly : NoBookExactly
-no-book-exactly before after e p = go (isBook before) refl
+no-book-exactly e before after p = go (isBook before) refl
   where
-    go : (b : Bool) → isBook before ≡ b → (number e ≡ noBook) ↔ NotABook before
+    go : (b : Bool) → isBook before ≡ b → (numberAnswered e ≡ noBook) ↔ NotABook before
     go true b = (λ n. absurd (call-never e before after p b n), λ h. absurd (no-book-no-fault before b h))
     go false b = (λ n. not-a-book before b, λ h. call-always e before after p b)

@@ -1,6 +1,6 @@
 -- That slots are good is told by their numbers, and where they are not, the slots at fault are found.
 use mathlib.Core.Path.{_≡_, refl, sym, ap, _∙_}
-use mathlib.Core.Bool.{Bool, true, false, not, _&&_, _||_}
+use mathlib.Core.Bool.{Bool, true, false, not, _&&_, _||_, and-eq-true-iff}
 use mathlib.Core.List.{List, [], _∷_}
 use Prim.Native.Nat.{ℕ, zero, suc, _<_}
 use native.Mathlib.Omega.{arith}
@@ -11,7 +11,7 @@ use Rattle.whole.proofs.Comparisons.{ff-tt, tt-ff}
 use Rattle.grid.specs.declared.Window.{Window}
 use Rattle.racks.specs.Areas.{sharesArea, any}
 use Rattle.slots.specs.Slots.{Slot, inUse, stripsIn, all, goodMark, goodStrip, apart, slotsGood, freeSlot}
-use Rattle.bookkeeping.proofs.Tests.{both, all-at, not-all, none-at, one-of}
+use Rattle.bookkeeping.proofs.Tests.{all-at, not-all, none-at, one-of}
 
 -- ---- tests of the strips, as tests of the slots
 module _ (P : Window → Bool) where
@@ -42,11 +42,11 @@ module _ (P : Window → Bool) where
       go false e = e
 
   -- a strip is entered of which P holds, or it holds of none
-  pub strip-of : (ss : List Slot) → any P (stripsIn ss) ≡ true
+  strip-of : (ss : List Slot) → any P (stripsIn ss) ≡ true
       → (k : ℕ) × (k < length ss) × (inUse (getD ss k freeSlot) ≡ true) × (P (getD ss k freeSlot .strip) ≡ true)
   strip-of ss e =
       let k = one-of used-and freeSlot ss (sym (strips-any ss) ∙ e) in
-      let p = both (inUse (getD ss (k .0) freeSlot)) (P (getD ss (k .0) freeSlot .strip)) (k .2) in
+      let p = and-eq-true-iff (inUse (getD ss (k .0) freeSlot)) (P (getD ss (k .0) freeSlot .strip)) .0 (k .2) in
       (k .0, k .1, p .0, p .1)
 
   pub no-strip : (ss : List Slot) → any P (stripsIn ss) ≡ false → (k : ℕ) → inUse (getD ss k freeSlot) ≡ true → P (getD ss k freeSlot .strip) ≡ false
@@ -61,11 +61,12 @@ apart-at (s ∷ ss) e zero zero l u v = absurd (omega arith)
 apart-at (s ∷ ss) e (suc j) zero l u v = absurd (omega arith)
 apart-at (s ∷ ss) e zero (suc k) l u v =
     let first : (not (any (sharesArea (s .strip)) (stripsIn ss)) && apart (stripsIn ss)) ≡ true = rw u at e in
-    no-strip (sharesArea (s .strip)) ss (not-true _ (both (not (any (sharesArea (s .strip)) (stripsIn ss))) (apart (stripsIn ss)) first .0)) k v
+    let clear = and-eq-true-iff (not (any (sharesArea (s .strip)) (stripsIn ss))) (apart (stripsIn ss)) .0 first .0 in
+    no-strip (sharesArea (s .strip)) ss (not-true _ clear) k v
 apart-at (s ∷ ss) e (suc j) (suc k) l u v = apart-at ss (go (inUse s) e) j k (omega arith) u v
   where
     go : (b : Bool) → apart (if b then s .strip ∷ stripsIn ss else stripsIn ss) ≡ true → apart (stripsIn ss) ≡ true
-    go true e = both (not (any (sharesArea (s .strip)) (stripsIn ss))) (apart (stripsIn ss)) e .1
+    go true e = and-eq-true-iff (not (any (sharesArea (s .strip)) (stripsIn ss))) (apart (stripsIn ss)) .0 e .1
     go false e = e
 
 pub record Sharing (ss : List Slot) : Type 0 where
@@ -119,8 +120,8 @@ pub data Fault (ss : List Slot) : Type 0 where
 
 pub good-slots : (ss : List Slot) → slotsGood ss ≡ true → Good ss
 good-slots ss e =
-    let p = both (all goodMark ss && all goodStrip (stripsIn ss)) (apart (stripsIn ss)) e in
-    let q = both (all goodMark ss) (all goodStrip (stripsIn ss)) (p .0) in
+    let p = and-eq-true-iff (all goodMark ss && all goodStrip (stripsIn ss)) (apart (stripsIn ss)) .0 e in
+    let q = and-eq-true-iff (all goodMark ss) (all goodStrip (stripsIn ss)) .0 (p .0) in
     record {
       marks = all-at goodMark freeSlot ss (q .0) refl;
       strips = λ k u. rw u at (all-at (where-used goodStrip) freeSlot ss (sym (strips-all goodStrip ss) ∙ q .1) refl k);
@@ -146,7 +147,7 @@ faulty-slots ss e = go (all goodMark ss) (all goodStrip (stripsIn ss)) refl refl
     go false b p q e = let k = not-all goodMark freeSlot ss p in bad-mark (k .0) (k .1) (k .2)
 
 -- good slots have no fault
-pub no-fault : {ss : List Slot} → Good ss → Fault ss → ⊥
+no-fault : {ss : List Slot} → Good ss → Fault ss → ⊥
 no-fault g (bad-mark k l e) = tt-ff (sym (g .marks k) ∙ e)
 no-fault g (bad-strip k l u e) = tt-ff (sym (g .strips k u) ∙ e)
 no-fault g (bad-areas h) = tt-ff (sym (h .shares) ∙ g .areas (h .one) (h .other) (h .before) (h .used-one) (h .used-other))

@@ -9,8 +9,8 @@ use Rattle.racks.specs.Areas.{sharesArea, any}
 use Rattle.strip_book.specs.declared.BookingAnswer.{BookingAnswer}
 use Rattle.strip_book.specs.declared.ReleaseAnswer.{ReleaseAnswer}
 use Rattle.bookkeeping.specs.Morning.{Morning}
-use Rattle.bookkeeping.specs.PlainList.{Entry, firstMissing, entered, without}
-use Rattle.bookkeeping.specs.PlainList.{refusalToBook, answerBooking, afterBooking, refusalToRelease, answerRelease, afterRelease}
+use Rattle.bookkeeping.specs.PlainList.{Entry, firstMissing, entered, struckOut}
+use Rattle.bookkeeping.specs.PlainList.{refusalToBook, answerBooking, afterBooking, refusalToRelease, answerRelease}
 use Rattle.bookkeeping.specs.Runs.{Event, booking, release, OnPaper, RunOfCalls, no-call, a-call}
 use Rattle.bookkeeping.proofs.Theorems.{as-a-plain-list}
 
@@ -20,15 +20,15 @@ books : {w : Window} {a : BookingAnswer} {before after : List Entry} {events : L
 books {after} {events} (a-call p r) = (p .0, subst (λ es. RunOfCalls OnPaper es events after) (p .1) r)
 
 releases : {z : ℤ} {a : ReleaseAnswer} {before after : List Entry} {events : List Event} → RunOfCalls OnPaper before (release z a ∷ events) after
-    → (a ≡ answerRelease z before) × RunOfCalls OnPaper (afterRelease z before) events after
+    → (a ≡ answerRelease z before) × RunOfCalls OnPaper (struckOut z before) events after
 releases {after} {events} (a-call p r) = (p .0, subst (λ es. RunOfCalls OnPaper es events after) (p .1) r)
 
 ends : {before after : List Entry} → RunOfCalls OnPaper before [] after → after ≡ before
 ends no-call = refl
 
 pub morning : Morning
-unfolding answerBooking afterBooking answerRelease afterRelease refusalToBook refusalToRelease
-    firstMissing entered without any sharesArea first windowRefusal offTable noArea firstOff onTable
+unfolding answerBooking afterBooking answerRelease refusalToBook refusalToRelease
+    firstMissing entered struckOut any sharesArea first windowRefusal offTable noArea firstOff onTable
 morning a b c d e book r =
     let p = books (as-a-plain-list _ book r) in
     let q = books (p .1) in

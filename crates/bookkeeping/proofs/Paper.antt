@@ -15,18 +15,17 @@ use Rattle.grid.specs.Refusals.{none, refuse, first, windowRefusal}
 use Rattle.grid.specs.declared.Refusal.{Refusal}
 use Rattle.grid.specs.declared.Window.{Window}
 use Rattle.grid.proofs.Refusals.{goes-on}
-use Rattle.racks.specs.Areas.{sharesArea, any}
-use Rattle.slots.specs.Slots.{Slot, slotsOf, inUse, stripsIn, all, isBook, lowestFree, freeSlot}
-use Rattle.strip_book.specs.Books.{stripTaken, bookFull, notInUse, bookRefusal, clash, full, usedAt, slotRefusal, bookingRefusal, releaseRefusal}
+use Rattle.slots.specs.Slots.{Slot, slotsOf, inUse, all, isBook, lowestFree, freeSlot}
+use Rattle.strip_book.specs.Books.{notInUse, bookRefusal, clash, full, usedAt, slotRefusal, bookingRefusal, releaseRefusal}
 use Rattle.strip_book.specs.Books.{BookStrip, bookedIn, refusedBooking, Booked, ReleaseSlot, refusedRelease, Released}
 use Rattle.strip_book.specs.declared.BookingAnswer.{BookingAnswer}
 use Rattle.strip_book.specs.declared.ReleaseAnswer.{ReleaseAnswer}
-use Rattle.bookkeeping.specs.PlainList.{Entry, strips, firstMissing, entered, has, without}
-use Rattle.bookkeeping.specs.PlainList.{refusalToBook, answerBooking, afterBooking, refusalToRelease, answerRelease, afterRelease}
+use Rattle.bookkeeping.specs.PlainList.{Entry, firstMissing, entered, has, struckOut}
+use Rattle.bookkeeping.specs.PlainList.{refusalToBook, answerBooking, afterBooking, refusalToRelease, answerRelease}
 use Rattle.bookkeeping.specs.Runs.{Event, booking, release, InBook, OnPaper, entriesFrom, entriesOf}
-use Rattle.bookkeeping.proofs.Entries.{entries-strips, entries-full, first-missing, enters, has-slot, has-negative, without-absent, leaves}
+use Rattle.bookkeeping.proofs.Entries.{entries-strips, entries-full, first-missing, enters, has-slot, has-negative, struck-absent, leaves}
 use Rattle.bookkeeping.proofs.Slots.{lowest-free, free-among}
-use Rattle.bookkeeping.proofs.Steps.{lent-by, bookable, releasable, book-long, slots-booked, slots-released}
+use Rattle.bookkeeping.proofs.Steps.{lent-by, bookable, releasable, book-slots, slots-booked, slots-released}
 
 -- ---- the refusals
 a-book : (zs : List ℤ) → isBook zs ≡ true → bookRefusal zs .number ≡ 0
@@ -37,15 +36,8 @@ same-refusal : (w : Window) (zs : List ℤ) → isBook zs ≡ true → bookingRe
 unfolding bookingRefusal clash full refusalToBook
 same-refusal w zs b =
     let ss = slotsOf zs in
-    let shared : stripsIn ss ≡ strips (entriesOf zs) = sym (entries-strips 0 ss) in
-    let filled : all inUse ss ≡ eqb (length (entriesOf zs)) 64 = sym (entries-full 0 ss) ∙ ap (eqb (length (entriesOf zs))) (book-long zs b) in
-    goes-on (bookRefusal zs) (windowRefusal w ∷ clash w zs ∷ full zs ∷ []) (a-book zs b)
-    ∙ (λ i.
-    first (
-    windowRefusal w
-    ∷ (if any (sharesArea w) (shared i) then refuse stripTaken 0 else none)
-    ∷ (if filled i then refuse bookFull 0 else none)
-    ∷ []))
+    let filled : eqb (length (entriesOf zs)) 64 ≡ all inUse ss = rw (book-slots zs b) at (entries-full 0 ss) in
+    goes-on (bookRefusal zs) (windowRefusal w ∷ clash w zs ∷ full zs ∷ []) (a-book zs b) ∙ rw (entries-strips 0 ss, filled)
 
 used-has : (zs : List ℤ) (z : ℤ) → usedAt (slotsOf zs) z ≡ has z (entriesOf zs)
 used-has zs (pos k) = sym (rw zero-add at (has-slot 0 k (slotsOf zs)))
@@ -115,13 +107,13 @@ not-there z es = go (has z es)
     go true h = absurd (h refl)
     go false h = refl
 
-freed : (z : ℤ) (ss : List Slot) → usedAt ss z ≡ true → without z (entriesFrom 0 ss) ≡ entriesFrom 0 (set ss (natAbs z) freeSlot)
+freed : (z : ℤ) (ss : List Slot) → usedAt ss z ≡ true → struckOut z (entriesFrom 0 ss) ≡ entriesFrom 0 (set ss (natAbs z) freeSlot)
 freed (pos k) ss u = rw zero-add at (leaves 0 k ss)
 freed (negsuc k) ss u = absurd (ff-tt u)
 
 release-on-paper : (z : ℤ) (a : ReleaseAnswer) (before after : List ℤ) → isBook before ≡ true → ReleaseSlot z a before after
     → OnPaper (entriesOf before) (release z a) (entriesOf after)
-unfolding answerRelease afterRelease
+unfolding answerRelease
 release-on-paper z a before after b p = lent-by p done refused
   where
     es : List Entry
@@ -141,7 +133,7 @@ release-on-paper z a before after b p = lent-by p done refused
         → OnPaper es (release z a) (entriesOf after)
     refused n r = (
       r .answer ∙ ap refusedRelease same,
-      ap entriesOf (r .untouched) ∙ sym (without-absent z es (not-there z es (subst (λ (r : Refusal). r .number ≡ 0 → ⊥) same n))),
+      ap entriesOf (r .untouched) ∙ sym (struck-absent z es (not-there z es (subst (λ (r : Refusal). r .number ≡ 0 → ⊥) same n))),
     )
 
 pub call-on-paper : (e : Event) (before after : List ℤ) → InBook before e after → isBook before ≡ true

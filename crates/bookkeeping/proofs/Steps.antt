@@ -1,6 +1,6 @@
 -- A call on a book leaves a book: it changes one slot, which a booking fills with a strip that shares area with none, and a release frees.
 use mathlib.Core.Path.{_≡_, refl, sym, ap, subst, _∙_}
-use mathlib.Core.Bool.{Bool, true, false}
+use mathlib.Core.Bool.{Bool, true, false, and-eq-true-iff}
 use mathlib.Core.List.{List, [], _∷_}
 use Prim.Native.Nat.{ℕ, suc, _<_}
 use native.Mathlib.Omega.{arith}
@@ -21,11 +21,11 @@ use Rattle.slots.specs.Slots.{Slot, slotsOf, inUse, stripsIn, all, goodMark, go
 use Rattle.strip_book.specs.Books.{bookRefusal, clash, full, usedAt, slotRefusal, bookingRefusal, releaseRefusal, Booked, Released}
 use Rattle.strip_book.specs.declared.BookingAnswer.{BookingAnswer}
 use Rattle.strip_book.specs.declared.ReleaseAnswer.{ReleaseAnswer}
+use Rattle.bookkeeping.specs.Laws.{takenSlot}
 use Rattle.bookkeeping.specs.Runs.{Event, booking, release, InBook}
 use Rattle.bookkeeping.proofs.Areas.{shares-turned}
 use Rattle.bookkeeping.proofs.Good.{Good, good-slots, slots-good, no-strip}
 use Rattle.bookkeeping.proofs.Slots.{slots-count, slots-put, free-among, used-among}
-use Rattle.bookkeeping.proofs.Tests.{both}
 
 -- ---- a call is done, or refuses
 pub lent-by : {A M G : Type 0} {blank : Refusal → A} {r : Refusal} {Done : A → M → M → Type 0} {a : A} {before after : M}
@@ -70,16 +70,19 @@ releasable z zs e =
 -- ---- a book, by its slots
 pub book-good : (zs : List ℤ) → isBook zs ≡ true → Good (slotsOf zs)
 unfolding isBook
-book-good zs e = good-slots (slotsOf zs) (both (eqb (length zs) 320) (slotsGood (slotsOf zs)) e .1)
+book-good zs e = good-slots (slotsOf zs) (and-eq-true-iff (eqb (length zs) 320) (slotsGood (slotsOf zs)) .0 e .1)
 
-pub book-long : (zs : List ℤ) → isBook zs ≡ true → length (slotsOf zs) ≡ 64
+pub book-numbers : (zs : List ℤ) → isBook zs ≡ true → length zs ≡ 320
 unfolding isBook
-book-long zs e = omega (arith, slots-count zs, eqb-true (length zs) 320 (both (eqb (length zs) 320) (slotsGood (slotsOf zs)) e .0))
+book-numbers zs e = eqb-true (length zs) 320 (and-eq-true-iff (eqb (length zs) 320) (slotsGood (slotsOf zs)) .0 e .0)
+
+pub book-slots : (zs : List ℤ) → isBook zs ≡ true → length (slotsOf zs) ≡ 64
+book-slots zs e = omega (arith, slots-count zs, book-numbers zs e)
 
 -- a table as long as a book, whose slots are good
 good-book : (zs ys : List ℤ) → isBook zs ≡ true → length ys ≡ length zs → Good (slotsOf ys) → isBook ys ≡ true
 unfolding isBook
-good-book zs ys e l g = rw (l, slots-good (slotsOf ys) g, both (eqb (length zs) 320) (slotsGood (slotsOf zs)) e .0)
+good-book zs ys e l g = rw (l, slots-good (slotsOf ys) g, book-numbers zs e)
 
 -- ---- one slot is changed
 data Changed (ss : List Slot) (k : ℕ) (s : Slot) (j : ℕ) : Type 0 where
@@ -120,12 +123,9 @@ module _ (ss : List Slot) (k : ℕ) (among : k < length ss) (s : Slot) where
       area-at i j l (elsewhere p c) (elsewhere q d) u v = rw (c, d) (g .areas i j l (rw c at u) (rw d at v))
 
 -- ---- the slots after a call
-abbrev taken : Window → Slot
-taken w = record { mark = pos 1; strip = w }
-
 pub slots-booked : {w : Window} {a : BookingAnswer} {before after : List ℤ} → Booked w a before after
-    → slotsOf after ≡ set (slotsOf before) (lowestFree (slotsOf before)) (taken w)
-slots-booked {w} {a} {before} h = ap slotsOf (h .book) ∙ slots-put (taken w) before (lowestFree (slotsOf before))
+    → slotsOf after ≡ set (slotsOf before) (lowestFree (slotsOf before)) (takenSlot w)
+slots-booked {w} {a} {before} h = ap slotsOf (h .book) ∙ slots-put (takenSlot w) before (lowestFree (slotsOf before))
 
 pub slots-released : {z : ℤ} {a : ReleaseAnswer} {before after : List ℤ} → Released z a before after
     → slotsOf after ≡ set (slotsOf before) (natAbs z) freeSlot
@@ -137,7 +137,7 @@ booked-book {w} {a} {before} {after} b h =
     let ss = slotsOf before in
     let g = book-good before (b .book) in
     let n = lowestFree ss in
-    let good = change-good ss n (free-among ss (b .room)) (taken w) g refl (λ u. b .good) (λ u. no-strip (sharesArea w) ss (b .clear)) in
+    let good = change-good ss n (free-among ss (b .room)) (takenSlot w) g refl (λ u. b .good) (λ u. no-strip (sharesArea w) ss (b .clear)) in
     good-book before after (b .book)
     (ap length (h .book) ∙ simp length-sets)
     (subst Good (sym (slots-booked h)) good)

@@ -1,25 +1,21 @@
 -- Tests over a list, by the places of its members: a test that all pass is passed at each place, and one that not all pass is failed at one.
 use mathlib.Core.Path.{_≡_, refl, sym, ap, _∙_}
-use mathlib.Core.Bool.{Bool, true, false, not, _&&_, _||_}
+use mathlib.Core.Bool.{Bool, true, false, not, _&&_, _||_, and-eq-true-iff}
 use mathlib.Core.List.{List, [], _∷_}
 use Prim.Native.Nat.{ℕ, zero, suc, _<_}
 use native.Mathlib.Omega.{arith}
 use borrow.Author.Tests.{not-true, not-false}
 use lib.ListN.{length, getD}
-use Rattle.whole.proofs.Comparisons.{ff-tt, tt-ff}
+use Rattle.whole.proofs.Comparisons.{tt-ff}
 use Rattle.racks.specs.Areas.{any}
 use Rattle.slots.specs.Slots.{all}
-
-pub both : (a b : Bool) → (a && b) ≡ true → (a ≡ true) × (b ≡ true)
-both true b e = (refl, e)
-both false b e = absurd (ff-tt e)
 
 module _ {A : Type 0} (P : A → Bool) (d : A) where
   pub all-at : (xs : List A) → all P xs ≡ true → P d ≡ true → (k : ℕ) → P (getD xs k d) ≡ true
   unfolding all
   all-at [] e h k = h
-  all-at (x ∷ xs) e h zero = both (P x) (all P xs) e .0
-  all-at (x ∷ xs) e h (suc k) = all-at xs (both (P x) (all P xs) e .1) h k
+  all-at (x ∷ xs) e h zero = and-eq-true-iff (P x) (all P xs) .0 e .0
+  all-at (x ∷ xs) e h (suc k) = all-at xs (and-eq-true-iff (P x) (all P xs) .0 e .1) h k
 
   pub not-all : (xs : List A) → all P xs ≡ false → (k : ℕ) × (k < length xs) × (P (getD xs k d) ≡ false)
   unfolding all

@@ -14,13 +14,13 @@ use Rattle.rings.specs.Lists.{All, ∅, _◂_}
 use Rattle.slots.specs.Slots.{slotsOf, stripsIn, all, apart, isBook, lowestFree, freeSlot}
 use Rattle.strip_book.specs.Books.{noBook, Booked}
 use Rattle.strip_book.specs.declared.BookingAnswer.{BookingAnswer}
-use Rattle.bookkeeping.specs.Laws.{slotAt, number, AsAPlainList, StaysABook, NeverNoBook, NoTwoShareArea, TakesLowest, LowestFreeSlot}
+use Rattle.bookkeeping.specs.Laws.{slotAt, numberAnswered, AsAPlainList, StaysABook, NeverNoBook, NoTwoShareArea, TakesLowest, LowestFreeSlot}
 use Rattle.bookkeeping.specs.Runs.{Event, InBook, OnPaper, RunOfCalls, no-call, a-call, emptyBook, entriesFrom, entriesOf}
 use Rattle.bookkeeping.proofs.Areas.{shares-turned}
 use Rattle.bookkeeping.proofs.Faults.{call-never}
 use Rattle.bookkeeping.proofs.Paper.{call-on-paper}
 use Rattle.bookkeeping.proofs.Slots.{lowest-free, used-below, free-among}
-use Rattle.bookkeeping.proofs.Steps.{lent-by, Bookable, bookable, book-good, book-long, slots-booked, call-stays}
+use Rattle.bookkeeping.proofs.Steps.{lent-by, Bookable, bookable, book-good, book-slots, slots-booked, call-stays}
 
 -- ---- where they begin
 empty-is-a-book : isBook emptyBook ≡ true
@@ -43,7 +43,7 @@ run-on-paper (a-call {before} {between} {e = e} p r) b =
     a-call (call-on-paper e before between p b) (run-on-paper r (call-stays e before between p b))
 
 run-never : {before after : List ℤ} {events : List Event} → RunOfCalls InBook before events after → isBook before ≡ true
-    → All (λ (e : Event). number e ≡ noBook → ⊥) events
+    → All (λ (e : Event). numberAnswered e ≡ noBook → ⊥) events
 run-never no-call b = ∅
 run-never (a-call {before} {between} {e = e} p r) b = call-never e before between p b ◂ run-never r (call-stays e before between p b)
 
@@ -74,7 +74,7 @@ takes-lowest {w} {a} {before} {after} b d =
     record {
       slot = lowestFree ss;
       answer = d .answer;
-      among = omega (arith, book-long before (b .book));
+      among = omega (arith, book-slots before (b .book));
       free = lowest-free ss;
       below = used-below ss;
       holds = rw (slots-booked d) (getD-set-same ss (lowestFree ss) _ freeSlot among);

@@ -1,18 +1,19 @@
 -- Laws of the strip book over any run of calls from the empty book, and of what its definitions mean.
 --   FromEmpty events book     the book is what the events leave of the empty book
 --   slotAt zs k               the slot k of a table; a free one, where there is none of that number
---   used zs k                 the slot k is in use
---   number e                  the number of the refusal in an event's answer
+--   takenSlot w               a slot in use, with the strip w
+--   used zs k                 the slot k of a table is in use
+--   numberAnswered e          the number of the refusal in an event's answer
 --   AsAPlainList      whatever is called, the book answers as the list on paper, and its entries are that list
 --   StaysABook        it is a book after any run of calls
 --   NeverNoBook       23 is never answered
 --   NoTwoShareArea    no two entered strips share area
---   TakesLowest       a booking gets a slot that was free, all below being in use; there its strip is, and the other slots are as they were
---   LowestFreeSlot    each booking that is done does so, whatever was called before
+--   TakesLowest w a before after   the booking got a slot that was free, all below being in use; its strip is there, the other slots are as they were
+--   LowestFreeSlot    so it is with each booking that is done
 --   StrictlyIn w p    the point p lies strictly inside the strip w
 --   InBoth v w        a point that lies strictly inside v and w
 --   SharesAPoint      two strips share area exactly when there is such a point
---   TouchingSharesNone   strips of which one lies beyond a side of the other, be it that it touches it there, share none
+--   TouchingSharesNone   where one strip lies beyond a side of the other, whether it touches it or not, they share none
 --   NotABook zs       the four faults of a table, in the words of the rules
 --   NoBookExactly     a call, on any table, answers 23 exactly when the table has one of them
 use mathlib.Core.Path.{_≡_}
@@ -42,12 +43,15 @@ FromEmpty events book = RunOfCalls InBook emptyBook events book
 abbrev pub slotAt : List ℤ → ℕ → Slot
 slotAt zs k = getD (slotsOf zs) k freeSlot
 
+abbrev pub takenSlot : Window → Slot
+takenSlot w = record { mark = pos 1; strip = w }
+
 abbrev pub used : List ℤ → ℕ → Bool
 used zs k = inUse (slotAt zs k)
 
-abbrev pub number : Event → ℕ
-number (booking w a) = a .number
-number (release z a) = a .number
+abbrev pub numberAnswered : Event → ℕ
+numberAnswered (booking w a) = a .number
+numberAnswered (release z a) = a .number
 
 -- ---- over any run of calls
 
@@ -58,7 +62,7 @@ abbrev pub StaysABook : Type 0
 StaysABook = (events : List Event) (book : List ℤ) → FromEmpty events book → isBook book ≡ true
 
 abbrev pub NeverNoBook : Type 0
-NeverNoBook = (events : List Event) (book : List ℤ) → FromEmpty events book → All (λ (e : Event). number e ≡ noBook → ⊥) events
+NeverNoBook = (events : List Event) (book : List ℤ) → FromEmpty events book → All (λ (e : Event). numberAnswered e ≡ noBook → ⊥) events
 
 abbrev pub NoTwoShareArea : Type 0
 NoTwoShareArea = (events : List Event) (book : List ℤ) → FromEmpty events book
@@ -70,7 +74,7 @@ pub record TakesLowest (w : Window) (a : BookingAnswer) (before after : List ℤ
   pub among : slot < 64
   pub free : used before slot ≡ false
   pub below : (j : ℕ) → j < slot → used before j ≡ true
-  pub holds : slotAt after slot ≡ record { mark = pos 1; strip = w }
+  pub holds : slotAt after slot ≡ takenSlot w
   pub others : (j : ℕ) → (j ≡ slot → ⊥) → slotAt after j ≡ slotAt before j
 
 abbrev pub LowestFreeSlot : Type 0
@@ -84,8 +88,8 @@ StrictlyIn w p = All (λ (h : Line). Over h p) (side-lines (w .left) (w .bottom)
 pub record InBoth (v w : Window) : Type 0 where
   pub point : Point
   pub proper : Proper point
-  pub first : StrictlyIn v point
-  pub second : StrictlyIn w point
+  pub in-one : StrictlyIn v point
+  pub in-other : StrictlyIn w point
 
 abbrev pub SharesAPoint : Type 0
 SharesAPoint = (v w : Window) → WindowOnTable v → WindowOnTable w → Decides (sharesArea v w) (InBoth v w)
@@ -103,4 +107,4 @@ pub data NotABook (zs : List ℤ) : Type 0 where
       → sharesArea (slotAt zs j .strip) (slotAt zs k .strip) ≡ true → NotABook zs
 
 abbrev pub NoBookExactly : Type 0
-NoBookExactly = (before after : List ℤ) (e : Event) → InBook before e after → (number e ≡ noBook) ↔ NotABook before
+NoBookExactly = (e : Event) (before after : List ℤ) → InBook before e after → (numberAnswered e ≡ noBook) ↔ NotABook before

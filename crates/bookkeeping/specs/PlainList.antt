@@ -1,13 +1,15 @@
 -- The book as it would be kept on paper: a list of strips, each with its number, in the order of the numbers.
---   Entry                 a strip and its number
+--   Entry                 a strip and its number;  entry n w: the entry of the strip w with the number n
 --   strips es             the strips of the entries es
---   firstMissing n es     the first number from n on that no entry has, where no entry has one below n
+--   firstMissing n es     the first number from n on that no entry has, where all their numbers are from n on
 --   entered n w es        es and the strip w with the number n, in the order of the numbers
 --   has z es              an entry has the number z
---   without z es          es without the entry of the number z; just es, where there is none
---   refusalToBook w es    what one who books the strip w is told: 2, 3, 16 where a strip of the list shares area with w, 17 where there are 64
---   refusalToRelease z es    what one who releases the number z is told: 18 where no entry has it
---   answerBooking, answerRelease   the answers;  afterBooking, afterRelease: the list afterwards
+--   struckOut z es        es without the entry of the number z; just es, where there is none
+--   refusalToBook w es      why the strip w is not entered: 2, 3, 16 where a strip of the list shares area with w, 17 where there are 64
+--   answerBooking w es      what one who books w is told: the first missing number, or the refusal
+--   afterBooking w es       the list afterwards
+--   refusalToRelease z es   why nothing is struck out: 18 where no entry has the number z
+--   answerRelease z es      what one who releases z is told; the list afterwards is struckOut z es
 use mathlib.Core.Bool.{Bool}
 use mathlib.Core.List.{List, [], _∷_, map}
 use Prim.Native.Nat.{ℕ, suc}
@@ -45,19 +47,17 @@ entered n w (e ∷ es) = if ltb (e .number) n then e ∷ entered n w es else ent
 abbrev pub has : ℤ → List Entry → Bool
 has z = any (λ (e : Entry). is (e .number) z)
 
-unfoldable pub without : ℤ → List Entry → List Entry
-without z [] = []
-without z (e ∷ es) = if is (e .number) z then es else e ∷ without z es
+unfoldable pub struckOut : ℤ → List Entry → List Entry
+struckOut z [] = []
+struckOut z (e ∷ es) = if is (e .number) z then es else e ∷ struckOut z es
 
 -- ---- one who books
 
 unfoldable pub refusalToBook : Window → List Entry → Refusal
 refusalToBook w es =
-    first (
-    windowRefusal w
-    ∷ (if any (sharesArea w) (strips es) then refuse stripTaken 0 else none)
-    ∷ (if eqb (length es) 64 then refuse bookFull 0 else none)
-    ∷ [])
+    let shared = if any (sharesArea w) (strips es) then refuse stripTaken 0 else none in
+    let full = if eqb (length es) 64 then refuse bookFull 0 else none in
+    first (windowRefusal w ∷ shared ∷ full ∷ [])
 
 unfoldable pub answerBooking : Window → List Entry → BookingAnswer
 answerBooking w es = let r = refusalToBook w es in if eqb (r .number) 0 then bookedIn (firstMissing 0 es) else refusedBooking r
@@ -72,6 +72,3 @@ refusalToRelease z es = if has z es then none else refuse notInUse 0
 
 unfoldable pub answerRelease : ℤ → List Entry → ReleaseAnswer
 answerRelease z es = refusedRelease (refusalToRelease z es)
-
-unfoldable pub afterRelease : ℤ → List Entry → List Entry
-afterRelease z es = without z es

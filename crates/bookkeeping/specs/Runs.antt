@@ -17,7 +17,7 @@ use Rattle.slots.specs.Slots.{Slot, slotsOf, inUse}
 use Rattle.strip_book.specs.Books.{BookStrip, ReleaseSlot}
 use Rattle.strip_book.specs.declared.BookingAnswer.{BookingAnswer}
 use Rattle.strip_book.specs.declared.ReleaseAnswer.{ReleaseAnswer}
-use Rattle.bookkeeping.specs.PlainList.{Entry, entry, answerBooking, afterBooking, answerRelease, afterRelease}
+use Rattle.bookkeeping.specs.PlainList.{Entry, entry, answerBooking, afterBooking, answerRelease, struckOut}
 
 pub data Event : Type 0 where
   booking : Window → BookingAnswer → Event
@@ -29,7 +29,7 @@ InBook before (release z a) after = ReleaseSlot z a before after
 
 abbrev pub OnPaper : List Entry → Event → List Entry → Type 0
 OnPaper before (booking w a) after = (a ≡ answerBooking w before) × (after ≡ afterBooking w before)
-OnPaper before (release z a) after = (a ≡ answerRelease z before) × (after ≡ afterRelease z before)
+OnPaper before (release z a) after = (a ≡ answerRelease z before) × (after ≡ struckOut z before)
 
 pub data RunOfCalls {Book : Type 0} (Step : Book → Event → Book → Type 0) : Book → List Event → Book → Type 0 where
   no-call : {book : Book} → RunOfCalls Step book [] book
