@@ -12,8 +12,8 @@ use lib.ListN.{length, getD, set}
 use Rattle.whole.specs.Choice.{if_then_else_}
 use Rattle.whole.proofs.Comparisons.{tt-ff}
 use Rattle.grid.specs.declared.Window.{Window}
-use Rattle.racks.specs.Areas.{any}
-use Rattle.slots.specs.Slots.{Slot, is, inUse, stripsIn, all, lowestFree, freeSlot}
+use Rattle.racks.specs.Members.{any, all}
+use Rattle.slots.specs.Slots.{Slot, is, inUse, stripsIn, lowestFree, freeSlot}
 use Rattle.bookkeeping.specs.Laws.{takenSlot}
 use Rattle.bookkeeping.specs.PlainList.{Entry, entry, strips, firstMissing, entered, has, struckOut}
 use Rattle.bookkeeping.specs.Runs.{entriesFrom}

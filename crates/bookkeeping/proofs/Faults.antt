@@ -16,9 +16,10 @@ use Rattle.grid.specs.Refusals.{windowOff, noWindow, none, refuse, first, offTa
 use Rattle.grid.specs.Table.{firstOff, sides}
 use Rattle.grid.specs.declared.Refusal.{Refusal}
 use Rattle.grid.specs.declared.Window.{Window}
-use Rattle.racks.specs.Areas.{sharesArea, any}
+use Rattle.racks.specs.Areas.{sharesArea}
+use Rattle.racks.specs.Members.{any, all}
 use Rattle.rings.specs.Lists.{All, ∅, _◂_}
-use Rattle.slots.specs.Slots.{Slot, slotsOf, is, inUse, stripsIn, all, goodMark, slotsGood, isBook, freeSlot}
+use Rattle.slots.specs.Slots.{Slot, slotsOf, is, inUse, stripsIn, goodMark, slotsGood, isBook, freeSlot}
 use Rattle.strip_book.specs.Books.{noBook, stripTaken, bookFull, slotNotInUse}
 use Rattle.strip_book.specs.Books.{bookRefusal, clash, full, usedAt, slotRefusal, bookingRefusal, releaseRefusal}
 use Rattle.strip_book.specs.declared.BookingAnswer.{BookingAnswer}
@@ -26,7 +27,7 @@ use Rattle.strip_book.specs.declared.ReleaseAnswer.{ReleaseAnswer}
 use Rattle.bookkeeping.specs.Laws.{numberAnswered, NotABook, another-length, another-mark, refused-strip, shared-area, NoBookExactly}
 use Rattle.bookkeeping.specs.Runs.{Event, booking, release, InBook}
 use Rattle.bookkeeping.proofs.Good.{Fault, bad-mark, bad-strip, bad-areas, faulty-slots}
-use Rattle.bookkeeping.proofs.Slots.{slots-count}
+use Rattle.slots.proofs.Places.{slots-count}
 use Rattle.bookkeeping.proofs.Steps.{lent-by, book-good, book-numbers}
 
 -- ---- the tests of a mark

@@ -9,8 +9,9 @@ use lib.ListN.{length, getD}
 use Rattle.whole.specs.Choice.{if_then_else_}
 use Rattle.whole.proofs.Comparisons.{ff-tt, tt-ff}
 use Rattle.grid.specs.declared.Window.{Window}
-use Rattle.racks.specs.Areas.{sharesArea, any}
-use Rattle.slots.specs.Slots.{Slot, inUse, stripsIn, all, goodMark, goodStrip, apart, slotsGood, freeSlot}
+use Rattle.racks.specs.Areas.{sharesArea}
+use Rattle.racks.specs.Members.{any, all}
+use Rattle.slots.specs.Slots.{Slot, inUse, stripsIn, goodMark, goodStrip, apart, slotsGood, freeSlot}
 use Rattle.bookkeeping.proofs.Tests.{all-at, not-all, none-at, one-of}
 
 -- ---- tests of the strips, as tests of the slots

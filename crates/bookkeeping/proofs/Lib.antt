@@ -1,4 +1,3 @@
-pub mod Slots
 pub mod Tests
 pub mod Good
 pub mod Areas

@@ -5,7 +5,8 @@ use lib.IntN.{ℤ}
 use Rattle.grid.specs.Refusals.{first, offTable, noArea, windowRefusal}
 use Rattle.grid.specs.Table.{onTable, firstOff}
 use Rattle.grid.specs.declared.Window.{Window}
-use Rattle.racks.specs.Areas.{sharesArea, any}
+use Rattle.racks.specs.Areas.{sharesArea}
+use Rattle.racks.specs.Members.{any}
 use Rattle.strip_book.specs.declared.BookingAnswer.{BookingAnswer}
 use Rattle.strip_book.specs.declared.ReleaseAnswer.{ReleaseAnswer}
 use Rattle.bookkeeping.specs.Morning.{Morning}

@@ -15,7 +15,8 @@ use Rattle.grid.specs.Refusals.{none, refuse, first, windowRefusal}
 use Rattle.grid.specs.declared.Refusal.{Refusal}
 use Rattle.grid.specs.declared.Window.{Window}
 use Rattle.grid.proofs.Refusals.{goes-on}
-use Rattle.slots.specs.Slots.{Slot, slotsOf, inUse, all, isBook, lowestFree, freeSlot}
+use Rattle.racks.specs.Members.{all}
+use Rattle.slots.specs.Slots.{Slot, slotsOf, inUse, isBook, lowestFree, freeSlot}
 use Rattle.strip_book.specs.Books.{slotNotInUse, bookRefusal, clash, full, usedAt, slotRefusal, bookingRefusal, releaseRefusal}
 use Rattle.strip_book.specs.Books.{BookStrip, bookedIn, refusedBooking, Booked, ReleaseSlot, refusedRelease, Released}
 use Rattle.strip_book.specs.declared.BookingAnswer.{BookingAnswer}
@@ -24,7 +25,7 @@ use Rattle.bookkeeping.specs.PlainList.{Entry, firstMissing, entered, ha
 use Rattle.bookkeeping.specs.PlainList.{refusalToBook, answerBooking, afterBooking, refusalToRelease, answerRelease}
 use Rattle.bookkeeping.specs.Runs.{Event, booking, release, InBook, OnPaper, entriesFrom, entriesOf}
 use Rattle.bookkeeping.proofs.Entries.{entries-strips, entries-full, first-missing, enters, has-slot, has-negative, struck-absent, leaves}
-use Rattle.bookkeeping.proofs.Slots.{lowest-free, free-among}
+use Rattle.slots.proofs.Lowest.{lowest-free, free-among}
 use Rattle.bookkeeping.proofs.Steps.{lent-by, bookable, releasable, book-slots, slots-booked, slots-released}
 
 -- ---- the refusals

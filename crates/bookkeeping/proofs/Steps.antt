@@ -16,8 +16,9 @@ use Rattle.grid.specs.Refusals.{none, refuse, windowRefusal}
 use Rattle.grid.specs.declared.Refusal.{Refusal}
 use Rattle.grid.specs.declared.Window.{Window}
 use Rattle.grid.proofs.Refusals.{all-done}
-use Rattle.racks.specs.Areas.{sharesArea, any}
-use Rattle.slots.specs.Slots.{Slot, slotsOf, inUse, stripsIn, all, goodMark, goodStrip, slotsGood, isBook, lowestFree, freeSlot}
+use Rattle.racks.specs.Areas.{sharesArea}
+use Rattle.racks.specs.Members.{any, all}
+use Rattle.slots.specs.Slots.{Slot, slotsOf, inUse, stripsIn, goodMark, goodStrip, slotsGood, isBook, lowestFree, freeSlot}
 use Rattle.strip_book.specs.Books.{bookRefusal, clash, full, usedAt, slotRefusal, bookingRefusal, releaseRefusal, Booked, Released}
 use Rattle.strip_book.specs.declared.BookingAnswer.{BookingAnswer}
 use Rattle.strip_book.specs.declared.ReleaseAnswer.{ReleaseAnswer}
@@ -25,7 +26,8 @@ use Rattle.bookkeeping.specs.Laws.{takenSlot}
 use Rattle.bookkeeping.specs.Runs.{Event, booking, release, InBook}
 use Rattle.bookkeeping.proofs.Areas.{shares-turned}
 use Rattle.bookkeeping.proofs.Good.{Good, good-slots, slots-good, no-strip}
-use Rattle.bookkeeping.proofs.Slots.{slots-count, slots-put, free-among, used-among}
+use Rattle.slots.proofs.Lowest.{free-among}
+use Rattle.slots.proofs.Places.{slots-count, slots-put, used-among}
 
 -- ---- a call is done, or refuses
 pub lent-by : {A M G : Type 0} {blank : Refusal → A} {r : Refusal} {Done : A → M → M → Type 0} {a : A} {before after : M}

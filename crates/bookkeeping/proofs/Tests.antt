@@ -7,8 +7,7 @@ use native.Mathlib.Omega.{arith}
 use borrow.Author.Tests.{not-true, not-false}
 use lib.ListN.{length, getD}
 use Rattle.whole.proofs.Comparisons.{tt-ff}
-use Rattle.racks.specs.Areas.{any}
-use Rattle.slots.specs.Slots.{all}
+use Rattle.racks.specs.Members.{any, all}
 
 module _ {A : Type 0} (P : A → Bool) (d : A) where
   pub all-at : (xs : List A) → all P xs ≡ true → P d ≡ true → (k : ℕ) → P (getD xs k d) ≡ true

@@ -10,16 +10,17 @@ use lib.IntN.{ℤ}
 use lib.Seq.{getD-set-same, getD-set-other}
 use Rattle.grid.specs.declared.Window.{Window}
 use Rattle.racks.specs.Areas.{sharesArea}
+use Rattle.racks.specs.Members.{all}
 use Rattle.rings.specs.Lists.{All, ∅, _◂_}
-use Rattle.slots.specs.Slots.{slotsOf, stripsIn, all, apart, isBook, lowestFree, freeSlot}
+use Rattle.slots.specs.Slots.{slotsOf, stripsIn, apart, isBook, lowestFree, freeSlot, slotAt}
 use Rattle.strip_book.specs.Books.{noBook, Booked}
 use Rattle.strip_book.specs.declared.BookingAnswer.{BookingAnswer}
-use Rattle.bookkeeping.specs.Laws.{slotAt, numberAnswered, AsAPlainList, StaysABook, NeverNoBook, NoTwoShareArea, TakesLowest, LowestFreeSlot}
+use Rattle.bookkeeping.specs.Laws.{numberAnswered, AsAPlainList, StaysABook, NeverNoBook, NoTwoShareArea, TakesLowest, LowestFreeSlot}
 use Rattle.bookkeeping.specs.Runs.{Event, InBook, OnPaper, RunOfCalls, no-call, a-call, emptyBook, entriesFrom, entriesOf}
 use Rattle.bookkeeping.proofs.Areas.{shares-turned}
 use Rattle.bookkeeping.proofs.Faults.{call-never}
 use Rattle.bookkeeping.proofs.Paper.{call-on-paper}
-use Rattle.bookkeeping.proofs.Slots.{lowest-free, used-below, free-among}
+use Rattle.slots.proofs.Lowest.{lowest-free, used-below, free-among}
 use Rattle.bookkeeping.proofs.Steps.{lent-by, Bookable, bookable, book-good, book-slots, slots-booked, call-stays}
 
 -- ---- where they begin

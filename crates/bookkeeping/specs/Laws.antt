@@ -1,6 +1,5 @@
 -- Laws of the strip book over any run of calls from the empty book, and of what its definitions mean.
 --   FromEmpty events book     the book is what the events leave of the empty book
---   slotAt zs k               the slot k of a table; a free one, where there is none of that number
 --   takenSlot w               a slot in use, with the strip w
 --   used zs k                 the slot k of a table is in use
 --   numberAnswered e          the number of the refusal in an event's answer
@@ -22,7 +21,7 @@ use mathlib.Core.List.{List, []}
 use mathlib.Core.Logic.{_↔_}
 use Prim.Native.Nat.{ℕ, _<_}
 use lib.IntN.{ℤ, pos}
-use lib.ListN.{length, getD}
+use lib.ListN.{length}
 use Rattle.whole.specs.Choice.{Decides}
 use Rattle.grid.specs.Refusals.{windowRefusal}
 use Rattle.grid.specs.Sides.{Side, Beyond}
@@ -32,16 +31,13 @@ use Rattle.racks.specs.Areas.{sharesArea}
 use Rattle.rings.specs.Lists.{All}
 use Rattle.rings.specs.Points.{Point, Line, Proper, Over}
 use Rattle.rings.specs.Windows.{side-lines}
-use Rattle.slots.specs.Slots.{Slot, slotsOf, inUse, isBook, freeSlot}
+use Rattle.slots.specs.Slots.{Slot, slotAt, inUse, isBook}
 use Rattle.strip_book.specs.Books.{BookStrip, bookedIn, noBook}
 use Rattle.strip_book.specs.declared.BookingAnswer.{BookingAnswer}
 use Rattle.bookkeeping.specs.Runs.{Event, booking, release, RunOfCalls, InBook, OnPaper, emptyBook, entriesOf}
 
 abbrev pub FromEmpty : List Event → List ℤ → Type 0
 FromEmpty events book = RunOfCalls InBook emptyBook events book
-
-abbrev pub slotAt : List ℤ → ℕ → Slot
-slotAt zs k = getD (slotsOf zs) k freeSlot
 
 abbrev pub takenSlot : Window → Slot
 takenSlot w = record { mark = pos 1; strip = w }

@@ -20,7 +20,8 @@ use Rattle.whole.specs.Choice.{if_then_else_}
 use Rattle.grid.specs.Refusals.{first, none, refuse, windowRefusal}
 use Rattle.grid.specs.declared.Refusal.{Refusal}
 use Rattle.grid.specs.declared.Window.{Window}
-use Rattle.racks.specs.Areas.{sharesArea, any}
+use Rattle.racks.specs.Areas.{sharesArea}
+use Rattle.racks.specs.Members.{any}
 use Rattle.slots.specs.Slots.{is}
 use Rattle.strip_book.specs.Books.{stripTaken, bookFull, slotNotInUse, refusedBooking, bookedIn, refusedRelease}
 use Rattle.strip_book.specs.declared.BookingAnswer.{BookingAnswer}
