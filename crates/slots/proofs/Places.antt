@@ -10,7 +10,7 @@ use lib.IntN.{ℤ, pos}
 use lib.ListN.{length, drop, getD, set}
 use lib.Seq.{sets, drop-cons, getD-drop}
 use Rattle.whole.proofs.Comparisons.{ff-tt}
-use Rattle.slots.specs.Slots.{Slot, slotsOf, inUse, freeSlot}
+use Rattle.slots.specs.Slots.{Slot, slotsOf, inUse, freeSlot, slotNumbers}
 use Rattle.slots.specs.Workers.{slotIn, slotsFrom}
 
 -- how many there are: one for every five numbers
@@ -68,10 +68,7 @@ slot-at k zs s h =
 
 -- five numbers that are put at the place of a slot are that slot
 module _ (s : Slot) where
-  abbrev fiveOf : List ℤ
-  fiveOf = s .mark ∷ s .strip .left ∷ s .strip .bottom ∷ s .strip .right ∷ s .strip .top ∷ []
-
-  pub slots-put : (zs : List ℤ) (k : ℕ) → slotsOf (sets zs (5 * k) fiveOf) ≡ set (slotsOf zs) k s
+  pub slots-put : (zs : List ℤ) (k : ℕ) → slotsOf (sets zs (5 * k) (slotNumbers s)) ≡ set (slotsOf zs) k s
   unfolding slotsOf
   slots-put (m ∷ l ∷ b ∷ r ∷ t ∷ zs) zero = refl
   slots-put (m ∷ l ∷ b ∷ r ∷ t ∷ zs) (suc k) = rw (past, slots-put zs k)

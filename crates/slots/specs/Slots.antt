@@ -1,6 +1,7 @@
 -- A strip book: 64 slots of five numbers, a mark, 1 in use or 0 free, then the strip's window.
 --   Slot              a mark and a strip
 --   slotsOf zs        the slots of a table, five numbers each
+--   slotOf m w        the slot with the mark m and the strip w
 --   freeSlot          a slot that was freed: five zeros
 --   slotAt zs k       the slot k of a table; a free one, where there is none of that number
 --   is n z            the whole number z is n
@@ -9,9 +10,10 @@
 --   goodMark s        the mark of the slot s is 0 or 1
 --   goodStrip w       neither 2 nor 3 would refuse the numbers of w
 --   apart ws          no two of the strips ws share area
---   isBook zs         the table has 320 numbers, its marks are good, its strips in use are good, and no two of them share area
+--   slotsGood ss      the marks of the slots ss are good, the strips in use are good, and no two of them share area
+--   isBook zs         the table has 320 numbers, and its slots are good
 --   lowestFree ss     the place of the first slot that is not in use; how many there are, if all are
---   slotNumbers m w   the five numbers of a slot with the mark m and the strip w
+--   slotNumbers s     the five numbers of the slot s
 use mathlib.Core.Bool.{Bool, true, false, not, _&&_, _||_}
 use mathlib.Core.List.{List, [], _∷_}
 use Prim.Native.Nat.{ℕ, suc}
@@ -37,8 +39,11 @@ slotsOf (m ∷ l ∷ []) = []
 slotsOf (m ∷ []) = []
 slotsOf [] = []
 
+abbrev pub slotOf : ℕ → Window → Slot
+slotOf m w = record { mark = pos m; strip = w }
+
 abbrev pub freeSlot : Slot
-freeSlot = record { mark = pos 0; strip = record { left = pos 0; bottom = pos 0; right = pos 0; top = pos 0 } }
+freeSlot = slotOf 0 (record { left = pos 0; bottom = pos 0; right = pos 0; top = pos 0 })
 
 abbrev pub slotAt : List ℤ → ℕ → Slot
 slotAt zs k = getD (slotsOf zs) k freeSlot
@@ -78,5 +83,5 @@ unfoldable pub lowestFree : List Slot → ℕ
 lowestFree [] = 0
 lowestFree (s ∷ ss) = if inUse s then suc (lowestFree ss) else 0
 
-abbrev pub slotNumbers : ℕ → Window → List ℤ
-slotNumbers m w = pos m ∷ sides w
+abbrev pub slotNumbers : Slot → List ℤ
+slotNumbers s = s .mark ∷ sides (s .strip)

@@ -5,7 +5,7 @@ ghost use Prim.Native.Nat.{_+_, _*_, _≤_, _<_};
 ghost use lib.ListN.{length};
 ghost use lib.Seq.{sets, slice};
 ghost use Rattle.racks.specs.Racks.{Holds};
-ghost use Rattle.slots.specs.Slots.{slotsOf, slotAt, inUse, lowestFree, slotNumbers};
+ghost use Rattle.slots.specs.Slots.{slotsOf, slotOf, slotAt, inUse, lowestFree, slotNumbers};
 ghost use Rattle.slots.specs.Workers.{stripIn, slotsFrom, OnRack, Tests, BookTest};
 use grid::Window;
 
@@ -108,7 +108,7 @@ pub fn lowest_free(book: &[i32], from: usize, to: usize) -> usize
 // Puts a mark and a strip in the slot k.
 pub fn put(book: &mut [i32], k: usize, mark: u8, w: Window)
     requires { ⌜ 5 * k + 5 ≤ length (now book) ⌝ }
-    ensures { λ _. ⌜ now (book .exit) ≡ sets (now (book .entry)) (5 * k) (slotNumbers mark w) ⌝ }
+    ensures { λ _. ⌜ now (book .exit) ≡ sets (now (book .entry)) (5 * k) (slotNumbers (slotOf mark w)) ⌝ }
 {
     let left = w.left;
     let bottom = w.bottom;

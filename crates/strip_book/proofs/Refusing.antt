@@ -22,7 +22,7 @@ use Rattle.racks.specs.Members.{any, all}
 use Rattle.slots.specs.Slots.{Slot, slotsOf, stripsIn, inUse, slotsGood, isBook, lowestFree, freeSlot}
 use Rattle.slots.proofs.Lowest.{free-among, lowest-none}
 use Rattle.slots.proofs.Places.{slots-count}
-use Rattle.strip_book.specs.Books.{noBook, stripTaken, bookFull, slotNotInUse, bookRefusal, clash, full, usedAt, slotRefusal, bookingRefusal, releaseRefusal}
+use Rattle.strip_book.specs.Books.{noBook, stripTaken, bookFull, slotNotInUse, tableRefusal, clash, full, usedAt, slotRefusal, bookingRefusal, releaseRefusal}
 
 -- ---- a book
 pub book-long : (zs : List ℤ) → isBook zs ≡ true → length zs ≡ 320
@@ -59,41 +59,41 @@ module _ (zs : List ℤ) (h : length zs ≡ 320) where
 -- ---- what booking refuses
 module _ (w : Window) (zs : List ℤ) where
   pub refuses-table : isBook zs ≡ false → bookingRefusal w zs ≡ refuse noBook 0
-  unfolding bookingRefusal bookRefusal first
+  unfolding bookingRefusal tableRefusal first
   refuses-table e = rw e
 
   module _ (b : isBook zs ≡ true) where
     pub refuses-window : (windowRefusal w .number ≡ 0 → ⊥) → bookingRefusal w zs ≡ windowRefusal w
-    unfolding bookingRefusal bookRefusal
+    unfolding bookingRefusal tableRefusal
     refuses-window n = goes-on _ _ (ap (λ (b : Bool). (if b then none else refuse noBook 0) .number) b) ∙ stops _ _ n
 
     module _ (f : windowRefusal w .number ≡ 0) where
       pub refuses-clash : any (sharesArea w) (stripsIn (slotsOf zs)) ≡ true → bookingRefusal w zs ≡ refuse stripTaken 0
-      unfolding bookingRefusal bookRefusal clash first
+      unfolding bookingRefusal tableRefusal clash first
       refuses-clash e = rw (b, f, e)
 
       module _ (c : any (sharesArea w) (stripsIn (slotsOf zs)) ≡ false) where
         pub refuses-full : all inUse (slotsOf zs) ≡ true → bookingRefusal w zs ≡ refuse bookFull 0
-        unfolding bookingRefusal bookRefusal clash full first
+        unfolding bookingRefusal tableRefusal clash full first
         refuses-full e = rw (b, f, c, e)
 
         pub books : all inUse (slotsOf zs) ≡ false → bookingRefusal w zs .number ≡ 0
-        unfolding bookingRefusal bookRefusal clash full first
+        unfolding bookingRefusal tableRefusal clash full first
         books e = rw (b, f, c, e)
 
 -- ---- what releasing refuses
 module _ (z : ℤ) (zs : List ℤ) where
   pub refuses-release : isBook zs ≡ false → releaseRefusal z zs ≡ refuse noBook 0
-  unfolding releaseRefusal bookRefusal first
+  unfolding releaseRefusal tableRefusal first
   refuses-release e = rw e
 
   module _ (b : isBook zs ≡ true) where
     pub refuses-slot : usedAt (slotsOf zs) z ≡ false → releaseRefusal z zs ≡ refuse slotNotInUse 0
-    unfolding releaseRefusal bookRefusal slotRefusal first
+    unfolding releaseRefusal tableRefusal slotRefusal first
     refuses-slot e = rw (b, e)
 
     pub releases : usedAt (slotsOf zs) z ≡ true → releaseRefusal z zs .number ≡ 0
-    unfolding releaseRefusal bookRefusal slotRefusal first
+    unfolding releaseRefusal tableRefusal slotRefusal first
     releases e = rw (b, e)
 
 -- ---- the slot of a number

@@ -1,6 +1,6 @@
 -- What the calls of the strip book promise. Their memory is the lent table, before and after.
 --   noBook, stripTaken, bookFull, slotNotInUse   the numbers of the book's own refusals; the place of each is 0
---   bookRefusal zs         23 where the table zs is no book
+--   tableRefusal zs        23 where the table zs is no book
 --   clash w zs             16 where an entered strip shares area with w
 --   full zs                17 where all slots are taken
 --   usedAt ss z            the slot z is one of ss, and in use
@@ -8,17 +8,17 @@
 --   bookingRefusal w zs    what booking refuses: 23, 2, 3, 16, then 17
 --   releaseRefusal z zs    what releasing refuses: 23, then 18
 --   refusedBooking r       the answer of a booking that refuses by r;  bookedIn k: of one that enters the strip in the slot k
---   refusedRelease r       the answer of a release that refuses by r
---   Booked w a before after     the lowest free slot is answered, and holds a mark of 1 and the strip w
+--   releaseAnswer r        the answer of a release: it refuses by r, or is done where r refuses nothing
+--   Booked w a before after     the lowest free slot is answered, and then holds a mark of 1 and the strip w; the rest is as it was
 --   BookStrip w a before after  what `strip_book::book_strip` promises of its answer and of the book before and after
---   Released z a before after   the slot z holds five zeros
+--   Released z a before after   the slot z then holds five zeros; the rest is as it was
 --   ReleaseSlot z a before after   what `strip_book::release_slot` promises
 use mathlib.Core.Path.{_≡_}
 use mathlib.Core.Bool.{Bool, false}
 use mathlib.Core.List.{List, [], _∷_}
 use Prim.Native.Nat.{ℕ, _*_}
 use lib.IntN.{ℤ, pos, negsuc, natAbs}
-use lib.ListN.{getD, replicate}
+use lib.ListN.{getD}
 use lib.Seq.{sets}
 use Rattle.whole.specs.Choice.{if_then_else_}
 use Rattle.grid.specs.Calls.{Lent}
@@ -27,7 +27,7 @@ use Rattle.grid.specs.declared.Refusal.{Refusal}
 use Rattle.grid.specs.declared.Window.{Window}
 use Rattle.racks.specs.Areas.{sharesArea}
 use Rattle.racks.specs.Members.{any, all}
-use Rattle.slots.specs.Slots.{Slot, slotsOf, stripsIn, inUse, isBook, lowestFree, slotNumbers, freeSlot}
+use Rattle.slots.specs.Slots.{Slot, slotsOf, stripsIn, inUse, isBook, lowestFree, slotNumbers, slotOf, freeSlot}
 use Rattle.strip_book.specs.declared.BookingAnswer.{BookingAnswer}
 use Rattle.strip_book.specs.declared.ReleaseAnswer.{ReleaseAnswer}
 
@@ -47,8 +47,8 @@ slotNotInUse = 18  --          the slot is not in use or not in 0 to 63
 
 -- ---- refusals
 
-unfoldable pub bookRefusal : List ℤ → Refusal
-bookRefusal zs = if isBook zs then none else refuse noBook 0
+unfoldable pub tableRefusal : List ℤ → Refusal
+tableRefusal zs = if isBook zs then none else refuse noBook 0
 
 unfoldable pub clash : Window → List ℤ → Refusal
 clash w zs = if any (sharesArea w) (stripsIn (slotsOf zs)) then refuse stripTaken 0 else none
@@ -64,10 +64,10 @@ unfoldable pub slotRefusal : ℤ → List ℤ → Refusal
 slotRefusal z zs = if usedAt (slotsOf zs) z then none else refuse slotNotInUse 0
 
 unfoldable pub bookingRefusal : Window → List ℤ → Refusal
-bookingRefusal w zs = first (bookRefusal zs ∷ windowRefusal w ∷ clash w zs ∷ full zs ∷ [])
+bookingRefusal w zs = first (tableRefusal zs ∷ windowRefusal w ∷ clash w zs ∷ full zs ∷ [])
 
 unfoldable pub releaseRefusal : ℤ → List ℤ → Refusal
-releaseRefusal z zs = first (bookRefusal zs ∷ slotRefusal z zs ∷ [])
+releaseRefusal z zs = first (tableRefusal zs ∷ slotRefusal z zs ∷ [])
 
 -- ---- a strip is booked
 
@@ -79,19 +79,19 @@ bookedIn k = record { number = 0; place = 0; slot = pos k }
 
 pub record Booked (w : Window) (a : BookingAnswer) (before after : List ℤ) : Type 0 where
   pub answer : a ≡ bookedIn (lowestFree (slotsOf before))
-  pub book : after ≡ sets before (5 * lowestFree (slotsOf before)) (slotNumbers 1 w)
+  pub book : after ≡ sets before (5 * lowestFree (slotsOf before)) (slotNumbers (slotOf 1 w))
 
 abbrev pub BookStrip : Window → BookingAnswer → List ℤ → List ℤ → Type 0
 BookStrip w a before after = Lent refusedBooking (bookingRefusal w before) (Booked w) a before after
 
 -- ---- a slot is released
 
-abbrev pub refusedRelease : Refusal → ReleaseAnswer
-refusedRelease r = record { number = r .number; place = r .place }
+abbrev pub releaseAnswer : Refusal → ReleaseAnswer
+releaseAnswer r = record { number = r .number; place = r .place }
 
 pub record Released (z : ℤ) (a : ReleaseAnswer) (before after : List ℤ) : Type 0 where
-  pub answer : a ≡ refusedRelease none
-  pub book : after ≡ sets before (5 * natAbs z) (replicate 5 (pos 0))
+  pub answer : a ≡ releaseAnswer none
+  pub book : after ≡ sets before (5 * natAbs z) (slotNumbers freeSlot)
 
 abbrev pub ReleaseSlot : ℤ → ReleaseAnswer → List ℤ → List ℤ → Type 0
-ReleaseSlot z a before after = Lent refusedRelease (releaseRefusal z before) (Released z) a before after
+ReleaseSlot z a before after = Lent releaseAnswer (releaseRefusal z before) (Released z) a before after

@@ -3,7 +3,7 @@ ghost use mathlib.Core.Path.{_≡_};
 ghost use lib.ListN.{length};
 ghost use Rattle.grid.specs.Refusals.{refuse};
 ghost use Rattle.slots.specs.Slots.{slotsOf};
-ghost use Rattle.strip_book.specs.Books.{usedAt, refusedBooking, BookStrip, refusedRelease, ReleaseSlot};
+ghost use Rattle.strip_book.specs.Books.{usedAt, refusedBooking, BookStrip, releaseAnswer, ReleaseSlot};
 use grid::Refusal;
 use grid::Window;
 use slots::Tested;
@@ -50,9 +50,9 @@ fn refused_booking(r: Refusal) -> BookingAnswer
     }
 }
 
-// The answer of a release that refuses; number 0 refuses nothing.
-fn refused_release(number: u8) -> ReleaseAnswer
-    ensures { λ a. ⌜ a ≡ refusedRelease (refuse number 0) ⌝ }
+// The answer of a release: refused by this number, or done where it is 0.
+fn release_answer(number: u8) -> ReleaseAnswer
+    ensures { λ a. ⌜ a ≡ releaseAnswer (refuse number 0) ⌝ }
 {
     ReleaseAnswer { number, place: 0 }
 }
@@ -109,10 +109,10 @@ pub fn release_slot(book: &mut [i32], slot: i32) -> ReleaseAnswer
     let mut rack = [racks::VACANT; 256];
     let tested = slots::test_book(book, &mut rack);
     let Tested::Good(n) = tested else {
-        return refused_release(NO_BOOK);
+        return release_answer(NO_BOOK);
     };
     if !used_at(book, slot) {
-        return refused_release(SLOT_NOT_IN_USE);
+        return release_answer(SLOT_NOT_IN_USE);
     }
     let nothing = Window {
         left: 0,
@@ -121,5 +121,5 @@ pub fn release_slot(book: &mut [i32], slot: i32) -> ReleaseAnswer
         top: 0,
     };
     slots::put(book, slot as usize, 0, nothing);
-    refused_release(0)
+    release_answer(0)
 }

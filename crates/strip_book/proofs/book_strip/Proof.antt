@@ -19,7 +19,7 @@ use Rattle.grid.proofs.Refusals.{window-on-table}
 use Rattle.racks.specs.Areas.{sharesArea}
 use Rattle.racks.specs.Members.{any}
 use Rattle.racks.proofs.Holding.{vacant-holds}
-use Rattle.slots.specs.Slots.{slotsOf, stripsIn, isBook, lowestFree, slotNumbers}
+use Rattle.slots.specs.Slots.{slotsOf, stripsIn, isBook, lowestFree, slotOf, slotNumbers}
 use Rattle.slots.proofs.Testing.{found-faulty, found-good}
 use Rattle.strip_book.specs.declared.BookingAnswer.{BookingAnswer}
 use Rattle.strip_book.proofs.Refusing.{book-long, lowest-of-all, all-used, not-all-used, refuses-table, refuses-window, refuses-clash, refuses-full, books}
@@ -175,7 +175,7 @@ returns-5 c =
     lent-done (books (window k) (book k) (sound k) (fine (e .before .before .before)) (clear e) (n .0))
     (record {
       answer = ap in-slot (toZ-pos w32 (omega (arith, lower t)) ∙ ap pos (found f));
-      book = c .before .put .ensures ∙ ap (λ (j : ℕ). sets (book k) (5 * j) (slotNumbers 1 (window k))) (found f);
+      book = c .before .put .ensures ∙ ap (λ (j : ℕ). sets (book k) (5 * j) (slotNumbers (slotOf 1 (window k)))) (found f);
     })
 
 pub book-strip-spec : {M : Type 1} → statement M

@@ -8,7 +8,7 @@ use borrow.Author.Needs.{needs}
 use borrow.Author.Tests.{not-true, not-false}
 use denote.Ref.{now}
 use lib.IntN.{ℤ, pos, natAbs}
-use lib.ListN.{length, replicate}
+use lib.ListN.{length}
 use lib.Seq.{sets}
 use lib.Signed.{_≤ℤ_}
 use mir.Syntax.{w32, w64}
@@ -17,7 +17,7 @@ use mir.Facts.{toZ-ofZ}
 use Rattle.whole.proofs.Comparisons.{cast-unsigned}
 use Rattle.grid.proofs.Calls.{lent-refused, lent-done}
 use Rattle.racks.proofs.Holding.{vacant-holds}
-use Rattle.slots.specs.Slots.{slotsOf, isBook}
+use Rattle.slots.specs.Slots.{slotsOf, isBook, slotNumbers, freeSlot}
 use Rattle.slots.proofs.Testing.{found-faulty, found-good}
 use Rattle.strip_book.specs.Books.{usedAt}
 use Rattle.strip_book.proofs.Refusing.{book-long, refuses-release, refuses-slot, releases, used-there}
@@ -33,8 +33,8 @@ enum-known-tested c = search needs
 enum-told : tie.Need-enum-told
 enum-told c = search needs
 
-refused-release-requires : tie.Need-refused-release-requires
-refused-release-requires c κs = search needs
+release-answer-requires : tie.Need-release-answer-requires
+release-answer-requires c κs = search needs
 
 same-length : tie.Need-same-length
 same-length c = search needs
@@ -43,7 +43,7 @@ returns : tie.Need-returns
 returns c =
     let b = c .before .before .before in
     let a = b .before .before .before in
-    rw (c .refused-release .ensures)
+    rw (c .release-answer .ensures)
     (lent-refused (refuses-release (a .args .slot) (now (a .args .book)) (found-faulty (c .before .enum-told .given .1) (b .test-book .ensures))) (λ e. omega arith))
 
 -- ---- it is a book
@@ -69,8 +69,8 @@ told c = let k = c .before .before in c .used-at .ensures ∙ ap (usedAt (slotsO
 used-at-requires : tie.Need-used-at-requires
 used-at-requires c κs = long (c .before)
 
-refused-release-requires-2 : tie.Need-refused-release-requires-2
-refused-release-requires-2 c κs = search needs
+release-answer-requires-2 : tie.Need-release-answer-requires-2
+release-answer-requires-2 c κs = search needs
 
 same-length-2 : tie.Need-same-length-2
 same-length-2 c = search needs
@@ -79,7 +79,7 @@ returns-2 : tie.Need-returns-2
 returns-2 c =
     let u = c .before .before in
     let k = u .before .before in
-    rw (c .refused-release2 .ensures)
+    rw (c .release-answer2 .ensures)
     (lent-refused (refuses-slot (slot k) (book k) (sound k) (sym (told u) ∙ not-true _ (c .before .if1 .taken))) (λ e. omega arith))
 
 -- ---- and the slot is in use
@@ -95,8 +95,8 @@ cast-put c = cast-unsigned w32 (fits (c .before .before .before .before)) (there
 put-requires : tie.Need-put-requires
 put-requires c κs = omega (arith, there (c .before) .1, long (c .before .before .before .before), ap natAbs (toZ-ofZ (fits (c .before .before .before .before))))
 
-refused-release-requires-3 : tie.Need-refused-release-requires-3
-refused-release-requires-3 c κs = search needs
+release-answer-requires-3 : tie.Need-release-answer-requires-3
+release-answer-requires-3 c κs = search needs
 
 same-length-3 : tie.Need-same-length-3
 same-length-3 c = search needs
@@ -105,11 +105,11 @@ returns-3 : tie.Need-returns-3
 returns-3 c =
     let e = c .before .before .before .before in
     let k = e .before .before .before in
-    rw (c .refused-release3 .ensures)
+    rw (c .release-answer3 .ensures)
     (lent-done (releases (slot k) (book k) (sound k) (used e))
     (record {
       answer = refl;
-      book = c .before .before .put .ensures ∙ ap (λ (z : ℤ). sets (book k) (5 * natAbs z) (replicate 5 (pos 0))) (toZ-ofZ (fits k));
+      book = c .before .before .put .ensures ∙ ap (λ (z : ℤ). sets (book k) (5 * natAbs z) (slotNumbers freeSlot)) (toZ-ofZ (fits k));
     }))
 
 pub release-slot-spec : {M : Type 1} → statement M
@@ -119,15 +119,15 @@ release-slot-spec =
     test-book-requires
     enum-known-tested
     enum-told
-    refused-release-requires
+    release-answer-requires
     same-length
     returns
     used-at-requires
-    refused-release-requires-2
+    release-answer-requires-2
     same-length-2
     returns-2
     cast-put
     put-requires
-    refused-release-requires-3
+    release-answer-requires-3
     same-length-3
     returns-3)
