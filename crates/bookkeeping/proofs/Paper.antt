@@ -1,19 +1,21 @@
 -- A call on a book is the same call on paper: it is refused there by the same refusal, and where it is not, the same number is given and freed.
+-- The other way round, a call on paper is one on the book, since there each call has a result.
 use mathlib.Core.Path.{_≡_, refl, sym, ap, _∙_, subst}
 use mathlib.Core.Bool.{Bool, true, false}
 use mathlib.Core.List.{List, [], _∷_}
 use Prim.Native.Nat.{ℕ}
 use native.Mathlib.Nat.{zero-add}
-use borrow.Author.Tests.{eq-eqb, ne-eqb}
+use borrow.Author.Tests.{eq-eqb, ne-eqb, eqb-true, eqb-false}
 use lib.Dec.{eqb}
 use lib.IntN.{ℤ, pos, negsuc, natAbs}
 use lib.ListN.{length, set}
 use Rattle.whole.specs.Choice.{if_then_else_}
 use Rattle.whole.proofs.Comparisons.{ff-tt}
-use Rattle.grid.specs.Calls.{Refused}
+use Rattle.grid.specs.Calls.{Refused, Lent}
 use Rattle.grid.specs.Refusals.{none, refuse, first, windowRefusal}
 use Rattle.grid.specs.declared.Refusal.{Refusal}
 use Rattle.grid.specs.declared.Window.{Window}
+use Rattle.grid.proofs.Calls.{lent-refused, lent-done}
 use Rattle.grid.proofs.Refusals.{goes-on}
 use Rattle.racks.specs.Members.{all}
 use Rattle.slots.specs.Slots.{Slot, slotsOf, inUse, isBook, lowestFree, freeSlot}
@@ -141,3 +143,23 @@ pub call-on-paper : (e : Event) (before after : List ℤ) → InBook before e af
     → OnPaper (entriesOf before) e (entriesOf after)
 call-on-paper (booking w a) before after p b = booking-on-paper w a before after b p
 call-on-paper (release z a) before after p b = release-on-paper z a before after b p
+
+-- ---- the other way round: a call has a result, which is the one on paper
+has-result : {A M : Type 0} (blank : Refusal → A) (r : Refusal) (Done : A → M → M → Type 0) {a : A} {before after : M} → Done a before after
+    → (answer : A) × (afterwards : M) × Lent blank r Done answer before afterwards
+has-result {A} {M} blank r Done {a} {before} {after} d = go (eqb (r .number) 0) refl
+  where
+    go : (b : Bool) → eqb (r .number) 0 ≡ b → (answer : A) × (afterwards : M) × Lent blank r Done answer before afterwards
+    go true e = (a, after, lent-done (eqb-true (r .number) 0 e) d)
+    go false e = (blank r, before, lent-refused refl (eqb-false (r .number) 0 e))
+
+pub call-in-book : (e : Event) (before : List ℤ) (es : List Entry) → OnPaper (entriesOf before) e es → isBook before ≡ true
+    → (after : List ℤ) × InBook before e after × (entriesOf after ≡ es)
+call-in-book (booking w a) before es p b =
+    let r = has-result refusedBooking (bookingRefusal w before) (Booked w) (record { answer = refl; book = refl }) in
+    let q = booking-on-paper w (r .0) before (r .1) b (r .2) in
+    (r .1, subst (λ x. BookStrip w x before (r .1)) (q .0 ∙ sym (p .0)) (r .2), q .1 ∙ sym (p .1))
+call-in-book (release z a) before es p b =
+    let r = has-result refusedRelease (releaseRefusal z before) (Released z) (record { answer = refl; book = refl }) in
+    let q = release-on-paper z (r .0) before (r .1) b (r .2) in
+    (r .1, subst (λ x. ReleaseSlot z x before (r .1)) (q .0 ∙ sym (p .0)) (r .2), q .1 ∙ sym (p .1))

@@ -15,11 +15,13 @@ use Rattle.rings.specs.Lists.{All, ∅, _◂_}
 use Rattle.slots.specs.Slots.{slotsOf, stripsIn, apart, isBook, lowestFree, freeSlot, slotAt}
 use Rattle.strip_book.specs.Books.{noBook, Booked}
 use Rattle.strip_book.specs.declared.BookingAnswer.{BookingAnswer}
-use Rattle.bookkeeping.specs.Laws.{numberAnswered, AsAPlainList, StaysABook, NeverNoBook, NoTwoShareArea, TakesLowest, LowestFreeSlot}
+use Rattle.bookkeeping.specs.Laws.{AsAPlainList, EachRunOnPaper, StaysABook, numberAnswered, NeverNoBook, NoTwoShareArea}
+use Rattle.bookkeeping.specs.Laws.{TakesLowest, LowestFreeSlot}
+use Rattle.bookkeeping.specs.PlainList.{Entry}
 use Rattle.bookkeeping.specs.Runs.{Event, InBook, OnPaper, RunOfCalls, no-call, a-call, emptyBook, entriesFrom, entriesOf}
 use Rattle.bookkeeping.proofs.Areas.{shares-turned}
 use Rattle.bookkeeping.proofs.Faults.{call-never}
-use Rattle.bookkeeping.proofs.Paper.{call-on-paper}
+use Rattle.bookkeeping.proofs.Paper.{call-on-paper, call-in-book}
 use Rattle.slots.proofs.Lowest.{lowest-free, used-below, free-among}
 use Rattle.bookkeeping.proofs.Steps.{lent-by, Bookable, bookable, book-good, book-slots, slots-booked, call-stays}
 
@@ -43,6 +45,15 @@ run-on-paper no-call b = no-call
 run-on-paper (a-call {before} {between} {e = e} p r) b =
     a-call (call-on-paper e before between p b) (run-on-paper r (call-stays e before between p b))
 
+run-in-book : {es es′ : List Entry} {events : List Event} → RunOfCalls OnPaper es events es′
+    → (before : List ℤ) → isBook before ≡ true → entriesOf before ≡ es
+    → (after : List ℤ) × RunOfCalls InBook before events after × (entriesOf after ≡ es′)
+run-in-book no-call before b q = (before, no-call, q)
+run-in-book (a-call {between} {e = e} p r) before b q =
+    let c = call-in-book e before between (subst (λ es. OnPaper es e between) (sym q) p) b in
+    let d = run-in-book r (c .0) (call-stays e before (c .0) (c .1) b) (c .2) in
+    (d .0, a-call (c .1) (d .1), d .2)
+
 run-never : {before after : List ℤ} {events : List Event} → RunOfCalls InBook before events after → isBook before ≡ true
     → All (λ (e : Event). numberAnswered e ≡ noBook → ⊥) events
 run-never no-call b = ∅
@@ -54,6 +65,9 @@ stays-a-book events book r = run-stays r empty-is-a-book
 
 pub as-a-plain-list : AsAPlainList
 as-a-plain-list events book r = subst (λ es. RunOfCalls OnPaper es events (entriesOf book)) empty-has-none (run-on-paper r empty-is-a-book)
+
+pub each-run-on-paper : EachRunOnPaper
+each-run-on-paper events es r = run-in-book r emptyBook empty-is-a-book empty-has-none
 
 pub never-no-book : NeverNoBook
 never-no-book events book r = run-never r empty-is-a-book

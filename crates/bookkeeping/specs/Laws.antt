@@ -4,6 +4,7 @@
 --   used zs k                 the slot k of a table is in use
 --   numberAnswered e          the number of the refusal in an event's answer
 --   AsAPlainList      whatever is called, the book answers as the list on paper, and its entries are that list
+--   EachRunOnPaper    the other way round: each run on paper is a run of the book, whose entries are then the list
 --   StaysABook        it is a book after any run of calls
 --   NeverNoBook       23 is never answered
 --   NoTwoShareArea    no two entered strips share area
@@ -34,6 +35,7 @@ use Rattle.rings.specs.Windows.{side-lines}
 use Rattle.slots.specs.Slots.{Slot, slotAt, inUse, isBook}
 use Rattle.strip_book.specs.Books.{BookStrip, bookedIn, noBook}
 use Rattle.strip_book.specs.declared.BookingAnswer.{BookingAnswer}
+use Rattle.bookkeeping.specs.PlainList.{Entry}
 use Rattle.bookkeeping.specs.Runs.{Event, booking, release, RunOfCalls, InBook, OnPaper, emptyBook, entriesOf}
 
 abbrev pub FromEmpty : List Event → List ℤ → Type 0
@@ -53,6 +55,10 @@ numberAnswered (release z a) = a .number
 
 abbrev pub AsAPlainList : Type 0
 AsAPlainList = (events : List Event) (book : List ℤ) → FromEmpty events book → RunOfCalls OnPaper [] events (entriesOf book)
+
+abbrev pub EachRunOnPaper : Type 0
+EachRunOnPaper = (events : List Event) (es : List Entry) → RunOfCalls OnPaper [] events es
+    → (book : List ℤ) × FromEmpty events book × (entriesOf book ≡ es)
 
 abbrev pub StaysABook : Type 0
 StaysABook = (events : List Event) (book : List ℤ) → FromEmpty events book → isBook book ≡ true
