@@ -1,5 +1,5 @@
 -- Over any run of calls: by induction on it, since a call on a book leaves a book, answers as on paper, and never answers 23.
-use mathlib.Core.Path.{_≡_, refl, sym, ap, subst, _∙_}
+use mathlib.Core.Path.{_≡_, refl, sym, subst, _∙_}
 use mathlib.Core.Bool.{Bool, true, false}
 use mathlib.Core.List.{List, []}
 use Prim.Native.Nat.{_<_}
@@ -13,17 +13,17 @@ use Rattle.racks.specs.Areas.{sharesArea}
 use Rattle.racks.specs.Members.{all}
 use Rattle.rings.specs.Lists.{All, ∅, _◂_}
 use Rattle.slots.specs.Slots.{slotsOf, stripsIn, apart, isBook, lowestFree, freeSlot, slotAt}
+use Rattle.slots.proofs.Lowest.{lowest-free, used-below, free-among}
 use Rattle.strip_book.specs.Books.{noBook, Booked}
 use Rattle.strip_book.specs.declared.BookingAnswer.{BookingAnswer}
 use Rattle.bookkeeping.specs.Laws.{AsAPlainList, EachRunOnPaper, StaysABook, numberAnswered, NeverNoBook, NoTwoShareArea}
 use Rattle.bookkeeping.specs.Laws.{TakesLowest, LowestFreeSlot}
 use Rattle.bookkeeping.specs.PlainList.{Entry}
-use Rattle.bookkeeping.specs.Runs.{Event, InBook, OnPaper, RunOfCalls, no-call, a-call, emptyBook, entriesFrom, entriesOf}
+use Rattle.bookkeeping.specs.Runs.{Event, booking, InBook, OnPaper, RunOfCalls, no-call, a-call, emptyBook, entriesFrom, entriesOf}
 use Rattle.bookkeeping.proofs.Areas.{shares-turned}
 use Rattle.bookkeeping.proofs.Faults.{call-never}
 use Rattle.bookkeeping.proofs.Paper.{call-on-paper, call-in-book}
-use Rattle.slots.proofs.Lowest.{lowest-free, used-below, free-among}
-use Rattle.bookkeeping.proofs.Steps.{lent-by, Bookable, bookable, book-good, book-slots, slots-booked, call-stays}
+use Rattle.bookkeeping.proofs.Steps.{number-refused, Bookable, bookable, book-good, book-slots, slots-booked, call-stays}
 
 -- ---- where they begin
 empty-is-a-book : isBook emptyBook ≡ true
@@ -98,4 +98,5 @@ takes-lowest {w} {a} {before} {after} b d =
 
 pub lowest-free-slot : LowestFreeSlot
 lowest-free-slot w a before after p z =
-    lent-by p (λ z d. takes-lowest (bookable w before z) d) (λ n q. absurd (n (sym (ap (λ (x : BookingAnswer). x .number) (q .answer)) ∙ z)))
+    let done = sym (number-refused (booking w a) before after p) ∙ z in
+    takes-lowest (bookable w before done) (p .done done)
