@@ -26,7 +26,7 @@ use Rattle.strip_book.specs.Books.{bookRefusal, clash, full, usedAt, slotRefusa
 use Rattle.strip_book.specs.declared.BookingAnswer.{BookingAnswer}
 use Rattle.strip_book.specs.declared.ReleaseAnswer.{ReleaseAnswer}
 use Rattle.strip_book.proofs.Refusing.{book-long}
-use Rattle.bookkeeping.specs.Laws.{takenSlot, numberAnswered}
+use Rattle.bookkeeping.specs.Laws.{usedSlot, numberAnswered}
 use Rattle.bookkeeping.specs.Runs.{Event, booking, release, InBook}
 use Rattle.bookkeeping.proofs.Areas.{shares-turned}
 use Rattle.bookkeeping.proofs.Good.{Good, good-slots, slots-good, no-strip}
@@ -142,8 +142,8 @@ module _ (ss : List Slot) (k : ℕ) (among : k < length ss) (s : Slot) where
 
 -- ---- the slots after a call
 pub slots-booked : {w : Window} {a : BookingAnswer} {before after : List ℤ} → Booked w a before after
-    → slotsOf after ≡ set (slotsOf before) (lowestFree (slotsOf before)) (takenSlot w)
-slots-booked {w} {a} {before} h = ap slotsOf (h .book) ∙ slots-put (takenSlot w) before (lowestFree (slotsOf before))
+    → slotsOf after ≡ set (slotsOf before) (lowestFree (slotsOf before)) (usedSlot w)
+slots-booked {w} {a} {before} h = ap slotsOf (h .book) ∙ slots-put (usedSlot w) before (lowestFree (slotsOf before))
 
 pub slots-released : {z : ℤ} {a : ReleaseAnswer} {before after : List ℤ} → Released z a before after
     → slotsOf after ≡ set (slotsOf before) (natAbs z) freeSlot
@@ -155,7 +155,7 @@ booked-book {w} {a} {before} {after} b h =
     let ss = slotsOf before in
     let g = book-good before (b .book) in
     let n = lowestFree ss in
-    let good = change-good ss n (free-among ss (b .room)) (takenSlot w) g refl (λ u. b .good) (λ u. no-strip (sharesArea w) ss (b .clear)) in
+    let good = change-good ss n (free-among ss (b .room)) (usedSlot w) g refl (λ u. b .good) (λ u. no-strip (sharesArea w) ss (b .clear)) in
     good-book before after (b .book)
     (ap length (h .book) ∙ simp length-sets)
     (subst Good (sym (slots-booked h)) good)

@@ -1,6 +1,6 @@
 -- Laws of the strip book over any run of calls from the empty book, and of what its definitions mean.
 --   FromEmpty events book     the book is what the events leave of the empty book
---   takenSlot w               a slot in use, with the strip w
+--   usedSlot w                a slot in use, with the strip w
 --   numberAnswered e          the number of the refusal in an event's answer
 --   AsAPlainList      whatever is called, the book answers as the list on paper, and its entries are that list
 --   EachRunOnPaper    the other way round: each run on paper is a run of the book, whose entries are then the list
@@ -40,8 +40,8 @@ use Rattle.bookkeeping.specs.Runs.{Event, booking, release, RunOfCalls, 
 abbrev pub FromEmpty : List Event → List ℤ → Type 0
 FromEmpty events book = RunOfCalls InBook emptyBook events book
 
-abbrev pub takenSlot : Window → Slot
-takenSlot w = record { mark = pos 1; strip = w }
+abbrev pub usedSlot : Window → Slot
+usedSlot w = record { mark = pos 1; strip = w }
 
 abbrev pub numberAnswered : Event → ℕ
 numberAnswered (booking w a) = a .number
@@ -73,7 +73,7 @@ pub record TakesLowest (w : Window) (a : BookingAnswer) (before after : List ℤ
   pub among : slot < 64
   pub free : inUse (slotAt before slot) ≡ false
   pub below : (j : ℕ) → j < slot → inUse (slotAt before j) ≡ true
-  pub holds : slotAt after slot ≡ takenSlot w
+  pub holds : slotAt after slot ≡ usedSlot w
   pub others : (j : ℕ) → (j ≡ slot → ⊥) → slotAt after j ≡ slotAt before j
 
 abbrev pub LowestFreeSlot : Type 0
