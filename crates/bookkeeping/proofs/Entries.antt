@@ -14,7 +14,7 @@ use Rattle.whole.proofs.Comparisons.{tt-ff}
 use Rattle.grid.specs.declared.Window.{Window}
 use Rattle.racks.specs.Members.{any, all}
 use Rattle.slots.specs.Slots.{Slot, is, inUse, stripsIn, lowestFree, freeSlot}
-use Rattle.bookkeeping.specs.Laws.{takenSlot}
+use Rattle.bookkeeping.specs.Laws.{usedSlot}
 use Rattle.bookkeeping.specs.PlainList.{Entry, entry, strips, firstMissing, entered, has, struckOut}
 use Rattle.bookkeeping.specs.Runs.{entriesFrom}
 
@@ -98,14 +98,14 @@ first-missing k (s ∷ ss) = go (inUse s) (first-missing (suc k) ss)
 
 -- ---- a strip entered at a free slot
 pub enters : (k j : ℕ) (w : Window) (ss : List Slot) → j < length ss → inUse (getD ss j freeSlot) ≡ false
-    → entered (k + j) w (entriesFrom k ss) ≡ entriesFrom k (set ss j (takenSlot w))
+    → entered (k + j) w (entriesFrom k ss) ≡ entriesFrom k (set ss j (usedSlot w))
 unfolding entriesFrom entered
 enters k j w [] h f = absurd (omega arith)
 enters k zero w (s ∷ ss) h f = rw (add-zero, f) (entered-below k (suc k) w ss (omega arith))
 enters k (suc j) w (s ∷ ss) h f = go (inUse s) (enters (suc k) j w ss (omega arith) f)
   where
-    go : (b : Bool) → entered (suc k + j) w (entriesFrom (suc k) ss) ≡ entriesFrom (suc k) (set ss j (takenSlot w))
-        → entered (k + suc j) w (entriesIf b k s ss) ≡ entriesIf b k s (set ss j (takenSlot w))
+    go : (b : Bool) → entered (suc k + j) w (entriesFrom (suc k) ss) ≡ entriesFrom (suc k) (set ss j (usedSlot w))
+        → entered (k + suc j) w (entriesIf b k s ss) ≡ entriesIf b k s (set ss j (usedSlot w))
     go true e = simp (lt-ltb k (k + suc j) (omega arith)) (rw (next-number k j, e))
     go false e = rw (next-number k j, e)
 

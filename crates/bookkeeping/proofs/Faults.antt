@@ -1,7 +1,7 @@
 -- A call answers 23 exactly when the table has a fault: the tests find the slots at fault, and no other refusal has that number.
 use mathlib.Core.Path.{_≡_, refl, sym, ap, _∙_}
 use mathlib.Core.Bool.{Bool, true, false, _&&_, _||_}
-use mathlib.Core.List.{List, [], _∷_}
+use mathlib.Core.List.{List}
 use mathlib.Core.Logic.{_↔_}
 use Prim.Native.Nat.{ℕ}
 use native.Mathlib.Omega.{arith}
@@ -20,15 +20,14 @@ use Rattle.racks.specs.Areas.{sharesArea}
 use Rattle.racks.specs.Members.{any, all}
 use Rattle.rings.specs.Lists.{All, ∅, _◂_}
 use Rattle.slots.specs.Slots.{Slot, slotsOf, is, inUse, stripsIn, goodMark, slotsGood, isBook, freeSlot}
+use Rattle.slots.proofs.Places.{slots-count}
 use Rattle.strip_book.specs.Books.{noBook, stripTaken, bookFull, slotNotInUse}
 use Rattle.strip_book.specs.Books.{bookRefusal, clash, full, usedAt, slotRefusal, bookingRefusal, releaseRefusal}
-use Rattle.strip_book.specs.declared.BookingAnswer.{BookingAnswer}
-use Rattle.strip_book.specs.declared.ReleaseAnswer.{ReleaseAnswer}
+use Rattle.strip_book.proofs.Refusing.{book-long, refuses-table, refuses-release}
 use Rattle.bookkeeping.specs.Laws.{numberAnswered, NotABook, another-length, another-mark, refused-strip, shared-area, NoBookExactly}
 use Rattle.bookkeeping.specs.Runs.{Event, booking, release, InBook}
-use Rattle.bookkeeping.proofs.Good.{Fault, bad-mark, bad-strip, bad-areas, faulty-slots}
-use Rattle.slots.proofs.Places.{slots-count}
-use Rattle.bookkeeping.proofs.Steps.{lent-by, book-good, book-numbers}
+use Rattle.bookkeeping.proofs.Good.{Fault, mark-fault, strip-fault, area-fault, faulty-slots}
+use Rattle.bookkeeping.proofs.Steps.{refusalOf, number-refused, book-good}
 
 -- ---- the tests of a mark
 is-number : (n : ℕ) (z : ℤ) → is n z ≡ true → z ≡ pos n
@@ -44,11 +43,11 @@ good-marked s = go (is 0 (s .mark)) (is 1 (s .mark)) refl refl
 
 -- ---- the faults of a table
 a-fault : (zs : List ℤ) → length zs ≡ 320 → Fault (slotsOf zs) → NotABook zs
-a-fault zs l (bad-mark k h e) = another-mark k (omega (arith, slots-count zs))
+a-fault zs l (mark-fault k h e) = another-mark k (omega (arith, slots-count zs))
     (λ m. tt-ff (sym (ap (λ (z : ℤ). is 0 z || is 1 z) m) ∙ e))
     (λ m. tt-ff (sym (ap (λ (z : ℤ). is 0 z || is 1 z) m) ∙ e))
-a-fault zs l (bad-strip k h u e) = refused-strip k (omega (arith, slots-count zs)) (is-number 1 _ u) (eqb-false _ _ e)
-a-fault zs l (bad-areas h) =
+a-fault zs l (strip-fault k h u e) = refused-strip k (omega (arith, slots-count zs)) (is-number 1 _ u) (eqb-false _ _ e)
+a-fault zs l (area-fault h) =
     shared-area (h .one) (h .other) (h .before) (omega (arith, slots-count zs))
     (is-number 1 _ (h .used-one)) (is-number 1 _ (h .used-other)) (h .shares)
 
@@ -61,7 +60,7 @@ not-a-book zs = go (eqb (length zs) 320) refl
     go false l e = another-length (eqb-false (length zs) 320 l)
 
 no-book-no-fault : (zs : List ℤ) → isBook zs ≡ true → NotABook zs → ⊥
-no-book-no-fault zs b (another-length n) = n (book-numbers zs b)
+no-book-no-fault zs b (another-length n) = n (book-long zs b)
 no-book-no-fault zs b (another-mark k h m n) = good-marked (getD (slotsOf zs) k freeSlot) (book-good zs b .marks k) m n
 no-book-no-fault zs b (refused-strip k h m e) = e (eqb-true _ _ (book-good zs b .strips k (ap (is 1) m)))
 no-book-no-fault zs b (shared-area j k h l m n e) = tt-ff (sym e ∙ book-good zs b .areas j k h (ap (is 1) m) (ap (is 1) n))
@@ -95,46 +94,26 @@ book-other : (zs : List ℤ) → isBook zs ≡ true → Other (bookRefusal zs)
 unfolding bookRefusal
 book-other zs b = rw b fine
 
-booking-other : (w : Window) (zs : List ℤ) → isBook zs ≡ true → Other (bookingRefusal w zs)
-unfolding bookingRefusal clash full
-booking-other w zs b =
+refusal-other : (e : Event) (zs : List ℤ) → isBook zs ≡ true → Other (refusalOf e zs)
+unfolding bookingRefusal clash full releaseRefusal slotRefusal
+refusal-other (booking w a) zs b =
     let taken : Other (clash w zs) = either (any (sharesArea w) (stripsIn (slotsOf zs))) (other stripTaken 0 (omega arith)) fine in
     let filled : Other (full zs) = either (all inUse (slotsOf zs)) (other bookFull 0 (omega arith)) fine in
     first-other (book-other zs b ◂ window-other w ◂ taken ◂ filled ◂ ∅)
-
-release-other : (z : ℤ) (zs : List ℤ) → isBook zs ≡ true → Other (releaseRefusal z zs)
-unfolding releaseRefusal slotRefusal
-release-other z zs b =
+refusal-other (release z a) zs b =
     let free : Other (slotRefusal z zs) = either (usedAt (slotsOf zs) z) fine (other slotNotInUse 0 (omega arith)) in
     first-other (book-other zs b ◂ free ◂ ∅)
 
 pub call-never : (e : Event) (before after : List ℤ) → InBook before e after → isBook before ≡ true → numberAnswered e ≡ noBook → ⊥
-call-never (booking w a) before after p b e = lent-by p
-    (λ z d. fine .differs (sym (ap (λ (x : BookingAnswer). x .number) (d .answer)) ∙ e))
-    (λ n r. booking-other w before b .differs (sym (ap (λ (x : BookingAnswer). x .number) (r .answer)) ∙ e))
-call-never (release z a) before after p b e = lent-by p
-    (λ z d. fine .differs (sym (ap (λ (x : ReleaseAnswer). x .number) (d .answer)) ∙ e))
-    (λ n r. release-other z before b .differs (sym (ap (λ (x : ReleaseAnswer). x .number) (r .answer)) ∙ e))
+call-never e before after p b q = refusal-other e before b .differs (sym (number-refused e before after p) ∙ q)
 
 -- ---- a table that is no book is refused by 23
-no-book-refusal : (zs : List ℤ) (rs : List Refusal) → isBook zs ≡ false → first (bookRefusal zs ∷ rs) ≡ refuse noBook 0
-unfolding bookRefusal first
-no-book-refusal zs rs b = simp b
+refusal-no-book : (e : Event) (zs : List ℤ) → isBook zs ≡ false → refusalOf e zs ≡ refuse noBook 0
+refusal-no-book (booking w a) zs b = refuses-table w zs b
+refusal-no-book (release z a) zs b = refuses-release z zs b
 
 call-always : (e : Event) (before after : List ℤ) → InBook before e after → isBook before ≡ false → numberAnswered e ≡ noBook
-unfolding bookingRefusal releaseRefusal
-call-always (booking w a) before after p b = answer (no-book-refusal before (windowRefusal w ∷ clash w before ∷ full before ∷ []) b)
-  where
-    answer : bookingRefusal w before ≡ refuse noBook 0 → a .number ≡ noBook
-    answer q = lent-by p
-        (λ z d. absurd (omega (arith, ap (λ (x : Refusal). x .number) q)))
-        (λ n r. ap (λ (x : BookingAnswer). x .number) (r .answer) ∙ ap (λ (x : Refusal). x .number) q)
-call-always (release z a) before after p b = answer (no-book-refusal before (slotRefusal z before ∷ []) b)
-  where
-    answer : releaseRefusal z before ≡ refuse noBook 0 → a .number ≡ noBook
-    answer q = lent-by p
-        (λ z d. absurd (omega (arith, ap (λ (x : Refusal). x .number) q)))
-        (λ n r. ap (λ (x : ReleaseAnswer). x .number) (r .answer) ∙ ap (λ (x : Refusal). x .number) q)
+call-always e before after p b = number-refused e before after p ∙ ap (λ (r : Refusal). r .number) (refusal-no-book e before b)
 
 pub no-book-exactly : NoBookExactly
 no-book-exactly e before after p = go (isBook before) refl

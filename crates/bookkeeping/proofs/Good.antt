@@ -4,7 +4,7 @@ use mathlib.Core.Bool.{Bool, true, false, not, _&&_, _||_, and-eq-true-iff}
 use mathlib.Core.List.{List, [], _∷_}
 use Prim.Native.Nat.{ℕ, zero, suc, _<_}
 use native.Mathlib.Omega.{arith}
-use borrow.Author.Tests.{not-true}
+use borrow.Author.Tests.{not-true, not-false}
 use lib.ListN.{length, getD}
 use Rattle.whole.specs.Choice.{if_then_else_}
 use Rattle.whole.proofs.Comparisons.{ff-tt, tt-ff}
@@ -12,15 +12,12 @@ use Rattle.grid.specs.declared.Window.{Window}
 use Rattle.racks.specs.Areas.{sharesArea}
 use Rattle.racks.specs.Members.{any, all}
 use Rattle.slots.specs.Slots.{Slot, inUse, stripsIn, goodMark, goodStrip, apart, slotsGood, freeSlot}
-use Rattle.bookkeeping.proofs.Tests.{all-at, not-all, none-at, one-of}
+use Rattle.bookkeeping.proofs.Tests.{all-at, not-all, any-is}
 
 -- ---- tests of the strips, as tests of the slots
 module _ (P : Window → Bool) where
   abbrev where-used : Slot → Bool
   where-used s = not (inUse s) || P (s .strip)
-
-  abbrev used-and : Slot → Bool
-  used-and s = inUse s && P (s .strip)
 
   strips-all : (ss : List Slot) → all P (stripsIn ss) ≡ all where-used ss
   unfolding all stripsIn
@@ -32,26 +29,31 @@ module _ (P : Window → Bool) where
       go true e = ap (λ (t : Bool). P (s .strip) && t) e
       go false e = e
 
-  strips-any : (ss : List Slot) → any P (stripsIn ss) ≡ any used-and ss
-  unfolding any stripsIn
-  strips-any [] = refl
-  strips-any (s ∷ ss) = go (inUse s) (strips-any ss)
-    where
-      go : (b : Bool) → any P (stripsIn ss) ≡ any used-and ss
-          → any P (if b then s .strip ∷ stripsIn ss else stripsIn ss) ≡ ((b && P (s .strip)) || any used-and ss)
-      go true e = ap (λ (t : Bool). P (s .strip) || t) e
-      go false e = e
+  -- the strip of each slot in use passes the test, or that of one fails
+  at-used : (ss : List Slot) → all P (stripsIn ss) ≡ true → (k : ℕ) → inUse (getD ss k freeSlot) ≡ true → P (getD ss k freeSlot .strip) ≡ true
+  at-used ss e k u = rw u at (all-at where-used freeSlot ss (sym (strips-all ss) ∙ e) refl k)
 
-  -- a strip is entered of which P holds, or it holds of none
+  one-fails : (ss : List Slot) → all P (stripsIn ss) ≡ false
+      → (k : ℕ) × (k < length ss) × (inUse (getD ss k freeSlot) ≡ true) × (P (getD ss k freeSlot .strip) ≡ false)
+  one-fails ss e =
+      let k = not-all where-used freeSlot ss (sym (strips-all ss) ∙ e) in
+      let p = by (inUse (getD ss (k .0) freeSlot)) (P (getD ss (k .0) freeSlot .strip)) (k .2) in
+      (k .0, k .1, p .0, p .1)
+    where
+      by : (a b : Bool) → (not a || b) ≡ false → (a ≡ true) × (b ≡ false)
+      by true b e = (refl, e)
+      by false b e = absurd (tt-ff e)
+
+-- the strip of a slot in use passes the test, or that of none does
+module _ (P : Window → Bool) where
   strip-of : (ss : List Slot) → any P (stripsIn ss) ≡ true
       → (k : ℕ) × (k < length ss) × (inUse (getD ss k freeSlot) ≡ true) × (P (getD ss k freeSlot .strip) ≡ true)
   strip-of ss e =
-      let k = one-of used-and freeSlot ss (sym (strips-any ss) ∙ e) in
-      let p = and-eq-true-iff (inUse (getD ss (k .0) freeSlot)) (P (getD ss (k .0) freeSlot .strip)) .0 (k .2) in
-      (k .0, k .1, p .0, p .1)
+      let k = one-fails (λ w. not (P w)) ss (not-true _ (sym (any-is P (stripsIn ss)) ∙ e)) in
+      (k .0, k .1, k .2, not-false _ (k .3))
 
   pub no-strip : (ss : List Slot) → any P (stripsIn ss) ≡ false → (k : ℕ) → inUse (getD ss k freeSlot) ≡ true → P (getD ss k freeSlot .strip) ≡ false
-  no-strip ss e k u = rw u at (none-at used-and freeSlot ss (sym (strips-any ss) ∙ e) refl k)
+  no-strip ss e k u = not-true _ (at-used (λ w. not (P w)) ss (not-false _ (sym (any-is P (stripsIn ss)) ∙ e)) k u)
 
 -- ---- strips apart
 apart-at : (ss : List Slot) → apart (stripsIn ss) ≡ true → (j k : ℕ) → j < k → inUse (getD ss j freeSlot) ≡ true → inUse (getD ss k freeSlot) ≡ true
@@ -115,9 +117,9 @@ pub record Good (ss : List Slot) : Type 0 where
       → sharesArea (getD ss j freeSlot .strip) (getD ss k freeSlot .strip) ≡ false
 
 pub data Fault (ss : List Slot) : Type 0 where
-  bad-mark : (k : ℕ) → k < length ss → goodMark (getD ss k freeSlot) ≡ false → Fault ss
-  bad-strip : (k : ℕ) → k < length ss → inUse (getD ss k freeSlot) ≡ true → goodStrip (getD ss k freeSlot .strip) ≡ false → Fault ss
-  bad-areas : Sharing ss → Fault ss
+  mark-fault : (k : ℕ) → k < length ss → goodMark (getD ss k freeSlot) ≡ false → Fault ss
+  strip-fault : (k : ℕ) → k < length ss → inUse (getD ss k freeSlot) ≡ true → goodStrip (getD ss k freeSlot .strip) ≡ false → Fault ss
+  area-fault : Sharing ss → Fault ss
 
 pub good-slots : (ss : List Slot) → slotsGood ss ≡ true → Good ss
 good-slots ss e =
@@ -125,33 +127,23 @@ good-slots ss e =
     let q = and-eq-true-iff (all goodMark ss) (all goodStrip (stripsIn ss)) .0 (p .0) in
     record {
       marks = all-at goodMark freeSlot ss (q .0) refl;
-      strips = λ k u. rw u at (all-at (where-used goodStrip) freeSlot ss (sym (strips-all goodStrip ss) ∙ q .1) refl k);
+      strips = at-used goodStrip ss (q .1);
       areas = apart-at ss (p .1);
     }
 
 pub faulty-slots : (ss : List Slot) → slotsGood ss ≡ false → Fault ss
 faulty-slots ss e = go (all goodMark ss) (all goodStrip (stripsIn ss)) refl refl e
   where
-    strip : (s : Slot) → where-used goodStrip s ≡ false → (inUse s ≡ true) × (goodStrip (s .strip) ≡ false)
-    strip s = by (inUse s) (goodStrip (s .strip))
-      where
-        by : (a b : Bool) → (not a || b) ≡ false → (a ≡ true) × (b ≡ false)
-        by true b e = (refl, e)
-        by false b e = absurd (tt-ff e)
-
     go : (a b : Bool) → all goodMark ss ≡ a → all goodStrip (stripsIn ss) ≡ b → (a && b && apart (stripsIn ss)) ≡ false → Fault ss
-    go true true p q e = bad-areas (not-apart ss e)
-    go true false p q e =
-        let k = not-all (where-used goodStrip) freeSlot ss (sym (strips-all goodStrip ss) ∙ q) in
-        let s = strip (getD ss (k .0) freeSlot) (k .2) in
-        bad-strip (k .0) (k .1) (s .0) (s .1)
-    go false b p q e = let k = not-all goodMark freeSlot ss p in bad-mark (k .0) (k .1) (k .2)
+    go true true p q e = area-fault (not-apart ss e)
+    go true false p q e = let k = one-fails goodStrip ss q in strip-fault (k .0) (k .1) (k .2) (k .3)
+    go false b p q e = let k = not-all goodMark freeSlot ss p in mark-fault (k .0) (k .1) (k .2)
 
 -- good slots have no fault
 no-fault : {ss : List Slot} → Good ss → Fault ss → ⊥
-no-fault g (bad-mark k l e) = tt-ff (sym (g .marks k) ∙ e)
-no-fault g (bad-strip k l u e) = tt-ff (sym (g .strips k u) ∙ e)
-no-fault g (bad-areas h) = tt-ff (sym (h .shares) ∙ g .areas (h .one) (h .other) (h .before) (h .used-one) (h .used-other))
+no-fault g (mark-fault k l e) = tt-ff (sym (g .marks k) ∙ e)
+no-fault g (strip-fault k l u e) = tt-ff (sym (g .strips k u) ∙ e)
+no-fault g (area-fault h) = tt-ff (sym (h .shares) ∙ g .areas (h .one) (h .other) (h .before) (h .used-one) (h .used-other))
 
 pub slots-good : (ss : List Slot) → Good ss → slotsGood ss ≡ true
 slots-good ss g = go (slotsGood ss) refl

@@ -1,59 +1,44 @@
 -- A call on a book is the same call on paper: it is refused there by the same refusal, and where it is not, the same number is given and freed.
+-- The other way round, a call on paper is one on the book, since there each call has a result.
 use mathlib.Core.Path.{_≡_, refl, sym, ap, _∙_, subst}
 use mathlib.Core.Bool.{Bool, true, false}
-use mathlib.Core.List.{List, [], _∷_}
+use mathlib.Core.List.{List}
 use Prim.Native.Nat.{ℕ}
 use native.Mathlib.Nat.{zero-add}
-use borrow.Author.Tests.{eq-eqb, ne-eqb}
+use native.Mathlib.Omega.{arith}
+use borrow.Author.Tests.{eq-eqb, ne-eqb, eqb-true, eqb-false}
 use lib.Dec.{eqb}
 use lib.IntN.{ℤ, pos, negsuc, natAbs}
 use lib.ListN.{length, set}
 use Rattle.whole.specs.Choice.{if_then_else_}
 use Rattle.whole.proofs.Comparisons.{ff-tt}
-use Rattle.grid.specs.Calls.{Refused}
-use Rattle.grid.specs.Refusals.{none, refuse, first, windowRefusal}
+use Rattle.grid.specs.Calls.{Refused, Lent}
+use Rattle.grid.specs.Refusals.{none, refuse, first}
 use Rattle.grid.specs.declared.Refusal.{Refusal}
 use Rattle.grid.specs.declared.Window.{Window}
-use Rattle.grid.proofs.Refusals.{goes-on}
+use Rattle.grid.proofs.Calls.{lent-refused, lent-done}
 use Rattle.racks.specs.Members.{all}
 use Rattle.slots.specs.Slots.{Slot, slotsOf, inUse, isBook, lowestFree, freeSlot}
-use Rattle.strip_book.specs.Books.{slotNotInUse, bookRefusal, clash, full, usedAt, slotRefusal, bookingRefusal, releaseRefusal}
+use Rattle.slots.proofs.Lowest.{lowest-free, free-among}
+use Rattle.strip_book.specs.Books.{slotNotInUse, bookRefusal, clash, full, usedAt, bookingRefusal, releaseRefusal}
 use Rattle.strip_book.specs.Books.{BookStrip, bookedIn, refusedBooking, Booked, ReleaseSlot, refusedRelease, Released}
 use Rattle.strip_book.specs.declared.BookingAnswer.{BookingAnswer}
 use Rattle.strip_book.specs.declared.ReleaseAnswer.{ReleaseAnswer}
+use Rattle.strip_book.proofs.Refusing.{refuses-slot, releases}
 use Rattle.bookkeeping.specs.PlainList.{Entry, firstMissing, entered, has, struckOut}
 use Rattle.bookkeeping.specs.PlainList.{refusalToBook, answerBooking, afterBooking, refusalToRelease, answerRelease}
 use Rattle.bookkeeping.specs.Runs.{Event, booking, release, InBook, OnPaper, entriesFrom, entriesOf}
 use Rattle.bookkeeping.proofs.Entries.{entries-strips, entries-full, first-missing, enters, has-slot, has-negative, struck-absent, leaves}
-use Rattle.slots.proofs.Lowest.{lowest-free, free-among}
-use Rattle.bookkeeping.proofs.Steps.{lent-by, bookable, releasable, book-slots, slots-booked, slots-released}
+use Rattle.bookkeeping.proofs.Steps.{lent-by, bookable, book-slots, slots-booked, slots-released}
 
--- ---- the refusals
-a-book : (zs : List ℤ) → isBook zs ≡ true → bookRefusal zs .number ≡ 0
-unfolding bookRefusal
-a-book zs b = simp b
-
+-- ---- a booking: its refusal, and what is answered and entered on paper
 same-refusal : (w : Window) (zs : List ℤ) → isBook zs ≡ true → bookingRefusal w zs ≡ refusalToBook w (entriesOf zs)
-unfolding bookingRefusal clash full refusalToBook
+unfolding bookingRefusal bookRefusal clash full refusalToBook first
 same-refusal w zs b =
     let ss = slotsOf zs in
     let filled : eqb (length (entriesOf zs)) 64 ≡ all inUse ss = rw (book-slots zs b) at (entries-full 0 ss) in
-    goes-on (bookRefusal zs) (windowRefusal w ∷ clash w zs ∷ full zs ∷ []) (a-book zs b) ∙ rw (entries-strips 0 ss, filled)
+    rw (b, entries-strips 0 ss, filled)
 
-used-has : (zs : List ℤ) (z : ℤ) → usedAt (slotsOf zs) z ≡ has z (entriesOf zs)
-used-has zs (pos k) = sym (rw zero-add at (has-slot 0 k (slotsOf zs)))
-used-has zs (negsuc k) = sym (has-negative k (entriesOf zs))
-
-same-release : (z : ℤ) (zs : List ℤ) → isBook zs ≡ true → releaseRefusal z zs ≡ refusalToRelease z (entriesOf zs)
-unfolding releaseRefusal slotRefusal refusalToRelease first
-same-release z zs b =
-    goes-on (bookRefusal zs) (slotRefusal z zs ∷ []) (a-book zs b) ∙ go (usedAt (slotsOf zs) z) (has z (entriesOf zs)) (used-has zs z)
-  where
-    go : (s t : Bool) → s ≡ t → first ((if s then none else refuse slotNotInUse 0) ∷ []) ≡ (if t then none else refuse slotNotInUse 0)
-    go true t e = ap (λ (x : Bool). if x then none else refuse slotNotInUse 0) e
-    go false t e = ap (λ (x : Bool). if x then none else refuse slotNotInUse 0) e
-
--- ---- a booking on paper, done or refused
 module _ (w : Window) (es : List Entry) where
   paper-done : refusalToBook w es .number ≡ 0
       → (answerBooking w es ≡ bookedIn (firstMissing 0 es)) × (afterBooking w es ≡ entered (firstMissing 0 es) w es)
@@ -64,7 +49,6 @@ module _ (w : Window) (es : List Entry) where
   unfolding answerBooking afterBooking
   paper-refused h = (simp (ne-eqb _ _ h), simp (ne-eqb _ _ h))
 
--- ---- the same call
 booking-on-paper : (w : Window) (a : BookingAnswer) (before after : List ℤ) → isBook before ≡ true → BookStrip w a before after
     → OnPaper (entriesOf before) (booking w a) (entriesOf after)
 booking-on-paper w a before after b p = lent-by p done refused
@@ -95,18 +79,10 @@ booking-on-paper w a before after b p = lent-by p done refused
         let q = paper-refused w es (subst (λ (r : Refusal). r .number ≡ 0 → ⊥) same n) in
         (r .answer ∙ ap refusedBooking same ∙ sym (q .0), ap entriesOf (r .untouched) ∙ sym (q .1))
 
--- a release on paper, by whether there is such an entry
-is-there : (z : ℤ) (es : List Entry) → has z es ≡ true → refusalToRelease z es ≡ none
-unfolding refusalToRelease
-is-there z es h = simp h
-
-not-there : (z : ℤ) (es : List Entry) → (refusalToRelease z es .number ≡ 0 → ⊥) → has z es ≡ false
-unfolding refusalToRelease
-not-there z es = go (has z es)
-  where
-    go : (b : Bool) → ((if b then none else refuse slotNotInUse 0) .number ≡ 0 → ⊥) → b ≡ false
-    go true h = absurd (h refl)
-    go false h = refl
+-- ---- a release, by whether there is such an entry
+used-has : (zs : List ℤ) (z : ℤ) → usedAt (slotsOf zs) z ≡ has z (entriesOf zs)
+used-has zs (pos k) = sym (rw zero-add at (has-slot 0 k (slotsOf zs)))
+used-has zs (negsuc k) = sym (has-negative k (entriesOf zs))
 
 freed : (z : ℤ) (ss : List Slot) → usedAt ss z ≡ true → struckOut z (entriesFrom 0 ss) ≡ entriesFrom 0 (set ss (natAbs z) freeSlot)
 freed (pos k) ss u = rw zero-add at (leaves 0 k ss)
@@ -114,30 +90,43 @@ freed (negsuc k) ss u = absurd (ff-tt u)
 
 release-on-paper : (z : ℤ) (a : ReleaseAnswer) (before after : List ℤ) → isBook before ≡ true → ReleaseSlot z a before after
     → OnPaper (entriesOf before) (release z a) (entriesOf after)
-unfolding answerRelease
-release-on-paper z a before after b p = lent-by p done refused
+unfolding answerRelease refusalToRelease
+release-on-paper z a before after b p = go (has z es) refl
   where
     es : List Entry
     es = entriesOf before
 
-    same : releaseRefusal z before ≡ refusalToRelease z es
-    same = same-release z before b
-
-    done : releaseRefusal z before .number ≡ 0 → Released z a before after → OnPaper es (release z a) (entriesOf after)
-    done e d =
-        let u = releasable z before e .1 in (
-          d .answer ∙ ap refusedRelease (sym (is-there z es (sym (used-has before z) ∙ u))),
-          ap (entriesFrom 0) (slots-released d) ∙ sym (freed z (slotsOf before) u),
-        )
-
-    refused : (releaseRefusal z before .number ≡ 0 → ⊥) → Refused refusedRelease (releaseRefusal z before) a before after
-        → OnPaper es (release z a) (entriesOf after)
-    refused n r = (
-      r .answer ∙ ap refusedRelease same,
-      ap entriesOf (r .untouched) ∙ sym (struck-absent z es (not-there z es (subst (λ (r : Refusal). r .number ≡ 0 → ⊥) same n))),
-    )
+    go : (t : Bool) → has z es ≡ t → (a ≡ refusedRelease (if t then none else refuse slotNotInUse 0)) × (entriesOf after ≡ struckOut z es)
+    go true h =
+        let u = used-has before z ∙ h in
+        let d = p .done (releases z before b u) in
+        (d .answer, ap (entriesFrom 0) (slots-released d) ∙ sym (freed z (slotsOf before) u))
+    go false h =
+        let e = refuses-slot z before b (used-has before z ∙ h) in
+        let r = p .refused (λ q. absurd (omega (arith, ap (λ (r : Refusal). r .number) e, q))) in
+        (r .answer ∙ ap refusedRelease e, ap entriesOf (r .untouched) ∙ sym (struck-absent z es h))
 
 pub call-on-paper : (e : Event) (before after : List ℤ) → InBook before e after → isBook before ≡ true
     → OnPaper (entriesOf before) e (entriesOf after)
 call-on-paper (booking w a) before after p b = booking-on-paper w a before after b p
 call-on-paper (release z a) before after p b = release-on-paper z a before after b p
+
+-- ---- the other way round: a call has a result, which is the one on paper
+has-result : {A M : Type 0} (blank : Refusal → A) (r : Refusal) (Done : A → M → M → Type 0) {a : A} {before after : M} → Done a before after
+    → (answer : A) × (afterwards : M) × Lent blank r Done answer before afterwards
+has-result {A} {M} blank r Done {a} {before} {after} d = go (eqb (r .number) 0) refl
+  where
+    go : (b : Bool) → eqb (r .number) 0 ≡ b → (answer : A) × (afterwards : M) × Lent blank r Done answer before afterwards
+    go true e = (a, after, lent-done (eqb-true (r .number) 0 e) d)
+    go false e = (blank r, before, lent-refused refl (eqb-false (r .number) 0 e))
+
+pub call-in-book : (e : Event) (before : List ℤ) (es : List Entry) → OnPaper (entriesOf before) e es → isBook before ≡ true
+    → (after : List ℤ) × InBook before e after × (entriesOf after ≡ es)
+call-in-book (booking w a) before es p b =
+    let r = has-result refusedBooking (bookingRefusal w before) (Booked w) (record { answer = refl; book = refl }) in
+    let q = booking-on-paper w (r .0) before (r .1) b (r .2) in
+    (r .1, subst (λ x. BookStrip w x before (r .1)) (q .0 ∙ sym (p .0)) (r .2), q .1 ∙ sym (p .1))
+call-in-book (release z a) before es p b =
+    let r = has-result refusedRelease (releaseRefusal z before) (Released z) (record { answer = refl; book = refl }) in
+    let q = release-on-paper z (r .0) before (r .1) b (r .2) in
+    (r .1, subst (λ x. ReleaseSlot z x before (r .1)) (q .0 ∙ sym (p .0)) (r .2), q .1 ∙ sym (p .1))

@@ -2,7 +2,7 @@
 use mathlib.Core.Path.{_≡_, refl, sym, ap, subst, _∙_}
 use mathlib.Core.Bool.{Bool, true, false, and-eq-true-iff}
 use mathlib.Core.List.{List, [], _∷_}
-use Prim.Native.Nat.{ℕ, suc, _<_}
+use Prim.Native.Nat.{ℕ, _<_}
 use native.Mathlib.Omega.{arith}
 use borrow.Author.Tests.{eq-eqb, eqb-true, eqb-false}
 use lib.Dec.{eqb}
@@ -19,15 +19,17 @@ use Rattle.grid.proofs.Refusals.{all-done}
 use Rattle.racks.specs.Areas.{sharesArea}
 use Rattle.racks.specs.Members.{any, all}
 use Rattle.slots.specs.Slots.{Slot, slotsOf, inUse, stripsIn, goodMark, goodStrip, slotsGood, isBook, lowestFree, freeSlot}
+use Rattle.slots.proofs.Lowest.{free-among}
+use Rattle.slots.proofs.Places.{slots-count, slots-put, used-among}
+use Rattle.strip_book.specs.Books.{noBook, stripTaken, bookFull, slotNotInUse}
 use Rattle.strip_book.specs.Books.{bookRefusal, clash, full, usedAt, slotRefusal, bookingRefusal, releaseRefusal, Booked, Released}
 use Rattle.strip_book.specs.declared.BookingAnswer.{BookingAnswer}
 use Rattle.strip_book.specs.declared.ReleaseAnswer.{ReleaseAnswer}
-use Rattle.bookkeeping.specs.Laws.{takenSlot}
+use Rattle.strip_book.proofs.Refusing.{book-long}
+use Rattle.bookkeeping.specs.Laws.{usedSlot, numberAnswered}
 use Rattle.bookkeeping.specs.Runs.{Event, booking, release, InBook}
 use Rattle.bookkeeping.proofs.Areas.{shares-turned}
 use Rattle.bookkeeping.proofs.Good.{Good, good-slots, slots-good, no-strip}
-use Rattle.slots.proofs.Lowest.{free-among}
-use Rattle.slots.proofs.Places.{slots-count, slots-put, used-among}
 
 -- ---- a call is done, or refuses
 pub lent-by : {A M G : Type 0} {blank : Refusal → A} {r : Refusal} {Done : A → M → M → Type 0} {a : A} {before after : M}
@@ -38,14 +40,27 @@ lent-by {G} {r} p f g = go (eqb (r .number) 0) refl
     go true t = let z = eqb-true (r .number) 0 t in f z (p .done z)
     go false t = let n = eqb-false (r .number) 0 t in g n (p .refused n)
 
--- ---- what is known where nothing is refused
-passed : (b : Bool) (n : ℕ) → (if b then none else refuse (suc n) 0) .number ≡ 0 → b ≡ true
-passed true n e = refl
-passed false n e = absurd (omega arith)
+-- the refusal of an event's call on a table, and that its number is answered: 0 where the call is done
+abbrev pub refusalOf : Event → List ℤ → Refusal
+refusalOf (booking w a) zs = bookingRefusal w zs
+refusalOf (release z a) zs = releaseRefusal z zs
 
-failed : (b : Bool) (n : ℕ) → (if b then refuse (suc n) 0 else none) .number ≡ 0 → b ≡ false
-failed true n e = absurd (omega arith)
-failed false n e = refl
+pub number-refused : (e : Event) (before after : List ℤ) → InBook before e after → numberAnswered e ≡ refusalOf e before .number
+number-refused (booking w a) before after p = lent-by p
+    (λ z d. ap (λ (x : BookingAnswer). x .number) (d .answer) ∙ sym z)
+    (λ n r. ap (λ (x : BookingAnswer). x .number) (r .answer))
+number-refused (release z a) before after p = lent-by p
+    (λ z d. ap (λ (x : ReleaseAnswer). x .number) (d .answer) ∙ sym z)
+    (λ n r. ap (λ (x : ReleaseAnswer). x .number) (r .answer))
+
+-- ---- what is known where nothing is refused
+passed : (b : Bool) (n : ℕ) → (n ≡ 0 → ⊥) → (if b then none else refuse n 0) .number ≡ 0 → b ≡ true
+passed true n h e = refl
+passed false n h e = absurd (h e)
+
+failed : (b : Bool) (n : ℕ) → (n ≡ 0 → ⊥) → (if b then refuse n 0 else none) .number ≡ 0 → b ≡ false
+failed true n h e = absurd (h e)
+failed false n h e = refl
 
 pub record Bookable (w : Window) (zs : List ℤ) : Type 0 where
   pub book : isBook zs ≡ true
@@ -60,31 +75,32 @@ bookable w zs e =
     let q = all-done (windowRefusal w) (clash w zs ∷ full zs ∷ []) (p .1) in
     let r = all-done (clash w zs) (full zs ∷ []) (q .1) in
     let s = all-done (full zs) [] (r .1) in
-    record { book = passed (isBook zs) 22 (p .0); good = eq-eqb _ _ (q .0); clear = failed _ 15 (r .0); room = failed _ 16 (s .0) }
+    record {
+      book = passed (isBook zs) noBook (omega arith) (p .0);
+      good = eq-eqb _ _ (q .0);
+      clear = failed _ stripTaken (omega arith) (r .0);
+      room = failed _ bookFull (omega arith) (s .0);
+    }
 
 pub releasable : (z : ℤ) (zs : List ℤ) → releaseRefusal z zs .number ≡ 0 → (isBook zs ≡ true) × (usedAt (slotsOf zs) z ≡ true)
 unfolding releaseRefusal bookRefusal slotRefusal
 releasable z zs e =
     let p = all-done (bookRefusal zs) (slotRefusal z zs ∷ []) e in
     let q = all-done (slotRefusal z zs) [] (p .1) in
-    (passed (isBook zs) 22 (p .0), passed (usedAt (slotsOf zs) z) 17 (q .0))
+    (passed (isBook zs) noBook (omega arith) (p .0), passed (usedAt (slotsOf zs) z) slotNotInUse (omega arith) (q .0))
 
 -- ---- a book, by its slots
 pub book-good : (zs : List ℤ) → isBook zs ≡ true → Good (slotsOf zs)
 unfolding isBook
 book-good zs e = good-slots (slotsOf zs) (and-eq-true-iff (eqb (length zs) 320) (slotsGood (slotsOf zs)) .0 e .1)
 
-pub book-numbers : (zs : List ℤ) → isBook zs ≡ true → length zs ≡ 320
-unfolding isBook
-book-numbers zs e = eqb-true (length zs) 320 (and-eq-true-iff (eqb (length zs) 320) (slotsGood (slotsOf zs)) .0 e .0)
-
 pub book-slots : (zs : List ℤ) → isBook zs ≡ true → length (slotsOf zs) ≡ 64
-book-slots zs e = omega (arith, slots-count zs, book-numbers zs e)
+book-slots zs e = omega (arith, slots-count zs, book-long zs e)
 
 -- a table as long as a book, whose slots are good
 good-book : (zs ys : List ℤ) → isBook zs ≡ true → length ys ≡ length zs → Good (slotsOf ys) → isBook ys ≡ true
 unfolding isBook
-good-book zs ys e l g = rw (l, slots-good (slotsOf ys) g, book-numbers zs e)
+good-book zs ys e l g = rw (l, slots-good (slotsOf ys) g, book-long zs e)
 
 -- ---- one slot is changed
 data Changed (ss : List Slot) (k : ℕ) (s : Slot) (j : ℕ) : Type 0 where
@@ -126,8 +142,8 @@ module _ (ss : List Slot) (k : ℕ) (among : k < length ss) (s : Slot) where
 
 -- ---- the slots after a call
 pub slots-booked : {w : Window} {a : BookingAnswer} {before after : List ℤ} → Booked w a before after
-    → slotsOf after ≡ set (slotsOf before) (lowestFree (slotsOf before)) (takenSlot w)
-slots-booked {w} {a} {before} h = ap slotsOf (h .book) ∙ slots-put (takenSlot w) before (lowestFree (slotsOf before))
+    → slotsOf after ≡ set (slotsOf before) (lowestFree (slotsOf before)) (usedSlot w)
+slots-booked {w} {a} {before} h = ap slotsOf (h .book) ∙ slots-put (usedSlot w) before (lowestFree (slotsOf before))
 
 pub slots-released : {z : ℤ} {a : ReleaseAnswer} {before after : List ℤ} → Released z a before after
     → slotsOf after ≡ set (slotsOf before) (natAbs z) freeSlot
@@ -139,7 +155,7 @@ booked-book {w} {a} {before} {after} b h =
     let ss = slotsOf before in
     let g = book-good before (b .book) in
     let n = lowestFree ss in
-    let good = change-good ss n (free-among ss (b .room)) (takenSlot w) g refl (λ u. b .good) (λ u. no-strip (sharesArea w) ss (b .clear)) in
+    let good = change-good ss n (free-among ss (b .room)) (usedSlot w) g refl (λ u. b .good) (λ u. no-strip (sharesArea w) ss (b .clear)) in
     good-book before after (b .book)
     (ap length (h .book) ∙ simp length-sets)
     (subst Good (sym (slots-booked h)) good)

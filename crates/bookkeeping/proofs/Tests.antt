@@ -1,10 +1,9 @@
 -- Tests over a list, by the places of its members: a test that all pass is passed at each place, and one that not all pass is failed at one.
-use mathlib.Core.Path.{_≡_, refl, sym, ap, _∙_}
+use mathlib.Core.Path.{_≡_, refl}
 use mathlib.Core.Bool.{Bool, true, false, not, _&&_, _||_, and-eq-true-iff}
 use mathlib.Core.List.{List, [], _∷_}
 use Prim.Native.Nat.{ℕ, zero, suc, _<_}
 use native.Mathlib.Omega.{arith}
-use borrow.Author.Tests.{not-true, not-false}
 use lib.ListN.{length, getD}
 use Rattle.whole.proofs.Comparisons.{tt-ff}
 use Rattle.racks.specs.Members.{any, all}
@@ -27,7 +26,7 @@ module _ {A : Type 0} (P : A → Bool) (d : A) where
       go false p e f = (0, omega arith, p)
 
 -- one passes where not all fail
-any-is : {A : Type 0} (P : A → Bool) (xs : List A) → any P xs ≡ not (all (λ x. not (P x)) xs)
+pub any-is : {A : Type 0} (P : A → Bool) (xs : List A) → any P xs ≡ not (all (λ x. not (P x)) xs)
 unfolding any all
 any-is P [] = refl
 any-is P (x ∷ xs) = go (P x) (any-is P xs)
@@ -35,10 +34,3 @@ any-is P (x ∷ xs) = go (P x) (any-is P xs)
     go : (b : Bool) → any P xs ≡ not (all (λ x. not (P x)) xs) → (b || any P xs) ≡ not (not b && all (λ x. not (P x)) xs)
     go true e = refl
     go false e = e
-
-module _ {A : Type 0} (P : A → Bool) (d : A) where
-  pub none-at : (xs : List A) → any P xs ≡ false → P d ≡ false → (k : ℕ) → P (getD xs k d) ≡ false
-  none-at xs e h k = not-true _ (all-at (λ x. not (P x)) d xs (not-false _ (sym (any-is P xs) ∙ e)) (ap not h) k)
-
-  pub one-of : (xs : List A) → any P xs ≡ true → (k : ℕ) × (k < length xs) × (P (getD xs k d) ≡ true)
-  one-of xs e = let k = not-all (λ x. not (P x)) d xs (not-true _ (sym (any-is P xs) ∙ e)) in (k .0, k .1, not-false _ (k .2))

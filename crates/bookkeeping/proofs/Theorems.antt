@@ -1,5 +1,5 @@
 -- Over any run of calls: by induction on it, since a call on a book leaves a book, answers as on paper, and never answers 23.
-use mathlib.Core.Path.{_≡_, refl, sym, ap, subst, _∙_}
+use mathlib.Core.Path.{_≡_, refl, sym, subst, _∙_}
 use mathlib.Core.Bool.{Bool, true, false}
 use mathlib.Core.List.{List, []}
 use Prim.Native.Nat.{_<_}
@@ -13,15 +13,17 @@ use Rattle.racks.specs.Areas.{sharesArea}
 use Rattle.racks.specs.Members.{all}
 use Rattle.rings.specs.Lists.{All, ∅, _◂_}
 use Rattle.slots.specs.Slots.{slotsOf, stripsIn, apart, isBook, lowestFree, freeSlot, slotAt}
+use Rattle.slots.proofs.Lowest.{lowest-free, used-below, free-among}
 use Rattle.strip_book.specs.Books.{noBook, Booked}
 use Rattle.strip_book.specs.declared.BookingAnswer.{BookingAnswer}
-use Rattle.bookkeeping.specs.Laws.{numberAnswered, AsAPlainList, StaysABook, NeverNoBook, NoTwoShareArea, TakesLowest, LowestFreeSlot}
-use Rattle.bookkeeping.specs.Runs.{Event, InBook, OnPaper, RunOfCalls, no-call, a-call, emptyBook, entriesFrom, entriesOf}
+use Rattle.bookkeeping.specs.Laws.{AsAPlainList, EachRunOnPaper, StaysABook, numberAnswered, NeverNoBook, NoTwoShareArea}
+use Rattle.bookkeeping.specs.Laws.{TakesLowest, LowestFreeSlot}
+use Rattle.bookkeeping.specs.PlainList.{Entry}
+use Rattle.bookkeeping.specs.Runs.{Event, booking, InBook, OnPaper, RunOfCalls, no-call, a-call, emptyBook, entriesFrom, entriesOf}
 use Rattle.bookkeeping.proofs.Areas.{shares-turned}
 use Rattle.bookkeeping.proofs.Faults.{call-never}
-use Rattle.bookkeeping.proofs.Paper.{call-on-paper}
-use Rattle.slots.proofs.Lowest.{lowest-free, used-below, free-among}
-use Rattle.bookkeeping.proofs.Steps.{lent-by, Bookable, bookable, book-good, book-slots, slots-booked, call-stays}
+use Rattle.bookkeeping.proofs.Paper.{call-on-paper, call-in-book}
+use Rattle.bookkeeping.proofs.Steps.{number-refused, Bookable, bookable, book-good, book-slots, slots-booked, call-stays}
 
 -- ---- where they begin
 empty-is-a-book : isBook emptyBook ≡ true
@@ -43,6 +45,15 @@ run-on-paper no-call b = no-call
 run-on-paper (a-call {before} {between} {e = e} p r) b =
     a-call (call-on-paper e before between p b) (run-on-paper r (call-stays e before between p b))
 
+run-in-book : {es es′ : List Entry} {events : List Event} → RunOfCalls OnPaper es events es′
+    → (before : List ℤ) → isBook before ≡ true → entriesOf before ≡ es
+    → (after : List ℤ) × RunOfCalls InBook before events after × (entriesOf after ≡ es′)
+run-in-book no-call before b q = (before, no-call, q)
+run-in-book (a-call {between} {e = e} p r) before b q =
+    let c = call-in-book e before between (subst (λ es. OnPaper es e between) (sym q) p) b in
+    let d = run-in-book r (c .0) (call-stays e before (c .0) (c .1) b) (c .2) in
+    (d .0, a-call (c .1) (d .1), d .2)
+
 run-never : {before after : List ℤ} {events : List Event} → RunOfCalls InBook before events after → isBook before ≡ true
     → All (λ (e : Event). numberAnswered e ≡ noBook → ⊥) events
 run-never no-call b = ∅
@@ -54,6 +65,9 @@ stays-a-book events book r = run-stays r empty-is-a-book
 
 pub as-a-plain-list : AsAPlainList
 as-a-plain-list events book r = subst (λ es. RunOfCalls OnPaper es events (entriesOf book)) empty-has-none (run-on-paper r empty-is-a-book)
+
+pub each-run-on-paper : EachRunOnPaper
+each-run-on-paper events es r = run-in-book r emptyBook empty-is-a-book empty-has-none
 
 pub never-no-book : NeverNoBook
 never-no-book events book r = run-never r empty-is-a-book
@@ -84,4 +98,5 @@ takes-lowest {w} {a} {before} {after} b d =
 
 pub lowest-free-slot : LowestFreeSlot
 lowest-free-slot w a before after p z =
-    lent-by p (λ z d. takes-lowest (bookable w before z) d) (λ n q. absurd (n (sym (ap (λ (x : BookingAnswer). x .number) (q .answer)) ∙ z)))
+    let done = sym (number-refused (booking w a) before after p) ∙ z in
+    takes-lowest (bookable w before done) (p .done done)

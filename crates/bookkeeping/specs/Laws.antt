@@ -1,9 +1,9 @@
 -- Laws of the strip book over any run of calls from the empty book, and of what its definitions mean.
 --   FromEmpty events book     the book is what the events leave of the empty book
---   takenSlot w               a slot in use, with the strip w
---   used zs k                 the slot k of a table is in use
+--   usedSlot w                a slot in use, with the strip w
 --   numberAnswered e          the number of the refusal in an event's answer
 --   AsAPlainList      whatever is called, the book answers as the list on paper, and its entries are that list
+--   EachRunOnPaper    the other way round: each run on paper is a run of the book, whose entries are then the list
 --   StaysABook        it is a book after any run of calls
 --   NeverNoBook       23 is never answered
 --   NoTwoShareArea    no two entered strips share area
@@ -16,7 +16,7 @@
 --   NotABook zs       the four faults of a table, in the words of the rules
 --   NoBookExactly     a call, on any table, answers 23 exactly when the table has one of them
 use mathlib.Core.Path.{_≡_}
-use mathlib.Core.Bool.{Bool, true, false}
+use mathlib.Core.Bool.{true, false}
 use mathlib.Core.List.{List, []}
 use mathlib.Core.Logic.{_↔_}
 use Prim.Native.Nat.{ℕ, _<_}
@@ -34,16 +34,14 @@ use Rattle.rings.specs.Windows.{side-lines}
 use Rattle.slots.specs.Slots.{Slot, slotAt, inUse, isBook}
 use Rattle.strip_book.specs.Books.{BookStrip, bookedIn, noBook}
 use Rattle.strip_book.specs.declared.BookingAnswer.{BookingAnswer}
+use Rattle.bookkeeping.specs.PlainList.{Entry}
 use Rattle.bookkeeping.specs.Runs.{Event, booking, release, RunOfCalls, InBook, OnPaper, emptyBook, entriesOf}
 
 abbrev pub FromEmpty : List Event → List ℤ → Type 0
 FromEmpty events book = RunOfCalls InBook emptyBook events book
 
-abbrev pub takenSlot : Window → Slot
-takenSlot w = record { mark = pos 1; strip = w }
-
-abbrev pub used : List ℤ → ℕ → Bool
-used zs k = inUse (slotAt zs k)
+abbrev pub usedSlot : Window → Slot
+usedSlot w = record { mark = pos 1; strip = w }
 
 abbrev pub numberAnswered : Event → ℕ
 numberAnswered (booking w a) = a .number
@@ -54,6 +52,10 @@ numberAnswered (release z a) = a .number
 abbrev pub AsAPlainList : Type 0
 AsAPlainList = (events : List Event) (book : List ℤ) → FromEmpty events book → RunOfCalls OnPaper [] events (entriesOf book)
 
+abbrev pub EachRunOnPaper : Type 0
+EachRunOnPaper = (events : List Event) (es : List Entry) → RunOfCalls OnPaper [] events es
+    → (book : List ℤ) × FromEmpty events book × (entriesOf book ≡ es)
+
 abbrev pub StaysABook : Type 0
 StaysABook = (events : List Event) (book : List ℤ) → FromEmpty events book → isBook book ≡ true
 
@@ -62,15 +64,16 @@ NeverNoBook = (events : List Event) (book : List ℤ) → FromEmpty events book 
 
 abbrev pub NoTwoShareArea : Type 0
 NoTwoShareArea = (events : List Event) (book : List ℤ) → FromEmpty events book
-    → (j k : ℕ) → (j ≡ k → ⊥) → used book j ≡ true → used book k ≡ true → sharesArea (slotAt book j .strip) (slotAt book k .strip) ≡ false
+    → (j k : ℕ) → (j ≡ k → ⊥) → inUse (slotAt book j) ≡ true → inUse (slotAt book k) ≡ true
+    → sharesArea (slotAt book j .strip) (slotAt book k .strip) ≡ false
 
 pub record TakesLowest (w : Window) (a : BookingAnswer) (before after : List ℤ) : Type 0 where
   pub slot : ℕ
   pub answer : a ≡ bookedIn slot
   pub among : slot < 64
-  pub free : used before slot ≡ false
-  pub below : (j : ℕ) → j < slot → used before j ≡ true
-  pub holds : slotAt after slot ≡ takenSlot w
+  pub free : inUse (slotAt before slot) ≡ false
+  pub below : (j : ℕ) → j < slot → inUse (slotAt before j) ≡ true
+  pub holds : slotAt after slot ≡ usedSlot w
   pub others : (j : ℕ) → (j ≡ slot → ⊥) → slotAt after j ≡ slotAt before j
 
 abbrev pub LowestFreeSlot : Type 0
