@@ -22,7 +22,7 @@ use Rattle.rings.specs.Lists.{All, ∅, _◂_}
 use Rattle.slots.specs.Slots.{Slot, slotsOf, is, inUse, stripsIn, goodMark, slotsGood, isBook, freeSlot}
 use Rattle.slots.proofs.Places.{slots-count}
 use Rattle.strip_book.specs.Books.{noBook, stripTaken, bookFull, slotNotInUse}
-use Rattle.strip_book.specs.Books.{bookRefusal, clash, full, usedAt, slotRefusal, bookingRefusal, releaseRefusal}
+use Rattle.strip_book.specs.Books.{tableRefusal, clash, full, usedAt, slotRefusal, bookingRefusal, releaseRefusal}
 use Rattle.strip_book.proofs.Refusing.{book-long, refuses-table, refuses-release}
 use Rattle.bookkeeping.specs.Laws.{numberAnswered, NotABook, another-length, another-mark, refused-strip, shared-area, NoBookExactly}
 use Rattle.bookkeeping.specs.Runs.{Event, booking, release, InBook}
@@ -90,8 +90,8 @@ window-other w =
     let area : Other (noArea w) = either (ltZ (w .left) (w .right) && ltZ (w .bottom) (w .top)) fine (other noWindow 0 (omega arith)) in
     first-other (off ◂ area ◂ ∅)
 
-book-other : (zs : List ℤ) → isBook zs ≡ true → Other (bookRefusal zs)
-unfolding bookRefusal
+book-other : (zs : List ℤ) → isBook zs ≡ true → Other (tableRefusal zs)
+unfolding tableRefusal
 book-other zs b = rw b fine
 
 refusal-other : (e : Event) (zs : List ℤ) → isBook zs ≡ true → Other (refusalOf e zs)

@@ -20,8 +20,8 @@ use Rattle.grid.proofs.Calls.{lent-refused, lent-done}
 use Rattle.racks.specs.Members.{all}
 use Rattle.slots.specs.Slots.{Slot, slotsOf, inUse, isBook, lowestFree, freeSlot}
 use Rattle.slots.proofs.Lowest.{lowest-free, free-among}
-use Rattle.strip_book.specs.Books.{slotNotInUse, bookRefusal, clash, full, usedAt, bookingRefusal, releaseRefusal}
-use Rattle.strip_book.specs.Books.{BookStrip, bookedIn, refusedBooking, Booked, ReleaseSlot, refusedRelease, Released}
+use Rattle.strip_book.specs.Books.{slotNotInUse, tableRefusal, clash, full, usedAt, bookingRefusal, releaseRefusal}
+use Rattle.strip_book.specs.Books.{BookStrip, bookedIn, refusedBooking, Booked, ReleaseSlot, releaseAnswer, Released}
 use Rattle.strip_book.specs.declared.BookingAnswer.{BookingAnswer}
 use Rattle.strip_book.specs.declared.ReleaseAnswer.{ReleaseAnswer}
 use Rattle.strip_book.proofs.Refusing.{refuses-slot, releases}
@@ -33,7 +33,7 @@ use Rattle.bookkeeping.proofs.Steps.{lent-by, bookable, book-slots, slo
 
 -- ---- a booking: its refusal, and what is answered and entered on paper
 same-refusal : (w : Window) (zs : List ℤ) → isBook zs ≡ true → bookingRefusal w zs ≡ refusalToBook w (entriesOf zs)
-unfolding bookingRefusal bookRefusal clash full refusalToBook first
+unfolding bookingRefusal tableRefusal clash full refusalToBook first
 same-refusal w zs b =
     let ss = slotsOf zs in
     let filled : eqb (length (entriesOf zs)) 64 ≡ all inUse ss = rw (book-slots zs b) at (entries-full 0 ss) in
@@ -96,7 +96,7 @@ release-on-paper z a before after b p = go (has z es) refl
     es : List Entry
     es = entriesOf before
 
-    go : (t : Bool) → has z es ≡ t → (a ≡ refusedRelease (if t then none else refuse slotNotInUse 0)) × (entriesOf after ≡ struckOut z es)
+    go : (t : Bool) → has z es ≡ t → (a ≡ releaseAnswer (if t then none else refuse slotNotInUse 0)) × (entriesOf after ≡ struckOut z es)
     go true h =
         let u = used-has before z ∙ h in
         let d = p .done (releases z before b u) in
@@ -104,7 +104,7 @@ release-on-paper z a before after b p = go (has z es) refl
     go false h =
         let e = refuses-slot z before b (used-has before z ∙ h) in
         let r = p .refused (λ q. absurd (omega (arith, ap (λ (r : Refusal). r .number) e, q))) in
-        (r .answer ∙ ap refusedRelease e, ap entriesOf (r .untouched) ∙ sym (struck-absent z es h))
+        (r .answer ∙ ap releaseAnswer e, ap entriesOf (r .untouched) ∙ sym (struck-absent z es h))
 
 pub call-on-paper : (e : Event) (before after : List ℤ) → InBook before e after → isBook before ≡ true
     → OnPaper (entriesOf before) e (entriesOf after)
@@ -127,6 +127,6 @@ call-in-book (booking w a) before es p b =
     let q = booking-on-paper w (r .0) before (r .1) b (r .2) in
     (r .1, subst (λ x. BookStrip w x before (r .1)) (q .0 ∙ sym (p .0)) (r .2), q .1 ∙ sym (p .1))
 call-in-book (release z a) before es p b =
-    let r = has-result refusedRelease (releaseRefusal z before) (Released z) (record { answer = refl; book = refl }) in
+    let r = has-result releaseAnswer (releaseRefusal z before) (Released z) (record { answer = refl; book = refl }) in
     let q = release-on-paper z (r .0) before (r .1) b (r .2) in
     (r .1, subst (λ x. ReleaseSlot z x before (r .1)) (q .0 ∙ sym (p .0)) (r .2), q .1 ∙ sym (p .1))

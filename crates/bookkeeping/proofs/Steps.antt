@@ -22,7 +22,7 @@ use Rattle.slots.specs.Slots.{Slot, slotsOf, inUse, stripsIn, goodMark, goodStr
 use Rattle.slots.proofs.Lowest.{free-among}
 use Rattle.slots.proofs.Places.{slots-count, slots-put, used-among}
 use Rattle.strip_book.specs.Books.{noBook, stripTaken, bookFull, slotNotInUse}
-use Rattle.strip_book.specs.Books.{bookRefusal, clash, full, usedAt, slotRefusal, bookingRefusal, releaseRefusal, Booked, Released}
+use Rattle.strip_book.specs.Books.{tableRefusal, clash, full, usedAt, slotRefusal, bookingRefusal, releaseRefusal, Booked, Released}
 use Rattle.strip_book.specs.declared.BookingAnswer.{BookingAnswer}
 use Rattle.strip_book.specs.declared.ReleaseAnswer.{ReleaseAnswer}
 use Rattle.strip_book.proofs.Refusing.{book-long}
@@ -69,9 +69,9 @@ pub record Bookable (w : Window) (zs : List ℤ) : Type 0 where
   pub room : all inUse (slotsOf zs) ≡ false
 
 pub bookable : (w : Window) (zs : List ℤ) → bookingRefusal w zs .number ≡ 0 → Bookable w zs
-unfolding bookingRefusal bookRefusal clash full
+unfolding bookingRefusal tableRefusal clash full
 bookable w zs e =
-    let p = all-done (bookRefusal zs) (windowRefusal w ∷ clash w zs ∷ full zs ∷ []) e in
+    let p = all-done (tableRefusal zs) (windowRefusal w ∷ clash w zs ∷ full zs ∷ []) e in
     let q = all-done (windowRefusal w) (clash w zs ∷ full zs ∷ []) (p .1) in
     let r = all-done (clash w zs) (full zs ∷ []) (q .1) in
     let s = all-done (full zs) [] (r .1) in
@@ -83,9 +83,9 @@ bookable w zs e =
     }
 
 pub releasable : (z : ℤ) (zs : List ℤ) → releaseRefusal z zs .number ≡ 0 → (isBook zs ≡ true) × (usedAt (slotsOf zs) z ≡ true)
-unfolding releaseRefusal bookRefusal slotRefusal
+unfolding releaseRefusal tableRefusal slotRefusal
 releasable z zs e =
-    let p = all-done (bookRefusal zs) (slotRefusal z zs ∷ []) e in
+    let p = all-done (tableRefusal zs) (slotRefusal z zs ∷ []) e in
     let q = all-done (slotRefusal z zs) [] (p .1) in
     (passed (isBook zs) noBook (omega arith) (p .0), passed (usedAt (slotsOf zs) z) slotNotInUse (omega arith) (q .0))
 

@@ -10,7 +10,7 @@ use Prim.Native.Nat.{ℕ}
 use lib.IntN.{ℤ, pos}
 use Rattle.grid.specs.Refusals.{none, refuse}
 use Rattle.grid.specs.declared.Window.{Window}
-use Rattle.strip_book.specs.Books.{stripTaken, bookedIn, refusedBooking, refusedRelease}
+use Rattle.strip_book.specs.Books.{stripTaken, bookedIn, refusedBooking, releaseAnswer}
 use Rattle.strip_book.specs.declared.BookingAnswer.{BookingAnswer}
 use Rattle.strip_book.specs.declared.ReleaseAnswer.{ReleaseAnswer}
 use Rattle.bookkeeping.specs.Laws.{FromEmpty}
@@ -33,7 +33,7 @@ pub record MorningAnswers (a b c : BookingAnswer) (d : ReleaseAnswer) (e : Booki
   pub entered : a ≡ bookedIn 0
   pub touching : b ≡ bookedIn 1
   pub sharing : c ≡ refusedBooking (refuse stripTaken 0)
-  pub released : d ≡ refusedRelease none
+  pub released : d ≡ releaseAnswer none
   pub again : e ≡ bookedIn 0
   pub left-over : entriesOf book ≡ entry 0 (stripOf 0 0 5 5) ∷ entry 1 (stripOf 10 0 20 10) ∷ []
 

@@ -23,7 +23,7 @@ use Rattle.grid.specs.declared.Window.{Window}
 use Rattle.racks.specs.Areas.{sharesArea}
 use Rattle.racks.specs.Members.{any}
 use Rattle.slots.specs.Slots.{is}
-use Rattle.strip_book.specs.Books.{stripTaken, bookFull, slotNotInUse, refusedBooking, bookedIn, refusedRelease}
+use Rattle.strip_book.specs.Books.{stripTaken, bookFull, slotNotInUse, refusedBooking, bookedIn, releaseAnswer}
 use Rattle.strip_book.specs.declared.BookingAnswer.{BookingAnswer}
 use Rattle.strip_book.specs.declared.ReleaseAnswer.{ReleaseAnswer}
 
@@ -72,4 +72,4 @@ unfoldable pub refusalToRelease : ℤ → List Entry → Refusal
 refusalToRelease z es = if has z es then none else refuse slotNotInUse 0
 
 unfoldable pub answerRelease : ℤ → List Entry → ReleaseAnswer
-answerRelease z es = refusedRelease (refusalToRelease z es)
+answerRelease z es = releaseAnswer (refusalToRelease z es)
