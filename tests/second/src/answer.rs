@@ -4,6 +4,7 @@ use crate::call::{read, Call};
 use crate::fraction::Fraction;
 use crate::liang_barsky::Kept;
 use crate::refusal::Refusal;
+use crate::strip_book;
 use crate::{batch, cohen_sutherland, cyrus_beck, drawing, liang_barsky, millimetres, outline};
 
 pub fn answer(line: &[u8]) -> String {
@@ -27,6 +28,8 @@ fn numbers(call: Call) -> Vec<i128> {
             lent(room, outline::write(order, window, &list, room))
         }
         Call::Draw(room, bytes) => drawn(room, drawing::write(&bytes, room)),
+        Call::Enter(book, strip) => entered(&book, strip),
+        Call::Release(book, slot) => released(&book, slot),
     }
 }
 
@@ -103,6 +106,24 @@ fn drawn(room: usize, result: Result<drawing::Drawing, Refusal>) -> Vec<i128> {
     answer.push(strokes.len() as i128);
     let written: Vec<i128> = strokes.concat().into_iter().map(i128::from).collect();
     answer.extend(output(room, &written));
+    answer
+}
+
+/// The slot, 0 where refused, and the whole book, which a refusal leaves as it was.
+fn entered(book: &[i32], strip: [i32; 4]) -> Vec<i128> {
+    let result = strip_book::enter(book, strip);
+    let mut answer = head(&result).to_vec();
+    let (slot, after) = result.unwrap_or((0, book.to_vec()));
+    answer.push(slot as i128);
+    answer.extend(after.into_iter().map(i128::from));
+    answer
+}
+
+fn released(book: &[i32], slot: i32) -> Vec<i128> {
+    let result = strip_book::release(book, slot);
+    let mut answer = head(&result).to_vec();
+    let after = result.unwrap_or(book.to_vec());
+    answer.extend(after.into_iter().map(i128::from));
     answer
 }
 

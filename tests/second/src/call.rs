@@ -20,6 +20,8 @@ pub enum Call {
     Batch(usize, [i32; 4], Vec<i32>),
     Outline(u32, usize, [i32; 4], Vec<i32>),
     Draw(usize, Vec<u8>),
+    Enter(Vec<i32>, [i32; 4]),
+    Release(Vec<i32>, i32),
 }
 
 pub fn read(line: &[u8]) -> Option<Call> {
@@ -50,6 +52,8 @@ impl Words<'_> {
                 Call::Outline(order, self.room()?, self.four()?, self.list(MOST_OUTLINE)?)
             }
             b"draw" => Call::Draw(self.room()?, file(self.0.pop()?)?),
+            b"enter" => Call::Enter(self.list(MOST_LIST)?, self.four()?),
+            b"release" => Call::Release(self.list(MOST_LIST)?, self.grid()?),
             _ => return None,
         })
     }

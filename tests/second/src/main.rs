@@ -5,6 +5,7 @@
 //! second answers < INPUT      one answer a line
 //! second floats STEP          mm2 lines over all f32 patterns, STEP apart
 //! second grid                 every grid number to millimetres, and those millimetres back
+//! second books SEED COUNT     runs of a strip book, and the longest book
 //! second check A B [INPUT]    the first line in which two files of answers differ
 
 mod answer;
@@ -28,6 +29,7 @@ mod random;
 mod rectangle;
 mod refusal;
 mod rounding;
+mod strip_book;
 mod stroke;
 mod sweeps;
 mod table;
@@ -58,9 +60,13 @@ fn command(words: &[&str]) -> Result<ExitCode, String> {
             step => print(sweeps::floats(step)),
         },
         ["grid"] => print(sweeps::grid()),
+        ["books", seed, count] => print(sweeps::books(number(seed)?, number(count)?)),
         ["check", a, b] => check(a, b, None),
         ["check", a, b, input] => check(a, b, Some(input)),
-        _ => Err("cases SEED COUNT, answers, floats STEP, grid, check A B [INPUT]".to_string()),
+        _ => Err(
+            "cases SEED COUNT, answers, floats STEP, grid, books SEED COUNT, check A B [INPUT]"
+                .to_string(),
+        ),
     }
 }
 
@@ -81,10 +87,13 @@ fn answers() -> Result<ExitCode, String> {
     print(lines::lines(&input).into_iter().map(answer::answer))
 }
 
-fn print(lines: impl Iterator<Item = String>) -> Result<ExitCode, String> {
+fn print(lines: impl Iterator<Item = impl AsRef<[u8]>>) -> Result<ExitCode, String> {
     let mut out = BufWriter::new(io::stdout().lock());
     for line in lines {
-        writeln!(out, "{line}").map_err(|fault| fault.to_string())?;
+        let written = out
+            .write_all(line.as_ref())
+            .and_then(|_| out.write_all(b"\n"));
+        written.map_err(|fault| fault.to_string())?;
     }
     done(out.flush())
 }

@@ -39,8 +39,18 @@ impl Rectangle {
         within(self.left, point.x, self.right) && within(self.bottom, point.y, self.top)
     }
 
-    fn has_area(&self) -> bool {
+    pub fn has_area(&self) -> bool {
         self.left < self.right && self.bottom < self.top
+    }
+
+    /// What lies in both; its sides are turned round where they are apart.
+    pub fn common(&self, other: &Rectangle) -> Rectangle {
+        Rectangle {
+            left: self.left.max(other.left),
+            bottom: self.bottom.max(other.bottom),
+            right: self.right.min(other.right),
+            top: self.top.min(other.top),
+        }
     }
 }
 

@@ -1,6 +1,8 @@
-//! Two sweeps for the comparison: floats over all bit patterns, and every grid number there and back.
+//! Sweeps for the comparison: floats over all bit patterns, every grid number there and back, runs of a strip book.
 
+use crate::cases::{book_runs, books::Book};
 use crate::millimetres::bits_of;
+use crate::random::Random;
 use crate::table::MOST;
 
 /// One pattern a line, now as x, now as y: a refused x would hide its y.
@@ -17,4 +19,12 @@ pub fn grid() -> impl Iterator<Item = String> {
     let all = -MOST - 1..=MOST + 1;
     let back = all.clone().map(|g| format!("back {g}"));
     back.chain(all.map(|g| format!("mm2 {:08x} {:08x}", bits_of(g), bits_of(-g))))
+}
+
+/// Runs, then the most and the longest numbers that a book can be lent as.
+pub fn books(seed: u64, count: usize) -> impl Iterator<Item = Vec<u8>> {
+    let runs = book_runs::lines(&mut Random::new(seed), count);
+    let longest = Book(vec![i32::MIN; 20_000]);
+    runs.into_iter()
+        .chain([longest.enter([i32::MIN; 4]), longest.release(i32::MIN)])
 }

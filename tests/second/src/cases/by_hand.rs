@@ -5,7 +5,7 @@ use super::line::all;
 type Answered = (&'static str, &'static str);
 
 pub fn lines() -> Vec<Vec<u8>> {
-    let lists: [&[Answered]; 4] = [&DESK, &WORDS, &CORNER_WINDOWS, &MILLIMETRES];
+    let lists: [&[Answered]; 5] = [&DESK, &WORDS, &CORNER_WINDOWS, &MILLIMETRES, &BOOKS];
     all(&lists.concat().iter().map(|pair| pair.0).collect::<Vec<_>>())
 }
 
@@ -92,4 +92,40 @@ pub const MILLIMETRES: [Answered; 15] = [
     ("back 16383", "0 0 43fffc00"),
     ("back 16384", "6 0 00000000"),
     ("back -16384", "6 0 00000000"),
+];
+
+/// The strip book's lines as lines of the desk; what it does stands in `book_by_hand`.
+pub const BOOKS: [Answered; 26] = [
+    // A book of no numbers, and of some, which come back as they are usually written.
+    ("enter 0 1 2 3 4", "23 0 0"),
+    ("enter -0 1 2 3 4", "23 0 0"),
+    (
+        "enter 5 -0 007 -2147483648 2147483647 -00012 1 2 3 4",
+        "23 0 0 0 7 -2147483648 2147483647 -12",
+    ),
+    ("release 0 -0", "23 0"),
+    ("release 3 1 2 3 2147483647", "23 0 1 2 3"),
+    // A count that is not the book's, or none that a book may have.
+    ("enter", "?"),
+    ("enter 0", "?"),
+    ("enter 0 1 2 3", "?"),
+    ("enter 1 1 2 3 4", "?"),
+    ("enter -1 1 2 3 4", "?"),
+    ("enter 20001 1 2 3 4", "?"),
+    ("enter 4294967296 1 2 3 4", "?"),
+    ("enter 18446744073709551616 1 2 3 4", "?"),
+    ("release", "?"),
+    ("release 0", "?"),
+    ("release 1 0", "?"),
+    ("release 0 0 0", "?"),
+    ("release -1 0", "?"),
+    ("release 20001 0", "?"),
+    // Spaces, and numbers that 32 bits do not hold: in the book, in the window, as the slot.
+    ("enter 0  1 2 3 4", "?"),
+    ("enter 0 1 2 3 4 ", "?"),
+    ("release 0 0\r", "?"),
+    ("enter 1 2147483648 1 2 3 4", "?"),
+    ("enter 1 0 1 2 3 -2147483649", "?"),
+    ("release 1 -2147483649 0", "?"),
+    ("release 0 2147483648", "?"),
 ];

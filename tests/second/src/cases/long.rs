@@ -1,5 +1,6 @@
-//! The few lines that go to a limit: 4,096 strokes and one more, the longest files and lists and lines.
+//! The few lines that go to a limit: 4,096 strokes and one more, the longest files, lists, books and lines.
 
+use super::books::Book;
 use super::sketch::{counted, Sketch};
 use super::stroke_kinds::stroke;
 use super::windows::Window;
@@ -14,6 +15,7 @@ pub fn lines(random: &mut Random) -> Vec<Vec<u8>> {
     [
         long_lists(random),
         long_drawings(random),
+        long_books(),
         long_lines(random),
     ]
     .concat()
@@ -85,14 +87,28 @@ fn sized(bytes: usize) -> Vec<u8> {
     counted(&[&start[4..], &closes].concat())
 }
 
+/// As many numbers as the desk takes for a book, and one more.
+fn long_books() -> Vec<Vec<u8>> {
+    let [most, more] = [20_000, 20_001].map(|length| Book::full().cut_to(length));
+    vec![
+        most.enter(WINDOW),
+        most.release(0),
+        more.enter(WINDOW),
+        more.release(0),
+    ]
+}
+
 fn long_lines(random: &mut Random) -> Vec<Vec<u8>> {
     let list = kept(random, 4 * MOST_STROKES);
     let batch = batches::of(5 * MOST_STROKES, WINDOW, &list);
     let lb = strokes::of("lb", WINDOW, [-5, 5, 15, 5]);
     let cs = strokes::of("cs", WINDOW, [-5, 5, 15, 5]);
+    let book = Book::full().without(63);
     vec![
         padded(&batch, LONGEST_LINE),
         padded(&lb, 20_000),
+        padded(&book.enter([8, 8, 9, 9]), 20_000),
+        padded(&book.release(62), 20_000),
         padded(&lb, LONGEST_LINE + 1),
         cs,
     ]

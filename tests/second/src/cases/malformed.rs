@@ -18,6 +18,7 @@ pub fn lines() -> Vec<Vec<u8>> {
         numbers(),
         rooms_and_counts(),
         orders(),
+        books(),
         hexadecimal(),
         strange_bytes(),
     ];
@@ -41,6 +42,10 @@ fn words() -> Vec<Vec<u8>> {
         "-",
         "draws 0 -",
         "bat 0 0 0 1 1 0",
+        "Enter 0 1 2 3 4",
+        "enters 0 1 2 3 4",
+        "releas 0 1",
+        "RELEASE 0 1",
     ]);
     let right = [
         "mm2 00000000 00000000",
@@ -52,6 +57,8 @@ fn words() -> Vec<Vec<u8>> {
         "batch 5 0 0 10 10 4 1 2 3 4",
         "outline 0 12 0 0 10 10 6 1 1 5 1 1 5",
         "draw 2 -",
+        "enter 5 1 0 0 10 10 1 2 3 4",
+        "release 5 0 0 0 0 0 7",
     ];
     for line in right {
         let last = line.rfind(' ').unwrap_or(0);
@@ -174,6 +181,24 @@ fn orders() -> Vec<Vec<u8>> {
         .iter()
         .map(|order| format!("outline {order} 13 0 0 10 10 6 1 1 5 1 1 5").into_bytes())
         .collect()
+}
+
+/// Words for a number in the book, in the window and as the slot; then whole books with a count that is one off.
+fn books() -> Vec<Vec<u8>> {
+    let mut lines = Vec::new();
+    let words = "2147483647 2147483648 -2147483648 -2147483649 4294967296 +1 1.0 x";
+    for word in words.split(' ') {
+        lines.push(format!("enter 5 0 {word} 0 0 0 1 2 3 4"));
+        lines.push(format!("enter 1 0 1 2 {word} 4"));
+        lines.push(format!("release 5 {word} 0 0 0 0 0"));
+        lines.push(format!("release 1 0 {word}"));
+    }
+    for (count, numbers) in [(320, 319), (320, 321), (319, 320), (321, 320)] {
+        let zeros = " 0".repeat(numbers);
+        lines.push(format!("enter {count}{zeros} 1 2 3 4"));
+        lines.push(format!("release {count}{zeros} 0"));
+    }
+    lines.into_iter().map(String::into_bytes).collect()
 }
 
 fn hexadecimal() -> Vec<Vec<u8>> {

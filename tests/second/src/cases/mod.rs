@@ -1,7 +1,12 @@
 //! The lines on which the two programs are compared. First come the worked examples, the same for every
-//! seed, then each family's fixed list, the few long lines, and random lines up to the count.
+//! seed, then each family's fixed list, the few long lines, runs of a strip book, and random lines up to the count.
 
 mod batches;
+mod book_answers;
+pub mod book_by_hand;
+mod book_flaws;
+pub mod book_runs;
+pub mod books;
 pub mod by_hand;
 mod corner_windows;
 mod drawing_faults;
@@ -9,9 +14,11 @@ mod drawings;
 mod examples;
 mod flaws;
 mod floats;
+mod grounds;
 mod line;
 mod long;
 mod malformed;
+mod no_books;
 mod numbers;
 mod outline_limits;
 mod outlines;
@@ -25,11 +32,15 @@ mod windows;
 
 use crate::random::Random;
 
-/// At least the fixed lists and the long lines, else exactly `count` lines.
+/// Lines in runs of a strip book: one run that fills its book, and two short ones.
+const IN_RUNS: usize = 175;
+
+/// At least the fixed lists, the long lines and the runs, else exactly `count` lines.
 pub fn lot(seed: u64, count: usize) -> Vec<Vec<u8>> {
     let mut random = Random::new(seed);
     let mut lot = fixed();
     lot.extend(long::lines(&mut random));
+    lot.extend(book_runs::lines(&mut random, IN_RUNS));
     while lot.len() + 1 < count {
         let line = any(&mut random);
         lot.push(line);
@@ -48,6 +59,7 @@ fn fixed() -> Vec<Vec<u8>> {
         batches::fixed(),
         outline_limits::lines(),
         drawing_faults::lines(),
+        book_by_hand::lines(),
         malformed::lines(),
     ];
     lists.concat()
@@ -64,12 +76,13 @@ fn any(random: &mut Random) -> Vec<u8> {
 }
 
 fn well_formed(random: &mut Random) -> Vec<u8> {
-    match random.below(100) {
+    match random.below(104) {
         0..=13 => floats::line(random),
         14..=45 => strokes::line(random),
         46..=59 => corner_windows::line(random),
         60..=70 => batches::line(random),
         71..=88 => outlines::line(random),
-        _ => drawings::line(random),
+        89..=99 => drawings::line(random),
+        _ => book_runs::line(random),
     }
 }

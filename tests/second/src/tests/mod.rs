@@ -1,8 +1,10 @@
 //! The second program against the printed examples, and against itself by other ways to the same answer.
 
 mod agreement;
+mod books;
 mod desk;
 mod passes;
+mod plain_list;
 mod worked;
 
 use crate::answer::answer;
