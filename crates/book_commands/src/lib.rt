@@ -12,8 +12,8 @@ use replies::Reply;
 // The most numbers of a table.
 const MOST_TABLE: usize = 20000;
 
-// Reads M, a table of M numbers, and `behind` numbers more; all but M are put at the front of lent.
-// It says M, and more than the most where the text is something else.
+// Reads M, a table of M numbers, and `behind` numbers more; all but M are put at the front of lent. It says M, or more than the most where the text
+// is something else. M is read as a room is, since the table is what the line lends.
 fn read_table(rest: &[u8], behind: usize, lent: &mut [i32]) -> usize
     requires { ⌜ 0 < behind ⌝ }
     requires { ⌜ behind ≤ 5 ⌝ }
