@@ -23,7 +23,8 @@ use Rattle.whole.proofs.Machine.{Code, par, cast, need, value}
 use Rattle.whole.proofs.Ranges.{within-up}
 use Rattle.grid.specs.Table.{farthest, WindowOnTable}
 use Rattle.grid.specs.declared.Window.{Window}
-use Rattle.racks.specs.Areas.{sharesArea, any}
+use Rattle.racks.specs.Areas.{sharesArea}
+use Rattle.racks.specs.Members.{any}
 use Rattle.racks.specs.Racks.{stripAt, vacant, putAt, stripsOn, Holds}
 use Rattle.racks.proofs.Common.{Comparable}
 

@@ -1,12 +1,13 @@
 // A rack: the strips of a book side by side, so that a strip is compared with all of them in few steps.
 ghost use mathlib.Core.Path.{_≡_};
-ghost use mathlib.Core.List.{List, [], _∷_};
+ghost use mathlib.Core.List.{List, _∷_};
 ghost use Prim.Native.Nat.{_<_};
 ghost use lib.ListN.{length};
 ghost use Rattle.whole.specs.Extremes.{lesser, greater};
 ghost use Rattle.grid.specs.Table.{WindowOnTable};
 ghost use Rattle.grid.specs.declared.Window.{Window};
-ghost use Rattle.racks.specs.Areas.{sharesArea, any};
+ghost use Rattle.racks.specs.Areas.{sharesArea};
+ghost use Rattle.racks.specs.Members.{any};
 ghost use Rattle.racks.specs.Racks.{Holds};
 use grid::Window;
 

@@ -1,22 +1,21 @@
 -- Whether slots are good, one slot after the other: where those behind a slot are, it is its own mark, its own numbers and what its strip shares that
 -- decide; where they are not, nothing before them helps.
 use mathlib.Core.Path.{_≡_, refl, sym, ap, _∙_}
-use mathlib.Core.Bool.{Bool, true, false, not, _&&_, _||_}
+use mathlib.Core.Bool.{Bool, true, false, not, _&&_}
 use mathlib.Core.List.{List, [], _∷_}
 use Prim.Native.Nat.{ℕ, zero, suc, _-_, _≤_}
 use native.Mathlib.Omega.{arith}
 use borrow.Author.Tests.{eq-eqb, ne-eqb}
-use lib.Dec.{eqb}
 use lib.IntN.{ℤ, pos, negsuc}
 use lib.ListN.{length, drop, length-drop}
 use Rattle.whole.specs.Choice.{if_then_else_}
 use Rattle.whole.proofs.Comparisons.{ff-tt}
 use Rattle.grid.specs.Refusals.{windowRefusal}
-use Rattle.grid.specs.declared.Window.{Window}
-use Rattle.racks.specs.Areas.{sharesArea, any}
-use Rattle.slots.specs.Slots.{Slot, slotsOf, is, inUse, stripsIn, all, goodMark, goodStrip, apart, slotsGood}
+use Rattle.racks.specs.Areas.{sharesArea}
+use Rattle.racks.specs.Members.{any, all}
+use Rattle.slots.specs.Slots.{Slot, slotsOf, is, inUse, stripsIn, goodMark, goodStrip, apart, slotsGood}
 use Rattle.slots.specs.Workers.{slotsFrom}
-use Rattle.slots.proofs.Places.{slots-length, slots-drop}
+use Rattle.slots.proofs.Places.{slots-count, slots-drop}
 
 -- ---- a mark
 pub is-not : (z : ℤ) (n : ℕ) → (z ≡ pos n → ⊥) → is n z ≡ false
@@ -130,4 +129,4 @@ strips-few (s ∷ ss) = go (inUse s) (strips-few ss)
 
 pub strips-behind : (zs : List ℤ) (k : ℕ) → length zs ≡ 320 → length (stripsIn (slotsFrom k zs)) ≤ 64 - k
 strips-behind zs k h =
-    omega (arith, strips-few (slotsFrom k zs), ap length (slots-drop k zs), length-drop k (slotsOf zs), slots-length 64 zs (omega arith))
+    omega (arith, strips-few (slotsFrom k zs), ap length (slots-drop k zs), length-drop k (slotsOf zs), slots-count zs)

@@ -1,4 +1,5 @@
 pub mod Places
 pub mod Marks
+pub mod Lowest
 pub mod Good
 pub mod Testing

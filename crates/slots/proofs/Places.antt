@@ -1,27 +1,27 @@
--- The slots of a table by their places: five numbers further on is the next slot.
+-- The slots of a table are read five numbers at a time: so they are counted, found by their places, and changed by five numbers that are put there.
 use mathlib.Core.Path.{_≡_, refl, sym, ap, _∙_}
+use mathlib.Core.Bool.{true}
 use mathlib.Core.List.{List, [], _∷_}
-use Prim.Native.Nat.{ℕ, zero, suc, _+_, _*_, _≤_, _<_}
+use Prim.Native.Nat.{ℕ, zero, suc, _+_, _*_, _/_, _≤_, _<_}
 use native.Mathlib.Nat.{add-zero}
 use native.Mathlib.Numerals.{towards-suc}
 use native.Mathlib.Omega.{arith}
 use lib.IntN.{ℤ, pos}
-use lib.ListN.{length, drop, getD}
-use lib.Seq.{drop-cons, getD-drop}
-use Rattle.slots.specs.Slots.{Slot, slotsOf}
-use Rattle.slots.specs.Workers.{slotIn, slotAt, slotsFrom}
+use lib.ListN.{length, drop, getD, set}
+use lib.Seq.{sets, drop-cons, getD-drop}
+use Rattle.whole.proofs.Comparisons.{ff-tt}
+use Rattle.slots.specs.Slots.{Slot, slotsOf, inUse, freeSlot}
+use Rattle.slots.specs.Workers.{slotIn, slotsFrom}
 
 -- how many there are: one for every five numbers
-pub slots-length : (n : ℕ) (zs : List ℤ) → length zs ≡ 5 * n → length (slotsOf zs) ≡ n
+pub slots-count : (zs : List ℤ) → length (slotsOf zs) ≡ length zs / 5
 unfolding slotsOf
-slots-length zero [] h = refl
-slots-length zero (m ∷ zs) h = absurd (omega arith)
-slots-length (suc n) [] h = absurd (omega arith)
-slots-length (suc n) (a ∷ []) h = absurd (omega arith)
-slots-length (suc n) (a ∷ b ∷ []) h = absurd (omega arith)
-slots-length (suc n) (a ∷ b ∷ c ∷ []) h = absurd (omega arith)
-slots-length (suc n) (a ∷ b ∷ c ∷ d ∷ []) h = absurd (omega arith)
-slots-length (suc n) (a ∷ b ∷ c ∷ d ∷ e ∷ zs) h = ap suc (slots-length n zs (omega arith))
+slots-count (m ∷ l ∷ b ∷ r ∷ t ∷ zs) = omega (arith, slots-count zs)
+slots-count (m ∷ l ∷ b ∷ r ∷ []) = refl
+slots-count (m ∷ l ∷ b ∷ []) = refl
+slots-count (m ∷ l ∷ []) = refl
+slots-count (m ∷ []) = refl
+slots-count [] = refl
 
 -- five numbers left out are one slot left out
 past : (k : ℕ) → 5 * suc k ≡ suc (suc (suc (suc (suc (5 * k)))))
@@ -54,14 +54,39 @@ five zs p h =
       drop-cons zs (suc (suc (suc (suc p)))) (pos 0) h₄,
     ))
 
-pub slots-more : (zs : List ℤ) (k : ℕ) → 5 * k + 5 ≤ length zs → slotsFrom k zs ≡ slotAt zs k ∷ slotsFrom (k + 1) zs
+pub slots-more : (zs : List ℤ) (k : ℕ) → 5 * k + 5 ≤ length zs → slotsFrom k zs ≡ slotIn zs (5 * k) ∷ slotsFrom (k + 1) zs
 slots-more zs k h =
     let next : 5 * k + 5 ≡ 5 * (k + 1) = omega arith in
-    five zs (5 * k) h ∙ ap (λ (n : ℕ). slotAt zs k ∷ slotsOf (drop n zs)) next
+    five zs (5 * k) h ∙ ap (λ (n : ℕ). slotIn zs (5 * k) ∷ slotsOf (drop n zs)) next
 
 -- the slot k stands at the place k
-pub slot-at : (k : ℕ) (zs : List ℤ) (s : Slot) → 5 * k + 5 ≤ length zs → getD (slotsOf zs) k s ≡ slotAt zs k
+pub slot-at : (k : ℕ) (zs : List ℤ) (s : Slot) → 5 * k + 5 ≤ length zs → getD (slotsOf zs) k s ≡ slotIn zs (5 * k)
 slot-at k zs s h =
     ap (λ (n : ℕ). getD (slotsOf zs) n s) (sym (add-zero k))
     ∙ sym (getD-drop k (slotsOf zs) 0 s)
     ∙ ap (λ (ss : List Slot). getD ss 0 s) (sym (slots-drop k zs) ∙ slots-more zs k h)
+
+-- five numbers that are put at the place of a slot are that slot
+module _ (s : Slot) where
+  abbrev fiveOf : List ℤ
+  fiveOf = s .mark ∷ s .strip .left ∷ s .strip .bottom ∷ s .strip .right ∷ s .strip .top ∷ []
+
+  pub slots-put : (zs : List ℤ) (k : ℕ) → slotsOf (sets zs (5 * k) fiveOf) ≡ set (slotsOf zs) k s
+  unfolding slotsOf
+  slots-put (m ∷ l ∷ b ∷ r ∷ t ∷ zs) zero = refl
+  slots-put (m ∷ l ∷ b ∷ r ∷ t ∷ zs) (suc k) = rw (past, slots-put zs k)
+  slots-put (m ∷ l ∷ b ∷ r ∷ []) zero = refl
+  slots-put (m ∷ l ∷ b ∷ r ∷ []) (suc k) = rw past
+  slots-put (m ∷ l ∷ b ∷ []) zero = refl
+  slots-put (m ∷ l ∷ b ∷ []) (suc k) = rw past
+  slots-put (m ∷ l ∷ []) zero = refl
+  slots-put (m ∷ l ∷ []) (suc k) = rw past
+  slots-put (m ∷ []) zero = refl
+  slots-put (m ∷ []) (suc k) = rw past
+  slots-put [] k = refl
+
+-- a slot in use is one of them
+pub used-among : (ss : List Slot) (k : ℕ) → inUse (getD ss k freeSlot) ≡ true → k < length ss
+used-among [] k e = absurd (ff-tt e)
+used-among (s ∷ ss) zero e = omega arith
+used-among (s ∷ ss) (suc k) e = omega (arith, used-among ss k e)

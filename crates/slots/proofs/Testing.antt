@@ -2,7 +2,7 @@
 use mathlib.Core.Path.{_≡_, refl, sym, ap, _∙_, subst}
 use mathlib.Core.Bool.{Bool, true, false, _&&_}
 use mathlib.Core.List.{List, [], _∷_}
-use Prim.Native.Nat.{ℕ, _+_, _<_, _^_}
+use Prim.Native.Nat.{ℕ, _+_, _*_, _<_, _^_}
 use native.Mathlib.Omega.{arith}
 use borrow.Author.Tests.{eq-eqb, ne-eqb}
 use lib.IntN.{ℤ, pos}
@@ -13,10 +13,11 @@ use mir.Val.{ofZ}
 use Rattle.whole.proofs.Comparisons.{bits-eq}
 use Rattle.grid.specs.Refusals.{windowRefusal}
 use Rattle.grid.specs.declared.Window.{Window}
-use Rattle.racks.specs.Areas.{sharesArea, any}
+use Rattle.racks.specs.Areas.{sharesArea}
+use Rattle.racks.specs.Members.{any, all}
 use Rattle.racks.specs.Racks.{Holds}
-use Rattle.slots.specs.Slots.{Slot, slotsOf, stripsIn, all, apart, slotsGood, isBook}
-use Rattle.slots.specs.Workers.{slotAt, slotsFrom, OnRack, Finds}
+use Rattle.slots.specs.Slots.{Slot, slotsOf, stripsIn, apart, slotsGood, isBook}
+use Rattle.slots.specs.Workers.{slotIn, slotsFrom, OnRack, Finds}
 use Rattle.slots.specs.Workers as workers
 use Rattle.slots.specs.declared.Tested.{Tested}
 use Rattle.slots.specs.declared.Tested.the-variants as Tested
@@ -40,7 +41,7 @@ module _ {Bad : Type 0} {Fine : ℕ → Type 0} where
 -- ---- the slot k
 module _ (zs : List ℤ) (k : ℕ) (h : length zs ≡ 320) (i : k < 64) where
   abbrev here : Slot
-  here = slotAt zs k
+  here = slotIn zs (5 * k)
 
   abbrev behind : List Slot
   behind = slotsFrom (k + 1) zs

@@ -1,28 +1,29 @@
 -- A strip book: 64 slots of five numbers, a mark, 1 in use or 0 free, then the strip's window.
 --   Slot              a mark and a strip
 --   slotsOf zs        the slots of a table, five numbers each
+--   freeSlot          a slot that was freed: five zeros
+--   slotAt zs k       the slot k of a table; a free one, where there is none of that number
 --   is n z            the whole number z is n
 --   inUse s           the mark of the slot s is 1
 --   stripsIn ss       the strips that are entered: those of the slots in use, in slot order
---   all P xs          P holds of every member of xs
 --   goodMark s        the mark of the slot s is 0 or 1
 --   goodStrip w       neither 2 nor 3 would refuse the numbers of w
 --   apart ws          no two of the strips ws share area
 --   isBook zs         the table has 320 numbers, its marks are good, its strips in use are good, and no two of them share area
 --   lowestFree ss     the place of the first slot that is not in use; how many there are, if all are
---   freeSlot          a slot that was freed: five zeros
 --   slotNumbers m w   the five numbers of a slot with the mark m and the strip w
 use mathlib.Core.Bool.{Bool, true, false, not, _&&_, _||_}
 use mathlib.Core.List.{List, [], _∷_}
 use Prim.Native.Nat.{ℕ, suc}
 use lib.Dec.{eqb}
 use lib.IntN.{ℤ, pos, negsuc}
-use lib.ListN.{length}
+use lib.ListN.{length, getD}
 use Rattle.whole.specs.Choice.{if_then_else_}
 use Rattle.grid.specs.Refusals.{windowRefusal}
 use Rattle.grid.specs.Table.{sides}
 use Rattle.grid.specs.declared.Window.{Window}
-use Rattle.racks.specs.Areas.{sharesArea, any}
+use Rattle.racks.specs.Areas.{sharesArea}
+use Rattle.racks.specs.Members.{any, all}
 
 pub record Slot : Type 0 where
   pub mark : ℤ
@@ -36,6 +37,12 @@ slotsOf (m ∷ l ∷ []) = []
 slotsOf (m ∷ []) = []
 slotsOf [] = []
 
+abbrev pub freeSlot : Slot
+freeSlot = record { mark = pos 0; strip = record { left = pos 0; bottom = pos 0; right = pos 0; top = pos 0 } }
+
+abbrev pub slotAt : List ℤ → ℕ → Slot
+slotAt zs k = getD (slotsOf zs) k freeSlot
+
 abbrev pub is : ℕ → ℤ → Bool
 is n (pos m) = eqb m n
 is n (negsuc m) = false
@@ -48,10 +55,6 @@ stripsIn [] = []
 stripsIn (s ∷ ss) = if inUse s then s .strip ∷ stripsIn ss else stripsIn ss
 
 -- ---- a book
-
-unfoldable pub all : {A : Type 0} → (A → Bool) → List A → Bool
-all P [] = true
-all P (x ∷ xs) = P x && all P xs
 
 abbrev pub goodMark : Slot → Bool
 goodMark s = is 0 (s .mark) || is 1 (s .mark)
@@ -74,9 +77,6 @@ isBook zs = eqb (length zs) 320 && slotsGood (slotsOf zs)
 unfoldable pub lowestFree : List Slot → ℕ
 lowestFree [] = 0
 lowestFree (s ∷ ss) = if inUse s then suc (lowestFree ss) else 0
-
-abbrev pub freeSlot : Slot
-freeSlot = record { mark = pos 0; strip = record { left = pos 0; bottom = pos 0; right = pos 0; top = pos 0 } }
 
 abbrev pub slotNumbers : ℕ → Window → List ℤ
 slotNumbers m w = pos m ∷ sides w

@@ -1,6 +1,5 @@
 -- What the workers over a table promise.
 --   slotIn zs p        the slot whose mark stands at the place p of a table;  stripIn zs p: its strip
---   slotAt zs k        the slot k
 --   slotsFrom k zs     the slots from k on
 --   OnRack ss n rack   the slots ss are good, and their n strips are on the rack
 --   Finds Bad Fine r   a test finds r: Faulty, and then Bad holds, or Good n, and then Fine holds of n
@@ -24,9 +23,6 @@ stripIn zs p =
 
 abbrev pub slotIn : List ℤ → ℕ → Slot
 slotIn zs p = record { mark = getD zs p (pos 0); strip = stripIn zs p }
-
-abbrev pub slotAt : List ℤ → ℕ → Slot
-slotAt zs k = slotIn zs (5 * k)
 
 abbrev pub slotsFrom : ℕ → List ℤ → List Slot
 slotsFrom k zs = slotsOf (drop (5 * k) zs)

@@ -2,10 +2,10 @@
 ghost use mathlib.Core.Path.{_≡_};
 ghost use mathlib.Core.List.{[]};
 ghost use Prim.Native.Nat.{_+_, _*_, _≤_, _<_};
-ghost use lib.ListN.{length, getD};
+ghost use lib.ListN.{length};
 ghost use lib.Seq.{sets, slice};
 ghost use Rattle.racks.specs.Racks.{Holds};
-ghost use Rattle.slots.specs.Slots.{slotsOf, inUse, lowestFree, freeSlot, slotNumbers};
+ghost use Rattle.slots.specs.Slots.{slotsOf, slotAt, inUse, lowestFree, slotNumbers};
 ghost use Rattle.slots.specs.Workers.{stripIn, slotsFrom, OnRack, Tests, BookTest};
 use grid::Window;
 
@@ -16,7 +16,7 @@ pub enum Tested {
 }
 
 // The strip of the slot k.
-fn strip_at(book: &[i32], k: usize) -> Window
+pub fn strip_at(book: &[i32], k: usize) -> Window
     requires { ⌜ 5 * k + 5 ≤ length (now book) ⌝ }
     ensures { λ r. ⌜ r ≡ stripIn (now (book .entry)) (5 * k) ⌝ }
 {
@@ -83,7 +83,7 @@ pub fn test_book(book: &[i32], rack: &mut [i16; 256]) -> Tested
 pub fn in_use(book: &[i32], k: usize) -> bool
     requires { ⌜ k < 64 ⌝ }
     requires { ⌜ length (now book) ≡ 320 ⌝ }
-    ensures { λ r. ⌜ r ≡ inUse (getD (slotsOf (now (book .entry))) k freeSlot) ⌝ }
+    ensures { λ r. ⌜ r ≡ inUse (slotAt (now (book .entry)) k) ⌝ }
 {
     book[5 * k] == 1
 }

@@ -1,9 +1,9 @@
 -- What the calls refuse, by their tests in their order; and the lowest free slot, which is one of 64 unless all are in use.
-use mathlib.Core.Path.{_≡_, refl, sym, ap, _∙_, subst}
+use mathlib.Core.Path.{_≡_, refl, sym, ap, _∙_}
 use mathlib.Core.Bool.{Bool, true, false, _&&_}
-use mathlib.Core.List.{List, [], _∷_}
+use mathlib.Core.List.{List}
 use mathlib.Core.Logic.{⊎-elim}
-use Prim.Native.Nat.{ℕ, suc, _+_, _<_}
+use Prim.Native.Nat.{ℕ, _+_, _<_}
 use native.Mathlib.Omega.{arith}
 use borrow.Author.Tests.{eqb-true}
 use lib.Dec.{eqb}
@@ -15,12 +15,13 @@ use Rattle.whole.specs.Choice.{if_then_else_}
 use Rattle.whole.proofs.Comparisons.{ff-tt}
 use Rattle.whole.proofs.Order.{zarith, ≤-total}
 use Rattle.grid.specs.Refusals.{first, none, refuse, windowRefusal}
-use Rattle.grid.specs.declared.Refusal.{Refusal}
 use Rattle.grid.specs.declared.Window.{Window}
 use Rattle.grid.proofs.Refusals.{stops, goes-on}
-use Rattle.racks.specs.Areas.{sharesArea, any}
-use Rattle.slots.specs.Slots.{Slot, slotsOf, stripsIn, inUse, all, slotsGood, isBook, lowestFree, freeSlot}
-use Rattle.slots.proofs.Places.{slots-length}
+use Rattle.racks.specs.Areas.{sharesArea}
+use Rattle.racks.specs.Members.{any, all}
+use Rattle.slots.specs.Slots.{Slot, slotsOf, stripsIn, inUse, slotsGood, isBook, lowestFree, freeSlot}
+use Rattle.slots.proofs.Lowest.{free-among, lowest-none}
+use Rattle.slots.proofs.Places.{slots-count}
 use Rattle.strip_book.specs.Books.{noBook, stripTaken, bookFull, slotNotInUse, bookRefusal, clash, full, usedAt, slotRefusal, bookingRefusal, releaseRefusal}
 
 -- ---- a book
@@ -33,27 +34,9 @@ book-long zs = go (eqb (length zs) 320) refl
     go false e f = absurd (ff-tt f)
 
 -- ---- the lowest free slot
-lowest-below : (ss : List Slot) → all inUse ss ≡ false → lowestFree ss < length ss
-unfolding all lowestFree
-lowest-below [] e = absurd (ff-tt (sym e))
-lowest-below (s ∷ ss) e = go (inUse s) e (lowest-below ss)
-  where
-    go : (u : Bool) → u && all inUse ss ≡ false → (all inUse ss ≡ false → lowestFree ss < length ss) → (if u then suc (lowestFree ss) else 0) < length (s ∷ ss)
-    go true e h = omega (arith, h e)
-    go false e h = omega arith
-
-lowest-none : (ss : List Slot) → all inUse ss ≡ true → lowestFree ss ≡ length ss
-unfolding all lowestFree
-lowest-none [] e = refl
-lowest-none (s ∷ ss) e = go (inUse s) e (lowest-none ss)
-  where
-    go : (u : Bool) → u && all inUse ss ≡ true → (all inUse ss ≡ true → lowestFree ss ≡ length ss) → (if u then suc (lowestFree ss) else 0) ≡ length (s ∷ ss)
-    go true e h = ap suc (h e)
-    go false e h = absurd (ff-tt e)
-
 module _ (zs : List ℤ) (h : length zs ≡ 320) where
   sixty-four : length (slotsOf zs) ≡ 64
-  sixty-four = slots-length 64 zs (omega arith)
+  sixty-four = omega (arith, slots-count zs)
 
   pub lowest-of-all : {k : ℕ} → k ≡ 0 + lowestFree (slice 0 64 (slotsOf zs)) → k ≡ lowestFree (slotsOf zs)
   lowest-of-all e = omega (arith, e, ap lowestFree (take-all 64 (slotsOf zs) (omega (arith, sixty-four))))
@@ -64,14 +47,14 @@ module _ (zs : List ℤ) (h : length zs ≡ 320) where
     where
       go : (b : Bool) → all inUse (slotsOf zs) ≡ b → all inUse (slotsOf zs) ≡ true
       go true f = f
-      go false f = absurd (omega (arith, lowest-below (slotsOf zs) f, sixty-four))
+      go false f = absurd (omega (arith, free-among (slotsOf zs) f, sixty-four))
 
   pub not-all-used : (lowestFree (slotsOf zs) ≡ 64 → ⊥) → (all inUse (slotsOf zs) ≡ false) × (lowestFree (slotsOf zs) < 64)
   not-all-used n = go (all inUse (slotsOf zs)) refl
     where
       go : (b : Bool) → all inUse (slotsOf zs) ≡ b → (all inUse (slotsOf zs) ≡ false) × (lowestFree (slotsOf zs) < 64)
       go true f = absurd (n (lowest-none (slotsOf zs) f ∙ sixty-four))
-      go false f = (f, omega (arith, lowest-below (slotsOf zs) f, sixty-four))
+      go false f = (f, omega (arith, free-among (slotsOf zs) f, sixty-four))
 
 -- ---- what booking refuses
 module _ (w : Window) (zs : List ℤ) where
@@ -114,14 +97,14 @@ module _ (z : ℤ) (zs : List ℤ) where
     releases e = rw (b, e)
 
 -- ---- the slot of a number
-pub used-below : (ss : List Slot) (z : ℤ) → z <ℤ pos 0 → usedAt ss z ≡ false
-used-below ss (pos k) h = absurd (omega zarith)
-used-below ss (negsuc k) h = refl
+pub none-below : (ss : List Slot) (z : ℤ) → z <ℤ pos 0 → usedAt ss z ≡ false
+none-below ss (pos k) h = absurd (omega zarith)
+none-below ss (negsuc k) h = refl
 
-pub used-above : (zs : List ℤ) (z : ℤ) → length zs ≡ 320 → pos 63 <ℤ z → usedAt (slotsOf zs) z ≡ false
-used-above zs (pos k) h l =
-    ap inUse (List·getD-eq-default (slotsOf zs) freeSlot {n = k} (omega (zarith, l, slots-length 64 zs (omega arith))))
-used-above zs (negsuc k) h l = refl
+pub none-above : (zs : List ℤ) (z : ℤ) → length zs ≡ 320 → pos 63 <ℤ z → usedAt (slotsOf zs) z ≡ false
+none-above zs (pos k) h l =
+    ap inUse (List·getD-eq-default (slotsOf zs) freeSlot {n = k} (omega (zarith, l, slots-count zs)))
+none-above zs (negsuc k) h l = refl
 
 pub used-is : (ss : List Slot) (z : ℤ) → pos 0 ≤ℤ z → inUse (getD ss (natAbs z) freeSlot) ≡ usedAt ss z
 used-is ss (pos k) h = refl
@@ -133,5 +116,5 @@ small (negsuc k) h l = absurd (omega zarith)
 
 pub used-there : (zs : List ℤ) (z : ℤ) → length zs ≡ 320 → usedAt (slotsOf zs) z ≡ true → (pos 0 ≤ℤ z) × (natAbs z < 64)
 used-there zs z h e =
-    ⊎-elim (λ l. ⊎-elim (λ m. (l, small z l m)) (λ m. absurd (ff-tt (sym (used-above zs z h m) ∙ e))) (≤-total z (pos 63)))
-    (λ l. absurd (ff-tt (sym (used-below (slotsOf zs) z l) ∙ e))) (≤-total (pos 0) z)
+    ⊎-elim (λ l. ⊎-elim (λ m. (l, small z l m)) (λ m. absurd (ff-tt (sym (none-above zs z h m) ∙ e))) (≤-total z (pos 63)))
+    (λ l. absurd (ff-tt (sym (none-below (slotsOf zs) z l) ∙ e))) (≤-total (pos 0) z)

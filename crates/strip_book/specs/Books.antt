@@ -25,8 +25,9 @@ use Rattle.grid.specs.Calls.{Lent}
 use Rattle.grid.specs.Refusals.{first, none, refuse, windowRefusal}
 use Rattle.grid.specs.declared.Refusal.{Refusal}
 use Rattle.grid.specs.declared.Window.{Window}
-use Rattle.racks.specs.Areas.{sharesArea, any}
-use Rattle.slots.specs.Slots.{Slot, slotsOf, stripsIn, inUse, all, isBook, lowestFree, slotNumbers, freeSlot}
+use Rattle.racks.specs.Areas.{sharesArea}
+use Rattle.racks.specs.Members.{any, all}
+use Rattle.slots.specs.Slots.{Slot, slotsOf, stripsIn, inUse, isBook, lowestFree, slotNumbers, freeSlot}
 use Rattle.strip_book.specs.declared.BookingAnswer.{BookingAnswer}
 use Rattle.strip_book.specs.declared.ReleaseAnswer.{ReleaseAnswer}
 

@@ -79,10 +79,11 @@ pub fn book_strip(book: &mut [i32], w: Window) -> BookingAnswer
         return refused_booking(refused(BOOK_FULL));
     }
     slots::put(book, k, 1, w);
+    let slot = k as i32;
     BookingAnswer {
         number: 0,
         place: 0,
-        slot: k as i32,
+        slot,
     }
 }
 

@@ -15,7 +15,8 @@ use Rattle.whole.specs.Extremes.{lesser, greater}
 use Rattle.whole.proofs.Comparisons.{back}
 use Rattle.grid.specs.Table.{WindowOnTable}
 use Rattle.grid.specs.declared.Window.{Window}
-use Rattle.racks.specs.Areas.{sharesArea, any}
+use Rattle.racks.specs.Areas.{sharesArea}
+use Rattle.racks.specs.Members.{any}
 use Rattle.racks.specs.Racks.{stripAt, stripsOn}
 use Rattle.racks.proofs.Common.{Comparable, across, upward, across-fits, upward-fits, common-read, share-test, greater-test}
 use Rattle.racks.proofs.Holding.{held, reading, is-reading, short-fits, place, one-more, none-more}

@@ -1,8 +1,7 @@
 -- `slots::lowest_free` meets its contract: all slots from the first up to k are in use, so the lowest free one is the lowest from k on. Assumes nothing.
-use mathlib.Core.Path.{_≡_, refl, sym, ap, _∙_}
+use mathlib.Core.Path.{_≡_, refl, sym, _∙_}
 use Prim.Native.Nat.{_+_, _-_, _*_, _≤_}
 use native.Mathlib.Omega.{arith}
-use borrow.Author.Needs.{needs}
 use borrow.Author.Tests.{eq-eqb, ne-eqb}
 use denote.Ref.{now}
 use lib.Dec.{eqb}
@@ -11,8 +10,9 @@ use lib.ListN.{getD}
 use lib.Seq.{slice}
 use mir.Syntax.{w32}
 use mir.Val.{ofZ}
-use Rattle.slots.specs.Slots.{slotsOf, inUse, lowestFree, freeSlot}
-use Rattle.slots.proofs.Marks.{use-test, free-here, free-later, free-none}
+use Rattle.slots.specs.Slots.{slotsOf, slotAt, inUse, lowestFree}
+use Rattle.slots.proofs.Marks.{use-test}
+use Rattle.slots.proofs.Lowest.{free-here, free-later, free-none}
 use Rattle.slots.proofs.lowest_free.Statement.{statement}
 use Rattle.slots.proofs.lowest_free.Tie as tie
 
@@ -36,7 +36,7 @@ shared-slice-copy-out-if1 c = omega arith
 
 -- the mark of the slot k is looked at
 used : (c : tie.After-if12 Inv-loop μ-loop) → let l = c .before .before in
-    eqb (ofZ w32 (getD (now (l .before .args .book)) (5 * l .loop .k) (pos 0))) 1 ≡ inUse (getD (slotsOf (now (l .before .args .book))) (l .loop .k) freeSlot)
+    eqb (ofZ w32 (getD (now (l .before .args .book)) (5 * l .loop .k) (pos 0))) 1 ≡ inUse (slotAt (now (l .before .args .book)) (l .loop .k))
 used c = let l = c .before .before in use-test _ (l .loop .k) (l .before .pre .1 .1) (omega (arith, c .before .loop-test .taken)) (c .if12 .given)
 
 returns : tie.Need-returns Inv-loop μ-loop

@@ -1,6 +1,6 @@
 -- `slots::test_slot` meets its contract: by its mark the slot is free, or bad, or its strip is tested. Assumes nothing.
 use mathlib.Core.Path.{_≡_, sym, ap, _∙_, subst}
-use Prim.Native.Nat.{_+_}
+use Prim.Native.Nat.{_+_, _*_}
 use native.Mathlib.Omega.{arith}
 use borrow.Author.Needs.{needs}
 use denote.Ref.{now}
@@ -9,9 +9,10 @@ use Rattle.grid.specs.declared.Refusal.{Refusal}
 use Rattle.grid.specs.Refusals.{windowRefusal}
 use Rattle.grid.specs.Table.{WindowOnTable}
 use Rattle.grid.proofs.Refusals.{window-on-table}
-use Rattle.racks.specs.Areas.{sharesArea, any}
+use Rattle.racks.specs.Areas.{sharesArea}
+use Rattle.racks.specs.Members.{any}
 use Rattle.slots.specs.Slots.{Slot, stripsIn}
-use Rattle.slots.specs.Workers.{slotAt, slotsFrom}
+use Rattle.slots.specs.Workers.{slotIn, slotsFrom}
 use Rattle.slots.specs.Workers as workers
 use Rattle.slots.proofs.Good.{strips-behind}
 use Rattle.slots.proofs.Testing.{mark-is, fails-mark, passes-free, fails-strip, fails-share, passes-used}
@@ -41,7 +42,7 @@ returns-2 c =
 
 -- the slot k, where it is in use
 abbrev slot : tie.Else2 → Slot
-slot c = let a = c .before .before .before in slotAt (now (a .args .book)) (a .args .k)
+slot c = let a = c .before .before .before in slotIn (now (a .args .book)) (5 * a .args .k)
 
 used : (c : tie.Else2) → slot c .mark ≡ pos 1
 used c =

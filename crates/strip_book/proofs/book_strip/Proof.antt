@@ -1,8 +1,8 @@
 -- `strip_book::book_strip` meets its contract: the refusals in their order, and then the lowest free slot. Assumes nothing.
-use mathlib.Core.Path.{_≡_, refl, sym, ap, _∙_, subst}
+use mathlib.Core.Path.{_≡_, sym, ap, _∙_, subst}
 use mathlib.Core.Bool.{true, false}
 use mathlib.Core.List.{List}
-use Prim.Native.Nat.{ℕ, _+_, _*_, _<_, _≤_}
+use Prim.Native.Nat.{ℕ, _*_, _<_}
 use native.Mathlib.Omega.{arith}
 use borrow.Author.Needs.{needs}
 use denote.Ref.{now}
@@ -12,12 +12,12 @@ use lib.Seq.{sets}
 use mir.Syntax.{w32}
 use mir.Facts.{toZ-pos}
 use Rattle.grid.specs.Refusals.{windowRefusal}
-use Rattle.grid.specs.Table.{WindowOnTable}
 use Rattle.grid.specs.declared.Refusal.{Refusal}
 use Rattle.grid.specs.declared.Window.{Window}
 use Rattle.grid.proofs.Calls.{lent-refused, lent-done}
 use Rattle.grid.proofs.Refusals.{window-on-table}
-use Rattle.racks.specs.Areas.{sharesArea, any}
+use Rattle.racks.specs.Areas.{sharesArea}
+use Rattle.racks.specs.Members.{any}
 use Rattle.racks.proofs.Holding.{vacant-holds}
 use Rattle.slots.specs.Slots.{slotsOf, stripsIn, isBook, lowestFree, slotNumbers}
 use Rattle.slots.proofs.Testing.{found-faulty, found-good}
@@ -159,8 +159,8 @@ lower c =
 put-requires : tie.Need-put-requires
 put-requires c κs = omega (arith, lower (c .before), long (c .before .before .before .before .before .before .before .before .before .before))
 
-cast-t22 : tie.Need-cast-t22
-cast-t22 c = record { sfits = omega (arith, lower (c .before .before .before)) }
+cast-slot : tie.Need-cast-slot
+cast-slot c = record { sfits = omega (arith, lower (c .before .before .before)) }
 
 same-length-5 : tie.Need-same-length-5
 same-length-5 c = search needs
@@ -204,6 +204,6 @@ book-strip-spec =
     same-length-4
     returns-4
     put-requires
-    cast-t22
+    cast-slot
     same-length-5
     returns-5)

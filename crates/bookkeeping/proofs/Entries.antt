@@ -1,0 +1,156 @@
+-- The slots in use, as entries: each thing that is done to the list on paper is what is done to the slots. All by induction on the slots.
+use mathlib.Core.Path.{_≡_, refl, sym, ap, _∙_}
+use mathlib.Core.Bool.{Bool, true, false, _&&_, _||_}
+use mathlib.Core.List.{List, [], _∷_}
+use Prim.Native.Nat.{ℕ, zero, suc, _+_, _≤_, _<_}
+use native.Mathlib.Nat.{add-zero}
+use native.Mathlib.Omega.{arith}
+use borrow.Author.Tests.{eq-eqb, ne-eqb, lt-ltb, le-ltb}
+use lib.Dec.{eqb, eqb·suc-suc}
+use lib.IntN.{ℤ, pos, negsuc}
+use lib.ListN.{length, getD, set}
+use Rattle.whole.specs.Choice.{if_then_else_}
+use Rattle.whole.proofs.Comparisons.{tt-ff}
+use Rattle.grid.specs.declared.Window.{Window}
+use Rattle.racks.specs.Members.{any, all}
+use Rattle.slots.specs.Slots.{Slot, is, inUse, stripsIn, lowestFree, freeSlot}
+use Rattle.bookkeeping.specs.Laws.{takenSlot}
+use Rattle.bookkeeping.specs.PlainList.{Entry, entry, strips, firstMissing, entered, has, struckOut}
+use Rattle.bookkeeping.specs.Runs.{entriesFrom}
+
+-- the entries of a slot and of those after it, by whether it is in use
+abbrev entriesIf : Bool → ℕ → Slot → List Slot → List Entry
+entriesIf b k s ss = if b then entry k (s .strip) ∷ entriesFrom (suc k) ss else entriesFrom (suc k) ss
+
+-- the next number, and as many numbers on
+next-number : (k j : ℕ) → k + suc j ≡ suc k + j
+next-number k j = omega arith
+
+-- ---- the strips, and how many there are
+pub entries-strips : (k : ℕ) (ss : List Slot) → strips (entriesFrom k ss) ≡ stripsIn ss
+unfolding entriesFrom stripsIn
+entries-strips k [] = refl
+entries-strips k (s ∷ ss) = go (inUse s) (entries-strips (suc k) ss)
+  where
+    go : (b : Bool) → strips (entriesFrom (suc k) ss) ≡ stripsIn ss
+        → strips (entriesIf b k s ss) ≡ (if b then s .strip ∷ stripsIn ss else stripsIn ss)
+    go true e = ap (λ (ws : List Window). s .strip ∷ ws) e
+    go false e = e
+
+entries-few : (k : ℕ) (ss : List Slot) → length (entriesFrom k ss) ≤ length ss
+unfolding entriesFrom
+entries-few k [] = omega arith
+entries-few k (s ∷ ss) = go (inUse s) (entries-few (suc k) ss)
+  where
+    go : (b : Bool) → length (entriesFrom (suc k) ss) ≤ length ss → length (entriesIf b k s ss) ≤ suc (length ss)
+    go true h = omega arith
+    go false h = omega arith
+
+pub entries-full : (k : ℕ) (ss : List Slot) → eqb (length (entriesFrom k ss)) (length ss) ≡ all inUse ss
+unfolding entriesFrom all
+entries-full k [] = refl
+entries-full k (s ∷ ss) = go (inUse s) (entries-full (suc k) ss)
+  where
+    go : (b : Bool) → eqb (length (entriesFrom (suc k) ss)) (length ss) ≡ all inUse ss
+        → eqb (length (entriesIf b k s ss)) (suc (length ss)) ≡ (b && all inUse ss)
+    go true e = eqb·suc-suc (length (entriesFrom (suc k) ss)) (length ss) ∙ e
+    go false e = ne-eqb (length (entriesFrom (suc k) ss)) (suc (length ss)) (omega (arith, entries-few (suc k) ss))
+
+-- ---- a number below all of them
+has-none : (n k : ℕ) (ss : List Slot) → n < k → has (pos n) (entriesFrom k ss) ≡ false
+unfolding entriesFrom any
+has-none n k [] h = refl
+has-none n k (s ∷ ss) h = go (inUse s) (has-none n (suc k) ss (omega arith))
+  where
+    go : (b : Bool) → has (pos n) (entriesFrom (suc k) ss) ≡ false → has (pos n) (entriesIf b k s ss) ≡ false
+    go true e = simp (ne-eqb n k (omega arith), e)
+    go false e = e
+
+missing-below : (n k : ℕ) (ss : List Slot) → n < k → firstMissing n (entriesFrom k ss) ≡ n
+unfolding entriesFrom firstMissing
+missing-below n k [] h = refl
+missing-below n k (s ∷ ss) h = go (inUse s) (missing-below n (suc k) ss (omega arith))
+  where
+    go : (b : Bool) → firstMissing n (entriesFrom (suc k) ss) ≡ n → firstMissing n (entriesIf b k s ss) ≡ n
+    go true e = simp (ne-eqb k n (omega arith))
+    go false e = e
+
+entered-below : (n k : ℕ) (w : Window) (ss : List Slot) → n < k → entered n w (entriesFrom k ss) ≡ entry n w ∷ entriesFrom k ss
+unfolding entriesFrom entered
+entered-below n k w [] h = refl
+entered-below n k w (s ∷ ss) h = go (inUse s) (entered-below n (suc k) w ss (omega arith))
+  where
+    go : (b : Bool) → entered n w (entriesFrom (suc k) ss) ≡ entry n w ∷ entriesFrom (suc k) ss
+        → entered n w (entriesIf b k s ss) ≡ entry n w ∷ entriesIf b k s ss
+    go true e = simp (le-ltb k n (omega arith))
+    go false e = e
+
+-- ---- the first missing number is that of the lowest free slot
+pub first-missing : (k : ℕ) (ss : List Slot) → firstMissing k (entriesFrom k ss) ≡ k + lowestFree ss
+unfolding entriesFrom firstMissing lowestFree
+first-missing k [] = omega arith
+first-missing k (s ∷ ss) = go (inUse s) (first-missing (suc k) ss)
+  where
+    go : (b : Bool) → firstMissing (suc k) (entriesFrom (suc k) ss) ≡ suc k + lowestFree ss
+        → firstMissing k (entriesIf b k s ss) ≡ k + (if b then suc (lowestFree ss) else 0)
+    go true e = simp (eq-eqb k k refl) (e ∙ sym (next-number k (lowestFree ss)))
+    go false e = missing-below k (suc k) ss (omega arith) ∙ sym (add-zero k)
+
+-- ---- a strip entered at a free slot
+pub enters : (k j : ℕ) (w : Window) (ss : List Slot) → j < length ss → inUse (getD ss j freeSlot) ≡ false
+    → entered (k + j) w (entriesFrom k ss) ≡ entriesFrom k (set ss j (takenSlot w))
+unfolding entriesFrom entered
+enters k j w [] h f = absurd (omega arith)
+enters k zero w (s ∷ ss) h f = rw (add-zero, f) (entered-below k (suc k) w ss (omega arith))
+enters k (suc j) w (s ∷ ss) h f = go (inUse s) (enters (suc k) j w ss (omega arith) f)
+  where
+    go : (b : Bool) → entered (suc k + j) w (entriesFrom (suc k) ss) ≡ entriesFrom (suc k) (set ss j (takenSlot w))
+        → entered (k + suc j) w (entriesIf b k s ss) ≡ entriesIf b k s (set ss j (takenSlot w))
+    go true e = simp (lt-ltb k (k + suc j) (omega arith)) (rw (next-number k j, e))
+    go false e = rw (next-number k j, e)
+
+-- ---- an entry that is there, or not
+pub has-slot : (k j : ℕ) (ss : List Slot) → has (pos (k + j)) (entriesFrom k ss) ≡ inUse (getD ss j freeSlot)
+unfolding entriesFrom any
+has-slot k j [] = refl
+has-slot k zero (s ∷ ss) = go (inUse s)
+  where
+    go : (b : Bool) → has (pos (k + 0)) (entriesIf b k s ss) ≡ b
+    go true = simp (eq-eqb (k + 0) k (omega arith))
+    go false = rw add-zero (has-none k (suc k) ss (omega arith))
+has-slot k (suc j) (s ∷ ss) = go (inUse s) (has-slot (suc k) j ss)
+  where
+    go : (b : Bool) → has (pos (suc k + j)) (entriesFrom (suc k) ss) ≡ inUse (getD ss j freeSlot)
+        → has (pos (k + suc j)) (entriesIf b k s ss) ≡ inUse (getD ss j freeSlot)
+    go true e = simp (ne-eqb (k + suc j) k (omega arith)) (rw next-number e)
+    go false e = rw next-number e
+
+pub has-negative : (n : ℕ) (es : List Entry) → has (negsuc n) es ≡ false
+unfolding any
+has-negative n [] = refl
+has-negative n (e ∷ es) = has-negative n es
+
+-- ---- an entry taken out
+pub struck-absent : (z : ℤ) (es : List Entry) → has z es ≡ false → struckOut z es ≡ es
+unfolding any struckOut
+struck-absent z [] h = refl
+struck-absent z (e ∷ es) h = go (is (e .number) z) h (struck-absent z es)
+  where
+    go : (b : Bool) → (b || has z es) ≡ false → (has z es ≡ false → struckOut z es ≡ es) → (if b then es else e ∷ struckOut z es) ≡ e ∷ es
+    go true h f = absurd (tt-ff h)
+    go false h f = ap (λ (rest : List Entry). e ∷ rest) (f h)
+
+pub leaves : (k j : ℕ) (ss : List Slot) → struckOut (pos (k + j)) (entriesFrom k ss) ≡ entriesFrom k (set ss j freeSlot)
+unfolding entriesFrom struckOut
+leaves k j [] = refl
+leaves k zero (s ∷ ss) = go (inUse s)
+  where
+    go : (b : Bool) → struckOut (pos (k + 0)) (entriesIf b k s ss) ≡ entriesFrom (suc k) ss
+    go true = simp (eq-eqb (k + 0) k (omega arith))
+    go false = rw add-zero (struck-absent (pos k) (entriesFrom (suc k) ss) (has-none k (suc k) ss (omega arith)))
+leaves k (suc j) (s ∷ ss) = go (inUse s) (leaves (suc k) j ss)
+  where
+    go : (b : Bool) → struckOut (pos (suc k + j)) (entriesFrom (suc k) ss) ≡ entriesFrom (suc k) (set ss j freeSlot)
+        → struckOut (pos (k + suc j)) (entriesIf b k s ss) ≡ entriesIf b k s (set ss j freeSlot)
+    go true e = simp (ne-eqb (k + suc j) k (omega arith)) (rw (next-number k j, e))
+    go false e = rw (next-number k j, e)

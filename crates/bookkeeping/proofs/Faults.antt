@@ -1,0 +1,144 @@
+-- A call answers 23 exactly when the table has a fault: the tests find the slots at fault, and no other refusal has that number.
+use mathlib.Core.Path.{_≡_, refl, sym, ap, _∙_}
+use mathlib.Core.Bool.{Bool, true, false, _&&_, _||_}
+use mathlib.Core.List.{List, [], _∷_}
+use mathlib.Core.Logic.{_↔_}
+use Prim.Native.Nat.{ℕ}
+use native.Mathlib.Omega.{arith}
+use borrow.Author.Tests.{eqb-true, eqb-false}
+use lib.Dec.{eqb, ltb}
+use lib.IntN.{ℤ, pos, negsuc}
+use lib.ListN.{length, getD}
+use lib.Signed.{ltZ}
+use Rattle.whole.specs.Choice.{if_then_else_}
+use Rattle.whole.proofs.Comparisons.{ff-tt, tt-ff, by-test}
+use Rattle.grid.specs.Refusals.{windowOff, noWindow, none, refuse, first, offTable, noArea, windowRefusal}
+use Rattle.grid.specs.Table.{firstOff, sides}
+use Rattle.grid.specs.declared.Refusal.{Refusal}
+use Rattle.grid.specs.declared.Window.{Window}
+use Rattle.racks.specs.Areas.{sharesArea}
+use Rattle.racks.specs.Members.{any, all}
+use Rattle.rings.specs.Lists.{All, ∅, _◂_}
+use Rattle.slots.specs.Slots.{Slot, slotsOf, is, inUse, stripsIn, goodMark, slotsGood, isBook, freeSlot}
+use Rattle.strip_book.specs.Books.{noBook, stripTaken, bookFull, slotNotInUse}
+use Rattle.strip_book.specs.Books.{bookRefusal, clash, full, usedAt, slotRefusal, bookingRefusal, releaseRefusal}
+use Rattle.strip_book.specs.declared.BookingAnswer.{BookingAnswer}
+use Rattle.strip_book.specs.declared.ReleaseAnswer.{ReleaseAnswer}
+use Rattle.bookkeeping.specs.Laws.{numberAnswered, NotABook, another-length, another-mark, refused-strip, shared-area, NoBookExactly}
+use Rattle.bookkeeping.specs.Runs.{Event, booking, release, InBook}
+use Rattle.bookkeeping.proofs.Good.{Fault, bad-mark, bad-strip, bad-areas, faulty-slots}
+use Rattle.slots.proofs.Places.{slots-count}
+use Rattle.bookkeeping.proofs.Steps.{lent-by, book-good, book-numbers}
+
+-- ---- the tests of a mark
+is-number : (n : ℕ) (z : ℤ) → is n z ≡ true → z ≡ pos n
+is-number n (pos m) e = ap pos (eqb-true m n e)
+is-number n (negsuc m) e = absurd (ff-tt e)
+
+good-marked : (s : Slot) → goodMark s ≡ true → (s .mark ≡ pos 0 → ⊥) → (s .mark ≡ pos 1 → ⊥) → ⊥
+good-marked s = go (is 0 (s .mark)) (is 1 (s .mark)) refl refl
+  where
+    go : (a b : Bool) → is 0 (s .mark) ≡ a → is 1 (s .mark) ≡ b → (a || b) ≡ true → (s .mark ≡ pos 0 → ⊥) → (s .mark ≡ pos 1 → ⊥) → ⊥
+    go true b p q e f g = f (is-number 0 (s .mark) p)
+    go false b p q e f g = g (is-number 1 (s .mark) (q ∙ e))
+
+-- ---- the faults of a table
+a-fault : (zs : List ℤ) → length zs ≡ 320 → Fault (slotsOf zs) → NotABook zs
+a-fault zs l (bad-mark k h e) = another-mark k (omega (arith, slots-count zs))
+    (λ m. tt-ff (sym (ap (λ (z : ℤ). is 0 z || is 1 z) m) ∙ e))
+    (λ m. tt-ff (sym (ap (λ (z : ℤ). is 0 z || is 1 z) m) ∙ e))
+a-fault zs l (bad-strip k h u e) = refused-strip k (omega (arith, slots-count zs)) (is-number 1 _ u) (eqb-false _ _ e)
+a-fault zs l (bad-areas h) =
+    shared-area (h .one) (h .other) (h .before) (omega (arith, slots-count zs))
+    (is-number 1 _ (h .used-one)) (is-number 1 _ (h .used-other)) (h .shares)
+
+not-a-book : (zs : List ℤ) → isBook zs ≡ false → NotABook zs
+unfolding isBook
+not-a-book zs = go (eqb (length zs) 320) refl
+  where
+    go : (b : Bool) → eqb (length zs) 320 ≡ b → (b && slotsGood (slotsOf zs)) ≡ false → NotABook zs
+    go true l e = a-fault zs (eqb-true (length zs) 320 l) (faulty-slots (slotsOf zs) e)
+    go false l e = another-length (eqb-false (length zs) 320 l)
+
+no-book-no-fault : (zs : List ℤ) → isBook zs ≡ true → NotABook zs → ⊥
+no-book-no-fault zs b (another-length n) = n (book-numbers zs b)
+no-book-no-fault zs b (another-mark k h m n) = good-marked (getD (slotsOf zs) k freeSlot) (book-good zs b .marks k) m n
+no-book-no-fault zs b (refused-strip k h m e) = e (eqb-true _ _ (book-good zs b .strips k (ap (is 1) m)))
+no-book-no-fault zs b (shared-area j k h l m n e) = tt-ff (sym e ∙ book-good zs b .areas j k h (ap (is 1) m) (ap (is 1) n))
+
+-- ---- the other refusals have other numbers
+record Other (r : Refusal) : Type 0 where
+  differs : r .number ≡ noBook → ⊥
+
+other : (n k : ℕ) → (n ≡ noBook → ⊥) → Other (refuse n k)
+other n k h = record { differs = h }
+
+fine : Other none
+fine = other 0 0 (omega arith)
+
+either : (b : Bool) {x y : Refusal} → Other x → Other y → Other (if b then x else y)
+either b h k = by-test b Other (λ _. h) (λ _. k)
+
+first-other : {rs : List Refusal} → All Other rs → Other (first rs)
+unfolding first
+first-other ∅ = fine
+first-other (_◂_ {x = r} {xs = rs} h hs) = either (eqb (r .number) 0) (first-other hs) h
+
+window-other : (w : Window) → Other (windowRefusal w)
+unfolding windowRefusal offTable noArea
+window-other w =
+    let off : Other (offTable windowOff (sides w)) = either (ltb (firstOff (sides w)) 4) (other windowOff (firstOff (sides w)) (omega arith)) fine in
+    let area : Other (noArea w) = either (ltZ (w .left) (w .right) && ltZ (w .bottom) (w .top)) fine (other noWindow 0 (omega arith)) in
+    first-other (off ◂ area ◂ ∅)
+
+book-other : (zs : List ℤ) → isBook zs ≡ true → Other (bookRefusal zs)
+unfolding bookRefusal
+book-other zs b = rw b fine
+
+booking-other : (w : Window) (zs : List ℤ) → isBook zs ≡ true → Other (bookingRefusal w zs)
+unfolding bookingRefusal clash full
+booking-other w zs b =
+    let taken : Other (clash w zs) = either (any (sharesArea w) (stripsIn (slotsOf zs))) (other stripTaken 0 (omega arith)) fine in
+    let filled : Other (full zs) = either (all inUse (slotsOf zs)) (other bookFull 0 (omega arith)) fine in
+    first-other (book-other zs b ◂ window-other w ◂ taken ◂ filled ◂ ∅)
+
+release-other : (z : ℤ) (zs : List ℤ) → isBook zs ≡ true → Other (releaseRefusal z zs)
+unfolding releaseRefusal slotRefusal
+release-other z zs b =
+    let free : Other (slotRefusal z zs) = either (usedAt (slotsOf zs) z) fine (other slotNotInUse 0 (omega arith)) in
+    first-other (book-other zs b ◂ free ◂ ∅)
+
+pub call-never : (e : Event) (before after : List ℤ) → InBook before e after → isBook before ≡ true → numberAnswered e ≡ noBook → ⊥
+call-never (booking w a) before after p b e = lent-by p
+    (λ z d. fine .differs (sym (ap (λ (x : BookingAnswer). x .number) (d .answer)) ∙ e))
+    (λ n r. booking-other w before b .differs (sym (ap (λ (x : BookingAnswer). x .number) (r .answer)) ∙ e))
+call-never (release z a) before after p b e = lent-by p
+    (λ z d. fine .differs (sym (ap (λ (x : ReleaseAnswer). x .number) (d .answer)) ∙ e))
+    (λ n r. release-other z before b .differs (sym (ap (λ (x : ReleaseAnswer). x .number) (r .answer)) ∙ e))
+
+-- ---- a table that is no book is refused by 23
+no-book-refusal : (zs : List ℤ) (rs : List Refusal) → isBook zs ≡ false → first (bookRefusal zs ∷ rs) ≡ refuse noBook 0
+unfolding bookRefusal first
+no-book-refusal zs rs b = simp b
+
+call-always : (e : Event) (before after : List ℤ) → InBook before e after → isBook before ≡ false → numberAnswered e ≡ noBook
+unfolding bookingRefusal releaseRefusal
+call-always (booking w a) before after p b = answer (no-book-refusal before (windowRefusal w ∷ clash w before ∷ full before ∷ []) b)
+  where
+    answer : bookingRefusal w before ≡ refuse noBook 0 → a .number ≡ noBook
+    answer q = lent-by p
+        (λ z d. absurd (omega (arith, ap (λ (x : Refusal). x .number) q)))
+        (λ n r. ap (λ (x : BookingAnswer). x .number) (r .answer) ∙ ap (λ (x : Refusal). x .number) q)
+call-always (release z a) before after p b = answer (no-book-refusal before (slotRefusal z before ∷ []) b)
+  where
+    answer : releaseRefusal z before ≡ refuse noBook 0 → a .number ≡ noBook
+    answer q = lent-by p
+        (λ z d. absurd (omega (arith, ap (λ (x : Refusal). x .number) q)))
+        (λ n r. ap (λ (x : ReleaseAnswer). x .number) (r .answer) ∙ ap (λ (x : Refusal). x .number) q)
+
+pub no-book-exactly : NoBookExactly
+no-book-exactly e before after p = go (isBook before) refl
+  where
+    go : (b : Bool) → isBook before ≡ b → (numberAnswered e ≡ noBook) ↔ NotABook before
+    go true b = (λ n. absurd (call-never e before after p b n), λ h. absurd (no-book-no-fault before b h))
+    go false b = (λ n. not-a-book before b, λ h. call-always e before after p b)

@@ -1,0 +1,9 @@
+pub mod Tests
+pub mod Good
+pub mod Areas
+pub mod Entries
+pub mod Steps
+pub mod Paper
+pub mod Faults
+pub mod Theorems
+pub mod Morning

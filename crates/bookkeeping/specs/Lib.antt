@@ -1,0 +1,4 @@
+pub mod PlainList
+pub mod Runs
+pub mod Laws
+pub mod Morning
