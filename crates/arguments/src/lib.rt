@@ -28,6 +28,10 @@ pub const OUTLINE: u64 = 0x1_6f_75_74_6c_69_6e_65;
 
 pub const DRAW: u64 = 0x1_64_72_61_77;
 
+pub const ENTER: u64 = 0x1_65_6e_74_65_72;
+
+pub const RELEASE: u64 = 0x1_72_65_6c_65_61_73_65;
+
 // The word that asks for the lines there are.
 pub const HELP: u64 = 0x1_68_65_6c_70;
 

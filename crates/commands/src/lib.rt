@@ -11,11 +11,13 @@ use arguments::BATCH;
 use arguments::CB;
 use arguments::CS;
 use arguments::DRAW;
+use arguments::ENTER;
 use arguments::LB;
 use arguments::LONGEST;
 use arguments::MM2;
 use arguments::MM4;
 use arguments::OUTLINE;
+use arguments::RELEASE;
 use replies::Reply;
 
 // The reply to the line that the first `have` bytes are.
@@ -37,6 +39,7 @@ pub fn reply(line: &[u8], have: usize, lent: &mut [i32]) -> Reply
         BATCH => batch_commands::batch(rest, lent),
         OUTLINE => outline_commands::outline(rest, lent),
         DRAW => drawing_commands::draw(rest, lent),
+        ENTER | RELEASE => book_commands::reply(word, rest, lent),
         _ => replies::unknown(),
     }
 }

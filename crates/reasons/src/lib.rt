@@ -4,11 +4,13 @@ use arguments::BATCH;
 use arguments::CB;
 use arguments::CS;
 use arguments::DRAW;
+use arguments::ENTER;
 use arguments::LB;
 use arguments::LONGEST;
 use arguments::MM2;
 use arguments::MM4;
 use arguments::OUTLINE;
+use arguments::RELEASE;
 use words::Integer;
 use words::Natural;
 use words::Single;
@@ -59,6 +61,8 @@ fn wanted(word: u64) -> Wants {
         CB => taking(5, 1, 64),
         BATCH => taking(6, 6, 20000),
         OUTLINE => taking(7, 7, 256),
+        ENTER => taking(5, 1, 20000),
+        RELEASE => taking(2, 1, 20000),
         _ => taking(0, 0, 0),
     }
 }
