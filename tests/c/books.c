@@ -1,9 +1,10 @@
-/* The strip book: strips booked and released. After every call the whole book is looked at, and what stands behind it. */
+/* The strip book: strips booked and released. After every call the whole book is looked at, and what stands before it and behind. */
 #include "check.h"
 
-enum { SLOT = 5, NUMBERS = GERLYANTU_BOOK_NUMBERS, GUARD = 8, LAST = GERLYANTU_SLOTS - 1 };
+enum { SLOT = 5, NUMBERS = GERLYANTU_BOOK_NUMBERS, GUARD = 8, ALL = GUARD + NUMBERS + GUARD, LAST = GERLYANTU_SLOTS - 1 };
 
-static int32_t book[NUMBERS + GUARD], want[NUMBERS + GUARD];
+static int32_t memory[ALL], want[ALL];
+static int32_t *const book = memory + GUARD;
 
 #define STRIP(l, b, r, t) ((gerlyantu_window){l, b, r, t})
 
@@ -12,21 +13,20 @@ static int32_t book[NUMBERS + GUARD], want[NUMBERS + GUARD];
 /* Puts one slot in what the book is to be after a call. */
 static void want_slot(size_t k, int32_t mark, gerlyantu_window w) {
     const int32_t numbers[SLOT] = {mark, w.left, w.bottom, w.right, w.top};
-    for (size_t i = 0; i < SLOT; i++) want[SLOT * k + i] = numbers[i];
+    for (size_t i = 0; i < SLOT; i++) want[GUARD + SLOT * k + i] = numbers[i];
 }
 
 /* Puts one slot in the book, as a caller who keeps it could. */
 static void put_slot(size_t k, int32_t mark, gerlyantu_window w) {
     want_slot(k, mark, w);
-    for (size_t i = SLOT * k; i < SLOT * (k + 1); i++) book[i] = want[i];
+    for (size_t i = SLOT * k; i < SLOT * (k + 1); i++) book[i] = want[GUARD + i];
 }
 
-static void put_number(size_t i, int32_t number) { book[i] = want[i] = number; }
+static void put_number(size_t i, int32_t number) { book[i] = want[GUARD + i] = number; }
 
-/* An empty book. */
+/* An empty book; what stands before it and behind has the mark of a slot in use everywhere. */
 static void start(void) {
-    lend(book, NUMBERS + GUARD);
-    lend(want, NUMBERS + GUARD);
+    for (size_t i = 0; i < ALL; i++) memory[i] = want[i] = 1;
     for (size_t i = 0; i < NUMBERS; i++) put_number(i, 0);
 }
 
@@ -50,7 +50,7 @@ static void start_full(void) {
         SAME(booking.number, n); \
         SAME(booking.place, p); \
         SAME(booking.slot, s); \
-        WROTE(book, want, NUMBERS + GUARD); \
+        WROTE(memory, want, ALL); \
     } while (0)
 
 #define RELEASE(s, length, n) \
@@ -58,7 +58,7 @@ static void start_full(void) {
         gerlyantu_release_answer release = gerlyantu_release_slot(book, length, s); \
         SAME(release.number, n); \
         SAME(release.place, 0); \
-        WROTE(book, want, NUMBERS + GUARD); \
+        WROTE(memory, want, ALL); \
     } while (0)
 
 #define BOOKED(window, s) \
