@@ -1,4 +1,4 @@
-/* Gerlyantu: exact clipping of strokes and outlines to strips of a glass table.
+/* Gerlyantu: exact clipping of strokes and outlines to strips of a glass table, and the book of the strips that are rented out.
  *
  * Coordinates are whole grid numbers, 1/32 mm each, from -16,383 to 16,383. A stroke is x1 y1 x2 y2, a rectangle is left bottom right top, a corner
  * is x y.
@@ -27,8 +27,8 @@ extern "C" {
 /* ---- version */
 
 /* As one number, major * 10000 + minor * 100 + patch, and as text. A change of a struct or of an answer raises it. */
-#define GERLYANTU_VERSION 10000
-#define GERLYANTU_VERSION_TEXT "1.0.0"
+#define GERLYANTU_VERSION 10100
+#define GERLYANTU_VERSION_TEXT "1.1.0"
 
 /* ---- limits */
 
@@ -38,7 +38,9 @@ enum {
     GERLYANTU_WINDOW_CORNERS = 16,    /* corners of a corner window, at most; at least 3 */
     GERLYANTU_OUTLINE_CORNERS = 64,   /* corners of an outline, at most; at least 3 */
     GERLYANTU_DRAWING_BYTES = 65536,  /* bytes of a drawing, at most, its four count bytes included */
-    GERLYANTU_LAST_ORDER = 23         /* the side orders are 0 to 23 */
+    GERLYANTU_LAST_ORDER = 23,        /* the side orders are 0 to 23 */
+    GERLYANTU_SLOTS = 64,             /* slots of a strip book, numbered from 0 */
+    GERLYANTU_BOOK_NUMBERS = 320      /* numbers of a strip book, five a slot */
 };
 
 /* ---- how many numbers an output has that is always long enough */
@@ -215,6 +217,17 @@ typedef struct {
     size_t count; /* how many strokes; four numbers each were written */
 } gerlyantu_drawing_answer;
 
+typedef struct {
+    gerlyantu_refusal number;
+    size_t place;
+    int32_t slot; /* where the strip was entered, 0 to 63 */
+} gerlyantu_booking_answer;
+
+typedef struct {
+    gerlyantu_refusal number;
+    size_t place;
+} gerlyantu_release_answer;
+
 /* ---- millimetres */
 
 /* The grid point of a point in millimetres: the whole numbers nearest to 32x and 32y, halves to the even one. As every call that takes millimetres it
@@ -272,6 +285,21 @@ gerlyantu_outline_answer gerlyantu_clip_outline(
  * each; GERLYANTU_DRAWING_ROOM numbers are always enough. It takes millimetres.
  * Refusals: 11 for any fault (0), 3 where the window has no area (0), 8 (numbers needed). */
 gerlyantu_drawing_answer gerlyantu_read_drawing(const uint8_t *bytes, size_t length, int32_t *out, size_t room);
+
+/* ---- the strip book */
+
+/* The book says which strips are rented out. It is an array of GERLYANTU_BOOK_NUMBERS numbers, 320, that the caller keeps and lends to each call:
+ * 64 slots of five numbers, a mark, 1 in use or 0 free, then the strip's left, bottom, right and top. An array of 320 zeros is an empty book. A done
+ * call changes the five numbers of one slot and a refused call none. Each call tests the whole book first, and what is no book it refuses by 23;
+ * the other four numbers of a free slot do not matter. Strips that only touch share no area. */
+
+/* Tests a strip and enters it in the lowest free slot, which is answered.
+ * Refusals: 23 (0), 2 (index in the window), 3 (0), 16 where an entered strip shares area with it (0), 17 where all 64 slots are in use (0). */
+gerlyantu_booking_answer gerlyantu_book_strip(int32_t *book, size_t length, gerlyantu_window w);
+
+/* Frees a slot: it then has five zeros, and a later booking may take it.
+ * Refusals: 23 (0), 18 where the slot is not in use or not in 0 to 63 (0). */
+gerlyantu_release_answer gerlyantu_release_slot(int32_t *book, size_t length, int32_t slot);
 
 #ifdef __cplusplus
 }

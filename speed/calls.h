@@ -25,6 +25,8 @@ struct PointAnswer { u8 number; usize place; i32 x, y; };
 struct WindowAnswer { u8 number; usize place; struct Window window; };
 struct BackAnswer { u8 number; usize place; float mm; };
 struct DrawingAnswer { u8 number; usize place; struct Window window; usize count; };
+struct BookingAnswer { u8 number; usize place; i32 slot; };
+struct ReleaseAnswer { u8 number; usize place; };
 
 #define CALLS(prefix) \
     struct StrokeAnswer prefix##_liang_barsky(struct Window w, struct Stroke s); \
@@ -36,7 +38,9 @@ struct DrawingAnswer { u8 number; usize place; struct Window window; usize count
     struct PointAnswer prefix##_point_to_grid(struct PointMm p); \
     struct WindowAnswer prefix##_window_to_grid(struct WindowMm w); \
     struct BackAnswer prefix##_to_millimetres(i32 g); \
-    struct DrawingAnswer prefix##_read_drawing(const u8 *bytes, usize count, i32 *out, usize room);
+    struct DrawingAnswer prefix##_read_drawing(const u8 *bytes, usize count, i32 *out, usize room); \
+    struct BookingAnswer prefix##_book_strip(i32 *book, usize count, struct Window w); \
+    struct ReleaseAnswer prefix##_release_slot(i32 *book, usize count, i32 slot);
 
 CALLS(gerlyantu)
 CALLS(tuned)

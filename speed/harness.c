@@ -65,7 +65,7 @@ static u64 reading(int fd) {
     return read(fd, &n, sizeof n) == sizeof n ? n : 0;
 }
 
-// All calls return their answer through a pointer, and so does this one, which does nothing: two instructions.
+// Stands for a call that does nothing: two instructions. Most calls return their answer through a pointer, and so does this one.
 static void *nothing(void *answer) { return answer; }
 
 static u64 instructions(int fd, const struct Row *r, Call *call) {
@@ -124,6 +124,7 @@ int main(int argc, char **argv) {
     outline_rows();
     intake_rows();
     drawing_rows();
+    book_rows();
     if (argc > 1 && !strcmp(argv[1], "inputs")) {
         print_strokes();
         print_outlines();

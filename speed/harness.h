@@ -52,5 +52,6 @@ void corner_rows(void);
 void outline_rows(void);
 void intake_rows(void);
 void drawing_rows(void);
+void book_rows(void);
 
 #endif

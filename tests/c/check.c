@@ -95,6 +95,7 @@ int main(void) {
     check_outlines();
     check_passes();
     check_drawings();
+    check_books();
     printf("linked: %d checks, %d failed\n", checks, failed);
     return failed == 0 ? 0 : 1;
 }

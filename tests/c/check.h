@@ -45,3 +45,4 @@ void check_corners(void);
 void check_outlines(void);
 void check_passes(void);
 void check_drawings(void);
+void check_books(void);

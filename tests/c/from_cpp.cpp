@@ -57,10 +57,24 @@ static void check_refused() {
     SAME(none.number, GERLYANTU_BAD_DRAWING);
 }
 
+static void check_book() {
+    int32_t book[GERLYANTU_BOOK_NUMBERS] = {};
+    const gerlyantu_booking_answer booked = gerlyantu_book_strip(book, GERLYANTU_BOOK_NUMBERS, ten);
+    SAME(booked.number, GERLYANTU_DONE);
+    SAME(booked.slot, 0);
+    SAME(book[0], 1);
+    SAME(book[4], 10);
+    SAME(gerlyantu_book_strip(book, GERLYANTU_BOOK_NUMBERS, ten).number, GERLYANTU_STRIP_TAKEN);
+    const gerlyantu_release_answer released = gerlyantu_release_slot(book, GERLYANTU_BOOK_NUMBERS, booked.slot);
+    SAME(released.number, GERLYANTU_DONE);
+    for (int i = 0; i < GERLYANTU_BOOK_NUMBERS; i++) SAME(book[i], 0);
+}
+
 int main() {
     check_stroke();
     check_outline();
     check_refused();
+    check_book();
     printf("linked: %d checks from C++, %d failed\n", checks, failed);
     return failed == 0 ? 0 : 1;
 }

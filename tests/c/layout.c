@@ -96,6 +96,15 @@ FIELD(gerlyantu_drawing_answer, place, 8, 8);
 FIELD(gerlyantu_drawing_answer, window, 16, 16);
 FIELD(gerlyantu_drawing_answer, count, 32, 8);
 
+SIZE(gerlyantu_booking_answer, 24);
+FIELD(gerlyantu_booking_answer, number, 0, 1);
+FIELD(gerlyantu_booking_answer, place, 8, 8);
+FIELD(gerlyantu_booking_answer, slot, 16, 4);
+
+SIZE(gerlyantu_release_answer, 16);
+FIELD(gerlyantu_release_answer, number, 0, 1);
+FIELD(gerlyantu_release_answer, place, 8, 8);
+
 /* ---- limits and refusals */
 
 NAMED(LARGEST, 16383);
@@ -104,6 +113,8 @@ NAMED(WINDOW_CORNERS, 16);
 NAMED(OUTLINE_CORNERS, 64);
 NAMED(DRAWING_BYTES, 65536);
 NAMED(LAST_ORDER, 23);
+NAMED(SLOTS, 64);
+NAMED(BOOK_NUMBERS, 320);
 
 NAMED(BATCH_PER_STROKE, 5);
 NAMED(BATCH_ROOM, 20480);

@@ -11,6 +11,8 @@ use intake::PointMm;
 use intake::WindowAnswer;
 use intake::WindowMm;
 use outlines::OutlineAnswer;
+use strip_book::BookingAnswer;
+use strip_book::ReleaseAnswer;
 use strokes::StrokeAnswer;
 ghost use Rattle.batch.specs.Batches.{Batch};
 ghost use Rattle.codes.specs.Steps.{CohenSutherland};
@@ -18,6 +20,7 @@ ghost use Rattle.corners.specs.Corners.{CyrusBeck};
 ghost use Rattle.drawing.specs.Drawings.{ReadDrawing};
 ghost use Rattle.intake.specs.Millimetres.{PointToGrid, WindowToGrid, ToMillimetres};
 ghost use Rattle.outlines.specs.Outlines.{Outline};
+ghost use Rattle.strip_book.specs.Books.{BookStrip, ReleaseSlot};
 ghost use Rattle.strokes.specs.Strokes.{Clipping};
 
 #[no_mangle]
@@ -86,4 +89,18 @@ pub extern "C" fn gerlyantu_clip_outline(
     ensures { λ r. ⌜ Outline w order (now (outline .entry)) r (now (out .entry)) (now (out .exit)) ⌝ }
 {
     outlines::clip_outline(w, order, outline, out)
+}
+
+#[no_mangle]
+pub extern "C" fn gerlyantu_book_strip(book: &mut [i32], w: Window) -> BookingAnswer
+    ensures { λ r. ⌜ BookStrip w r (now (book .entry)) (now (book .exit)) ⌝ }
+{
+    strip_book::book_strip(book, w)
+}
+
+#[no_mangle]
+pub extern "C" fn gerlyantu_release_slot(book: &mut [i32], slot: i32) -> ReleaseAnswer
+    ensures { λ r. ⌜ ReleaseSlot slot r (now (book .entry)) (now (book .exit)) ⌝ }
+{
+    strip_book::release_slot(book, slot)
 }
