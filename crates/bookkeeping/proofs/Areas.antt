@@ -1,7 +1,7 @@
 -- Strips share area where each begins before the other ends, from left to right and from bottom to top; there a point half a grid number beyond the
 -- later of the two beginnings lies strictly inside both.
 use mathlib.Core.Path.{_≡_, refl, sym, subst, _∙_}
-use mathlib.Core.Bool.{Bool, true, false, _&&_, and-eq-true-iff}
+use mathlib.Core.Bool.{true, false, _&&_, not-eq-not, and-eq-true-iff}
 use mathlib.Core.List.{[], _∷_}
 use mathlib.Core.Logic.{⊎-elim}
 use lib.Ieee.Bits.{is-true}
@@ -18,7 +18,7 @@ use Rattle.racks.specs.Areas.{sharesArea}
 use Rattle.rings.specs.Lists.{∅, _◂_}
 use Rattle.rings.specs.Points.{Point}
 use Rattle.rings.proofs.Windows.{left-value, right-value, bottom-value, top-value}
-use Rattle.bookkeeping.specs.Laws.{StrictlyIn, SharesAPoint, TouchingSharesNone}
+use Rattle.bookkeeping.specs.Areas.{StrictlyIn, SharesAPoint, TouchingSharesNone}
 
 -- ---- the four tests
 record Overlap (v w : Window) : Type 0 where
@@ -46,11 +46,7 @@ overlapping v w h =
     )
 
 not-overlapping : (v w : Window) → (Overlap v w → ⊥) → sharesArea v w ≡ false
-not-overlapping v w h = go (sharesArea v w) refl
-  where
-    go : (b : Bool) → sharesArea v w ≡ b → b ≡ false
-    go true e = absurd (h (overlap v w e))
-    go false e = refl
+not-overlapping v w h = not-eq-not .0 (λ e. h (overlap v w e))
 
 -- whichever is named first
 pub shares-turned : (v w : Window) → sharesArea v w ≡ false → sharesArea w v ≡ false

@@ -13,9 +13,8 @@ use Rattle.whole.specs.Choice.{if_then_else_}
 use Rattle.whole.proofs.Comparisons.{tt-ff}
 use Rattle.grid.specs.declared.Window.{Window}
 use Rattle.racks.specs.Members.{any, all}
-use Rattle.slots.specs.Slots.{Slot, is, inUse, stripsIn, lowestFree, freeSlot}
-use Rattle.bookkeeping.specs.Laws.{usedSlot}
-use Rattle.bookkeeping.specs.PlainList.{Entry, entry, strips, firstMissing, entered, has, struckOut}
+use Rattle.slots.specs.Slots.{Slot, is, inUse, stripsIn, lowestFree, slotOf, freeSlot}
+use Rattle.bookkeeping.specs.PlainList.{Entry, entry, strips, RisingFrom, no-entry, an-entry, firstMissing, entered, has, struckOut}
 use Rattle.bookkeeping.specs.Runs.{entriesFrom}
 
 -- the entries of a slot and of those after it, by whether it is in use
@@ -56,34 +55,35 @@ entries-full k (s ∷ ss) = go (inUse s) (entries-full (suc k) ss)
     go true e = eqb·suc-suc (length (entriesFrom (suc k) ss)) (length ss) ∙ e
     go false e = ne-eqb (length (entriesFrom (suc k) ss)) (suc (length ss)) (omega (arith, entries-few (suc k) ss))
 
+-- ---- they are in order
+rising-sooner : {n k : ℕ} {es : List Entry} → n ≤ k → RisingFrom k es → RisingFrom n es
+rising-sooner h no-entry = no-entry
+rising-sooner {n} h (an-entry {e = e} l r) = let m : n ≤ e .number = omega arith in an-entry m r
+
+pub entries-rise : (k : ℕ) (ss : List Slot) → RisingFrom k (entriesFrom k ss)
+unfolding entriesFrom
+entries-rise k [] = no-entry
+entries-rise k (s ∷ ss) = go (inUse s) (entries-rise (suc k) ss)
+  where
+    go : (b : Bool) → RisingFrom (suc k) (entriesFrom (suc k) ss) → RisingFrom k (entriesIf b k s ss)
+    go true r = let m : k ≤ k = omega arith in an-entry m r
+    go false r = rising-sooner (omega arith) r
+
 -- ---- a number below all of them
-has-none : (n k : ℕ) (ss : List Slot) → n < k → has (pos n) (entriesFrom k ss) ≡ false
-unfolding entriesFrom any
-has-none n k [] h = refl
-has-none n k (s ∷ ss) h = go (inUse s) (has-none n (suc k) ss (omega arith))
-  where
-    go : (b : Bool) → has (pos n) (entriesFrom (suc k) ss) ≡ false → has (pos n) (entriesIf b k s ss) ≡ false
-    go true e = simp (ne-eqb n k (omega arith), e)
-    go false e = e
+has-none : (n : ℕ) {k : ℕ} {es : List Entry} → n < k → RisingFrom k es → has (pos n) es ≡ false
+unfolding any
+has-none n h no-entry = refl
+has-none n h (an-entry {e = e} l r) = simp (ne-eqb n (e .number) (omega arith), has-none n (omega arith) r)
 
-missing-below : (n k : ℕ) (ss : List Slot) → n < k → firstMissing n (entriesFrom k ss) ≡ n
-unfolding entriesFrom firstMissing
-missing-below n k [] h = refl
-missing-below n k (s ∷ ss) h = go (inUse s) (missing-below n (suc k) ss (omega arith))
-  where
-    go : (b : Bool) → firstMissing n (entriesFrom (suc k) ss) ≡ n → firstMissing n (entriesIf b k s ss) ≡ n
-    go true e = simp (ne-eqb k n (omega arith))
-    go false e = e
+missing-below : (n : ℕ) {k : ℕ} {es : List Entry} → n < k → RisingFrom k es → firstMissing n es ≡ n
+unfolding firstMissing
+missing-below n h no-entry = refl
+missing-below n h (an-entry {e = e} l r) = simp (ne-eqb (e .number) n (omega arith))
 
-entered-below : (n k : ℕ) (w : Window) (ss : List Slot) → n < k → entered n w (entriesFrom k ss) ≡ entry n w ∷ entriesFrom k ss
-unfolding entriesFrom entered
-entered-below n k w [] h = refl
-entered-below n k w (s ∷ ss) h = go (inUse s) (entered-below n (suc k) w ss (omega arith))
-  where
-    go : (b : Bool) → entered n w (entriesFrom (suc k) ss) ≡ entry n w ∷ entriesFrom (suc k) ss
-        → entered n w (entriesIf b k s ss) ≡ entry n w ∷ entriesIf b k s ss
-    go true e = simp (le-ltb k n (omega arith))
-    go false e = e
+entered-below : (n : ℕ) {k : ℕ} (w : Window) {es : List Entry} → n < k → RisingFrom k es → entered n w es ≡ entry n w ∷ es
+unfolding entered
+entered-below n w h no-entry = refl
+entered-below n w h (an-entry {e = e} l r) = simp (le-ltb (e .number) n (omega arith))
 
 -- ---- the first missing number is that of the lowest free slot
 pub first-missing : (k : ℕ) (ss : List Slot) → firstMissing k (entriesFrom k ss) ≡ k + lowestFree ss
@@ -94,18 +94,18 @@ first-missing k (s ∷ ss) = go (inUse s) (first-missing (suc k) ss)
     go : (b : Bool) → firstMissing (suc k) (entriesFrom (suc k) ss) ≡ suc k + lowestFree ss
         → firstMissing k (entriesIf b k s ss) ≡ k + (if b then suc (lowestFree ss) else 0)
     go true e = simp (eq-eqb k k refl) (e ∙ sym (next-number k (lowestFree ss)))
-    go false e = missing-below k (suc k) ss (omega arith) ∙ sym (add-zero k)
+    go false e = missing-below k (omega arith) (entries-rise (suc k) ss) ∙ sym (add-zero k)
 
 -- ---- a strip entered at a free slot
 pub enters : (k j : ℕ) (w : Window) (ss : List Slot) → j < length ss → inUse (getD ss j freeSlot) ≡ false
-    → entered (k + j) w (entriesFrom k ss) ≡ entriesFrom k (set ss j (usedSlot w))
+    → entered (k + j) w (entriesFrom k ss) ≡ entriesFrom k (set ss j (slotOf 1 w))
 unfolding entriesFrom entered
 enters k j w [] h f = absurd (omega arith)
-enters k zero w (s ∷ ss) h f = rw (add-zero, f) (entered-below k (suc k) w ss (omega arith))
+enters k zero w (s ∷ ss) h f = rw (add-zero, f) (entered-below k w (omega arith) (entries-rise (suc k) ss))
 enters k (suc j) w (s ∷ ss) h f = go (inUse s) (enters (suc k) j w ss (omega arith) f)
   where
-    go : (b : Bool) → entered (suc k + j) w (entriesFrom (suc k) ss) ≡ entriesFrom (suc k) (set ss j (usedSlot w))
-        → entered (k + suc j) w (entriesIf b k s ss) ≡ entriesIf b k s (set ss j (usedSlot w))
+    go : (b : Bool) → entered (suc k + j) w (entriesFrom (suc k) ss) ≡ entriesFrom (suc k) (set ss j (slotOf 1 w))
+        → entered (k + suc j) w (entriesIf b k s ss) ≡ entriesIf b k s (set ss j (slotOf 1 w))
     go true e = simp (lt-ltb k (k + suc j) (omega arith)) (rw (next-number k j, e))
     go false e = rw (next-number k j, e)
 
@@ -117,7 +117,7 @@ has-slot k zero (s ∷ ss) = go (inUse s)
   where
     go : (b : Bool) → has (pos (k + 0)) (entriesIf b k s ss) ≡ b
     go true = simp (eq-eqb (k + 0) k (omega arith))
-    go false = rw add-zero (has-none k (suc k) ss (omega arith))
+    go false = rw add-zero (has-none k (omega arith) (entries-rise (suc k) ss))
 has-slot k (suc j) (s ∷ ss) = go (inUse s) (has-slot (suc k) j ss)
   where
     go : (b : Bool) → has (pos (suc k + j)) (entriesFrom (suc k) ss) ≡ inUse (getD ss j freeSlot)
@@ -147,7 +147,7 @@ leaves k zero (s ∷ ss) = go (inUse s)
   where
     go : (b : Bool) → struckOut (pos (k + 0)) (entriesIf b k s ss) ≡ entriesFrom (suc k) ss
     go true = simp (eq-eqb (k + 0) k (omega arith))
-    go false = rw add-zero (struck-absent (pos k) (entriesFrom (suc k) ss) (has-none k (suc k) ss (omega arith)))
+    go false = rw add-zero (struck-absent (pos k) (entriesFrom (suc k) ss) (has-none k (omega arith) (entries-rise (suc k) ss)))
 leaves k (suc j) (s ∷ ss) = go (inUse s) (leaves (suc k) j ss)
   where
     go : (b : Bool) → struckOut (pos (suc k + j)) (entriesFrom (suc k) ss) ≡ entriesFrom (suc k) (set ss j freeSlot)

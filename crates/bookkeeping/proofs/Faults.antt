@@ -24,10 +24,10 @@ use Rattle.slots.proofs.Places.{slots-count}
 use Rattle.strip_book.specs.Books.{noBook, stripTaken, bookFull, slotNotInUse}
 use Rattle.strip_book.specs.Books.{tableRefusal, clash, full, usedAt, slotRefusal, bookingRefusal, releaseRefusal}
 use Rattle.strip_book.proofs.Refusing.{book-long, refuses-table, refuses-release}
-use Rattle.bookkeeping.specs.Laws.{numberAnswered, NotABook, another-length, another-mark, refused-strip, shared-area, NoBookExactly}
-use Rattle.bookkeeping.specs.Runs.{Event, booking, release, InBook}
+use Rattle.bookkeeping.specs.OneCall.{NotABook, another-length, another-mark, refused-strip, shared-area, NoBookExactly}
+use Rattle.bookkeeping.specs.Runs.{Event, booking, release, numberAnswered, InBook}
 use Rattle.bookkeeping.proofs.Good.{Fault, mark-fault, strip-fault, area-fault, faulty-slots}
-use Rattle.bookkeeping.proofs.Steps.{refusalOf, number-refused, book-good}
+use Rattle.bookkeeping.proofs.Steps.{refusalOf, number-refused, answered-by, book-good}
 
 -- ---- the tests of a mark
 is-number : (n : ℕ) (z : ℤ) → is n z ≡ true → z ≡ pos n
@@ -113,7 +113,7 @@ refusal-no-book (booking w a) zs b = refuses-table w zs b
 refusal-no-book (release z a) zs b = refuses-release z zs b
 
 call-always : (e : Event) (before after : List ℤ) → InBook before e after → isBook before ≡ false → numberAnswered e ≡ noBook
-call-always e before after p b = number-refused e before after p ∙ ap (λ (r : Refusal). r .number) (refusal-no-book e before b)
+call-always e before after p b = answered-by e before after p (refusal-no-book e before b)
 
 pub no-book-exactly : NoBookExactly
 no-book-exactly e before after p = go (isBook before) refl

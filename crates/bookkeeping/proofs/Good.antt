@@ -1,6 +1,6 @@
 -- That slots are good is told by their numbers, and where they are not, the slots at fault are found.
 use mathlib.Core.Path.{_≡_, refl, sym, ap, _∙_}
-use mathlib.Core.Bool.{Bool, true, false, not, _&&_, _||_, and-eq-true-iff}
+use mathlib.Core.Bool.{Bool, true, false, not, _&&_, _||_, not-eq-not, and-eq-true-iff}
 use mathlib.Core.List.{List, [], _∷_}
 use Prim.Native.Nat.{ℕ, zero, suc, _<_}
 use native.Mathlib.Omega.{arith}
@@ -46,7 +46,7 @@ module _ (P : Window → Bool) where
 
 -- the strip of a slot in use passes the test, or that of none does
 module _ (P : Window → Bool) where
-  strip-of : (ss : List Slot) → any P (stripsIn ss) ≡ true
+  pub strip-of : (ss : List Slot) → any P (stripsIn ss) ≡ true
       → (k : ℕ) × (k < length ss) × (inUse (getD ss k freeSlot) ≡ true) × (P (getD ss k freeSlot .strip) ≡ true)
   strip-of ss e =
       let k = one-fails (λ w. not (P w)) ss (not-true _ (sym (any-is P (stripsIn ss)) ∙ e)) in
@@ -146,8 +146,4 @@ no-fault g (strip-fault k l u e) = tt-ff (sym (g .strips k u) ∙ e)
 no-fault g (area-fault h) = tt-ff (sym (h .shares) ∙ g .areas (h .one) (h .other) (h .before) (h .used-one) (h .used-other))
 
 pub slots-good : (ss : List Slot) → Good ss → slotsGood ss ≡ true
-slots-good ss g = go (slotsGood ss) refl
-  where
-    go : (b : Bool) → slotsGood ss ≡ b → b ≡ true
-    go true e = refl
-    go false e = absurd (no-fault g (faulty-slots ss e))
+slots-good ss g = not-eq-not .0 (λ e. no-fault g (faulty-slots ss e))

@@ -5,5 +5,6 @@ pub mod Entries
 pub mod Steps
 pub mod Paper
 pub mod Faults
+pub mod OneCall
 pub mod Theorems
 pub mod Morning

@@ -18,7 +18,7 @@ use Rattle.grid.specs.declared.Window.{Window}
 use Rattle.grid.proofs.Refusals.{all-done}
 use Rattle.racks.specs.Areas.{sharesArea}
 use Rattle.racks.specs.Members.{any, all}
-use Rattle.slots.specs.Slots.{Slot, slotsOf, inUse, stripsIn, goodMark, goodStrip, slotsGood, isBook, lowestFree, freeSlot}
+use Rattle.slots.specs.Slots.{Slot, slotsOf, inUse, stripsIn, goodMark, goodStrip, slotsGood, isBook, lowestFree, slotOf, freeSlot}
 use Rattle.slots.proofs.Lowest.{free-among}
 use Rattle.slots.proofs.Places.{slots-count, slots-put, used-among}
 use Rattle.strip_book.specs.Books.{noBook, stripTaken, bookFull, slotNotInUse}
@@ -26,8 +26,7 @@ use Rattle.strip_book.specs.Books.{tableRefusal, clash, full, usedAt, slotRefus
 use Rattle.strip_book.specs.declared.BookingAnswer.{BookingAnswer}
 use Rattle.strip_book.specs.declared.ReleaseAnswer.{ReleaseAnswer}
 use Rattle.strip_book.proofs.Refusing.{book-long}
-use Rattle.bookkeeping.specs.Laws.{usedSlot, numberAnswered}
-use Rattle.bookkeeping.specs.Runs.{Event, booking, release, InBook}
+use Rattle.bookkeeping.specs.Runs.{Event, booking, release, numberAnswered, InBook}
 use Rattle.bookkeeping.proofs.Areas.{shares-turned}
 use Rattle.bookkeeping.proofs.Good.{Good, good-slots, slots-good, no-strip}
 
@@ -52,6 +51,9 @@ number-refused (booking w a) before after p = lent-by p
 number-refused (release z a) before after p = lent-by p
     (λ z d. ap (λ (x : ReleaseAnswer). x .number) (d .answer) ∙ sym z)
     (λ n r. ap (λ (x : ReleaseAnswer). x .number) (r .answer))
+
+pub answered-by : (e : Event) (before after : List ℤ) {r : Refusal} → InBook before e after → refusalOf e before ≡ r → numberAnswered e ≡ r .number
+answered-by e before after p q = number-refused e before after p ∙ ap (λ (r : Refusal). r .number) q
 
 -- ---- what is known where nothing is refused
 passed : (b : Bool) (n : ℕ) → (n ≡ 0 → ⊥) → (if b then none else refuse n 0) .number ≡ 0 → b ≡ true
@@ -142,8 +144,8 @@ module _ (ss : List Slot) (k : ℕ) (among : k < length ss) (s : Slot) where
 
 -- ---- the slots after a call
 pub slots-booked : {w : Window} {a : BookingAnswer} {before after : List ℤ} → Booked w a before after
-    → slotsOf after ≡ set (slotsOf before) (lowestFree (slotsOf before)) (usedSlot w)
-slots-booked {w} {a} {before} h = ap slotsOf (h .book) ∙ slots-put (usedSlot w) before (lowestFree (slotsOf before))
+    → slotsOf after ≡ set (slotsOf before) (lowestFree (slotsOf before)) (slotOf 1 w)
+slots-booked {w} {a} {before} h = ap slotsOf (h .book) ∙ slots-put (slotOf 1 w) before (lowestFree (slotsOf before))
 
 pub slots-released : {z : ℤ} {a : ReleaseAnswer} {before after : List ℤ} → Released z a before after
     → slotsOf after ≡ set (slotsOf before) (natAbs z) freeSlot
@@ -155,7 +157,7 @@ booked-book {w} {a} {before} {after} b h =
     let ss = slotsOf before in
     let g = book-good before (b .book) in
     let n = lowestFree ss in
-    let good = change-good ss n (free-among ss (b .room)) (usedSlot w) g refl (λ u. b .good) (λ u. no-strip (sharesArea w) ss (b .clear)) in
+    let good = change-good ss n (free-among ss (b .room)) (slotOf 1 w) g refl (λ u. b .good) (λ u. no-strip (sharesArea w) ss (b .clear)) in
     good-book before after (b .book)
     (ap length (h .book) ∙ simp length-sets)
     (subst Good (sym (slots-booked h)) good)

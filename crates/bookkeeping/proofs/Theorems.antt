@@ -1,29 +1,30 @@
 -- Over any run of calls: by induction on it, since a call on a book leaves a book, answers as on paper, and never answers 23.
-use mathlib.Core.Path.{_≡_, refl, sym, subst, _∙_}
+use mathlib.Core.Path.{_≡_, refl, sym, ap, subst, _∙_}
 use mathlib.Core.Bool.{Bool, true, false}
 use mathlib.Core.List.{List, []}
-use Prim.Native.Nat.{_<_}
+use Prim.Native.Nat.{ℕ, _<_}
+use native.Mathlib.Nat.{zero-add}
 use native.Mathlib.Omega.{arith}
-use borrow.Author.Tests.{ltb-true, ltb-false}
+use borrow.Author.Tests.{eqb-true, ltb-true, ltb-false}
 use lib.Dec.{ltb}
-use lib.IntN.{ℤ}
-use lib.Seq.{getD-set-same, getD-set-other}
-use Rattle.grid.specs.declared.Window.{Window}
+use lib.IntN.{ℤ, pos}
+use Rattle.grid.specs.Table.{WindowOnTable}
+use Rattle.grid.proofs.Refusals.{window-on-table}
 use Rattle.racks.specs.Areas.{sharesArea}
 use Rattle.racks.specs.Members.{all}
 use Rattle.rings.specs.Lists.{All, ∅, _◂_}
-use Rattle.slots.specs.Slots.{slotsOf, stripsIn, apart, isBook, lowestFree, freeSlot, slotAt}
-use Rattle.slots.proofs.Lowest.{lowest-free, used-below, free-among}
-use Rattle.strip_book.specs.Books.{noBook, Booked}
-use Rattle.strip_book.specs.declared.BookingAnswer.{BookingAnswer}
-use Rattle.bookkeeping.specs.Laws.{AsAPlainList, EachRunOnPaper, StaysABook, numberAnswered, NeverNoBook, NoTwoShareArea}
-use Rattle.bookkeeping.specs.Laws.{TakesLowest, LowestFreeSlot}
-use Rattle.bookkeeping.specs.PlainList.{Entry}
-use Rattle.bookkeeping.specs.Runs.{Event, booking, InBook, OnPaper, RunOfCalls, no-call, a-call, emptyBook, entriesFrom, entriesOf}
-use Rattle.bookkeeping.proofs.Areas.{shares-turned}
+use Rattle.slots.specs.Slots.{Slot, slotsOf, slotAt, inUse, stripsIn, apart, isBook, lowestFree}
+use Rattle.slots.proofs.Lowest.{lowest-free, used-below}
+use Rattle.strip_book.specs.Books.{noBook}
+use Rattle.bookkeeping.specs.Laws.{AsAPlainList, EachRunOnPaper, FromAnyBook, PaperInOrder, LeastMissing}
+use Rattle.bookkeeping.specs.Laws.{StaysABook, NeverNoBook, NoTwoShareArea}
+use Rattle.bookkeeping.specs.PlainList.{Entry, RisingFrom, firstMissing, has}
+use Rattle.bookkeeping.specs.Runs.{Event, numberAnswered, InBook, OnPaper, RunOfCalls, no-call, a-call, emptyBook, entriesFrom, entriesOf}
+use Rattle.bookkeeping.proofs.Areas.{shares-turned, shares-a-point}
+use Rattle.bookkeeping.proofs.Entries.{entries-rise, first-missing, has-slot}
 use Rattle.bookkeeping.proofs.Faults.{call-never}
 use Rattle.bookkeeping.proofs.Paper.{call-on-paper, call-in-book}
-use Rattle.bookkeeping.proofs.Steps.{number-refused, Bookable, bookable, book-good, book-slots, slots-booked, call-stays}
+use Rattle.bookkeeping.proofs.Steps.{book-good, call-stays}
 
 -- ---- where they begin
 empty-is-a-book : isBook emptyBook ≡ true
@@ -59,44 +60,60 @@ run-never : {before after : List ℤ} {events : List Event} → RunOfCalls InBoo
 run-never no-call b = ∅
 run-never (a-call {before} {between} {e = e} p r) b = call-never e before between p b ◂ run-never r (call-stays e before between p b)
 
--- ---- from the empty book
-pub stays-a-book : StaysABook
-stays-a-book events book r = run-stays r empty-is-a-book
+pub from-any-book : FromAnyBook
+from-any-book before after events b r = run-on-paper r b
 
+-- ---- from the empty book
 pub as-a-plain-list : AsAPlainList
-as-a-plain-list events book r = subst (λ es. RunOfCalls OnPaper es events (entriesOf book)) empty-has-none (run-on-paper r empty-is-a-book)
+as-a-plain-list events book r =
+    subst (λ es. RunOfCalls OnPaper es events (entriesOf book)) empty-has-none (from-any-book emptyBook book events empty-is-a-book r)
 
 pub each-run-on-paper : EachRunOnPaper
 each-run-on-paper events es r = run-in-book r emptyBook empty-is-a-book empty-has-none
 
+pub stays-a-book : StaysABook
+stays-a-book events book r = run-stays r empty-is-a-book
+
 pub never-no-book : NeverNoBook
 never-no-book events book r = run-never r empty-is-a-book
 
+-- ---- the list on paper, as the entries of a book
+least-missing-entry : (ss : List Slot) → let es = entriesFrom 0 ss in
+    (has (pos (firstMissing 0 es)) es ≡ false) × ((n : ℕ) → n < firstMissing 0 es → has (pos n) es ≡ true)
+least-missing-entry ss =
+    let es = entriesFrom 0 ss in
+    let lowest = first-missing 0 ss in (
+      ap (λ (n : ℕ). has (pos n) es) lowest ∙ has-slot 0 (lowestFree ss) ss ∙ lowest-free ss,
+      λ n l. rw zero-add at (has-slot 0 n ss) ∙ used-below ss n (omega (arith, lowest)),
+    )
+
+pub paper-in-order : PaperInOrder
+paper-in-order events es r =
+    let c = each-run-on-paper events es r in
+    subst (RisingFrom 0) (c .2) (entries-rise 0 (slotsOf (c .0)))
+
+pub least-missing : LeastMissing
+least-missing events es r =
+    let c = each-run-on-paper events es r in
+    subst (λ es. (has (pos (firstMissing 0 es)) es ≡ false) × ((n : ℕ) → n < firstMissing 0 es → has (pos n) es ≡ true)) (c .2)
+    (least-missing-entry (slotsOf (c .0)))
+
+-- ---- the strips of a book, which are on the table
+module _ (zs : List ℤ) (b : isBook zs ≡ true) where
+  on-table : (k : ℕ) → inUse (slotAt zs k) ≡ true → WindowOnTable (slotAt zs k .strip)
+  on-table k u = window-on-table (slotAt zs k .strip) (eqb-true _ _ (book-good zs b .strips k u))
+
+  none-shared : (j k : ℕ) → (j ≡ k → ⊥) → inUse (slotAt zs j) ≡ true → inUse (slotAt zs k) ≡ true
+      → sharesArea (slotAt zs j .strip) (slotAt zs k .strip) ≡ false
+  none-shared j k n u v = go (ltb j k) refl
+    where
+      go : (t : Bool) → ltb j k ≡ t → sharesArea (slotAt zs j .strip) (slotAt zs k .strip) ≡ false
+      go true l = book-good zs b .areas j k (ltb-true j k l) u v
+      go false l =
+          let m : k < j = omega (arith, ltb-false j k l) in
+          shares-turned (slotAt zs k .strip) (slotAt zs j .strip) (book-good zs b .areas k j m v u)
+
 pub no-two-share-area : NoTwoShareArea
-no-two-share-area events book r j k n u v = go (ltb j k) refl
-  where
-    go : (b : Bool) → ltb j k ≡ b → sharesArea (slotAt book j .strip) (slotAt book k .strip) ≡ false
-    go true l = book-good book (stays-a-book events book r) .areas j k (ltb-true j k l) u v
-    go false l =
-        let m : k < j = omega (arith, ltb-false j k l) in
-        shares-turned (slotAt book k .strip) (slotAt book j .strip) (book-good book (stays-a-book events book r) .areas k j m v u)
-
--- a done booking takes the lowest free slot
-takes-lowest : {w : Window} {a : BookingAnswer} {before after : List ℤ} → Bookable w before → Booked w a before after → TakesLowest w a before after
-takes-lowest {w} {a} {before} {after} b d =
-    let ss = slotsOf before in
-    let among = free-among ss (b .room) in
-    record {
-      slot = lowestFree ss;
-      answer = d .answer;
-      among = omega (arith, book-slots before (b .book));
-      free = lowest-free ss;
-      below = used-below ss;
-      holds = rw (slots-booked d) (getD-set-same ss (lowestFree ss) _ freeSlot among);
-      others = λ j n. rw (slots-booked d) (getD-set-other ss (lowestFree ss) j _ freeSlot n);
-    }
-
-pub lowest-free-slot : LowestFreeSlot
-lowest-free-slot w a before after p z =
-    let done = sym (number-refused (booking w a) before after p) ∙ z in
-    takes-lowest (bookable w before done) (p .done done)
+no-two-share-area events book r j k n u v =
+    let b = stays-a-book events book r in
+    shares-a-point (slotAt book j .strip) (slotAt book k .strip) (on-table book b j u) (on-table book b k v) .no (none-shared book b j k n u v)

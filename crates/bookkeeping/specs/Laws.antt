@@ -1,53 +1,25 @@
--- Laws of the strip book over any run of calls from the empty book, and of what its definitions mean.
---   FromEmpty events book     the book is what the events leave of the empty book
---   usedSlot w                a slot in use, with the strip w
---   numberAnswered e          the number of the refusal in an event's answer
---   AsAPlainList      whatever is called, the book answers as the list on paper, and its entries are that list
---   EachRunOnPaper    the other way round: each run on paper is a run of the book, whose entries are then the list
---   StaysABook        it is a book after any run of calls
---   NeverNoBook       23 is never answered
---   NoTwoShareArea    no two entered strips share area
---   TakesLowest w a before after   the booking got a slot that was free, all below being in use; its strip is there, the other slots are as they were
---   LowestFreeSlot    so it is with each booking that is done
---   StrictlyIn w p    the point p lies strictly inside the strip w
---   InBoth v w        a point that lies strictly inside v and w
---   SharesAPoint      two strips share area exactly when there is such a point
---   TouchingSharesNone   where one strip lies beyond a side of the other, whether it touches it or not, they share none
---   NotABook zs       the four faults of a table, in the words of the rules
---   NoBookExactly     a call, on any table, answers 23 exactly when the table has one of them
+-- Laws of the strip book over any run of calls, proved in proofs/Theorems.antt.
+--   AsAPlainList     whatever is called from the empty book on, it answers as the list on paper, and its entries are that list
+--   EachRunOnPaper   the other way round: each run on paper is a run of the book, whose entries are then the list
+--   FromAnyBook      the first from any book on, and the list of its entries: so what a free slot holds behind its mark does not matter
+--   PaperInOrder     on paper the entries are always in the order of their numbers
+--   LeastMissing     so the number that a strip gets there is the least that no entry has
+--   StaysABook       it is a book after any run of calls from the empty book
+--   NeverNoBook      23 is never answered
+--   NoTwoShareArea   no point lies strictly inside the strips of two slots in use
 use mathlib.Core.Path.{_≡_}
 use mathlib.Core.Bool.{true, false}
 use mathlib.Core.List.{List, []}
-use mathlib.Core.Logic.{_↔_}
 use Prim.Native.Nat.{ℕ, _<_}
 use lib.IntN.{ℤ, pos}
-use lib.ListN.{length}
-use Rattle.whole.specs.Choice.{Decides}
-use Rattle.grid.specs.Refusals.{windowRefusal}
-use Rattle.grid.specs.Sides.{Side, Beyond}
-use Rattle.grid.specs.Table.{WindowOnTable}
-use Rattle.grid.specs.declared.Window.{Window}
-use Rattle.racks.specs.Areas.{sharesArea}
 use Rattle.rings.specs.Lists.{All}
-use Rattle.rings.specs.Points.{Point, Line, Proper, Over}
-use Rattle.rings.specs.Windows.{side-lines}
-use Rattle.slots.specs.Slots.{Slot, slotAt, inUse, isBook}
-use Rattle.strip_book.specs.Books.{BookStrip, bookedIn, noBook}
-use Rattle.strip_book.specs.declared.BookingAnswer.{BookingAnswer}
-use Rattle.bookkeeping.specs.PlainList.{Entry}
-use Rattle.bookkeeping.specs.Runs.{Event, booking, release, RunOfCalls, InBook, OnPaper, emptyBook, entriesOf}
+use Rattle.slots.specs.Slots.{slotAt, inUse, isBook}
+use Rattle.strip_book.specs.Books.{noBook}
+use Rattle.bookkeeping.specs.Areas.{InBoth}
+use Rattle.bookkeeping.specs.PlainList.{Entry, RisingFrom, firstMissing, has}
+use Rattle.bookkeeping.specs.Runs.{Event, numberAnswered, RunOfCalls, InBook, OnPaper, FromEmpty, entriesOf}
 
-abbrev pub FromEmpty : List Event → List ℤ → Type 0
-FromEmpty events book = RunOfCalls InBook emptyBook events book
-
-abbrev pub usedSlot : Window → Slot
-usedSlot w = record { mark = pos 1; strip = w }
-
-abbrev pub numberAnswered : Event → ℕ
-numberAnswered (booking w a) = a .number
-numberAnswered (release z a) = a .number
-
--- ---- over any run of calls
+-- ---- the book and the list on paper
 
 abbrev pub AsAPlainList : Type 0
 AsAPlainList = (events : List Event) (book : List ℤ) → FromEmpty events book → RunOfCalls OnPaper [] events (entriesOf book)
@@ -55,6 +27,21 @@ AsAPlainList = (events : List Event) (book : List ℤ) → FromEmpty events book
 abbrev pub EachRunOnPaper : Type 0
 EachRunOnPaper = (events : List Event) (es : List Entry) → RunOfCalls OnPaper [] events es
     → (book : List ℤ) × FromEmpty events book × (entriesOf book ≡ es)
+
+abbrev pub FromAnyBook : Type 0
+FromAnyBook = (before after : List ℤ) (events : List Event) → isBook before ≡ true → RunOfCalls InBook before events after
+    → RunOfCalls OnPaper (entriesOf before) events (entriesOf after)
+
+-- ---- the list on paper
+
+abbrev pub PaperInOrder : Type 0
+PaperInOrder = (events : List Event) (es : List Entry) → RunOfCalls OnPaper [] events es → RisingFrom 0 es
+
+abbrev pub LeastMissing : Type 0
+LeastMissing = (events : List Event) (es : List Entry) → RunOfCalls OnPaper [] events es
+    → (has (pos (firstMissing 0 es)) es ≡ false) × ((n : ℕ) → n < firstMissing 0 es → has (pos n) es ≡ true)
+
+-- ---- the book
 
 abbrev pub StaysABook : Type 0
 StaysABook = (events : List Event) (book : List ℤ) → FromEmpty events book → isBook book ≡ true
@@ -65,45 +52,4 @@ NeverNoBook = (events : List Event) (book : List ℤ) → FromEmpty events book 
 abbrev pub NoTwoShareArea : Type 0
 NoTwoShareArea = (events : List Event) (book : List ℤ) → FromEmpty events book
     → (j k : ℕ) → (j ≡ k → ⊥) → inUse (slotAt book j) ≡ true → inUse (slotAt book k) ≡ true
-    → sharesArea (slotAt book j .strip) (slotAt book k .strip) ≡ false
-
-pub record TakesLowest (w : Window) (a : BookingAnswer) (before after : List ℤ) : Type 0 where
-  pub slot : ℕ
-  pub answer : a ≡ bookedIn slot
-  pub among : slot < 64
-  pub free : inUse (slotAt before slot) ≡ false
-  pub below : (j : ℕ) → j < slot → inUse (slotAt before j) ≡ true
-  pub holds : slotAt after slot ≡ usedSlot w
-  pub others : (j : ℕ) → (j ≡ slot → ⊥) → slotAt after j ≡ slotAt before j
-
-abbrev pub LowestFreeSlot : Type 0
-LowestFreeSlot = (w : Window) (a : BookingAnswer) (before after : List ℤ) → BookStrip w a before after → a .number ≡ 0 → TakesLowest w a before after
-
--- ---- what it is to share area
-
-abbrev pub StrictlyIn : Window → Point → Type 0
-StrictlyIn w p = All (λ (h : Line). Over h p) (side-lines (w .left) (w .bottom) (w .right) (w .top))
-
-pub record InBoth (v w : Window) : Type 0 where
-  pub point : Point
-  pub proper : Proper point
-  pub in-one : StrictlyIn v point
-  pub in-other : StrictlyIn w point
-
-abbrev pub SharesAPoint : Type 0
-SharesAPoint = (v w : Window) → WindowOnTable v → WindowOnTable w → Decides (sharesArea v w) (InBoth v w)
-
-abbrev pub TouchingSharesNone : Type 0
-TouchingSharesNone = (v w : Window) (k : Side) → Beyond v w k → sharesArea v w ≡ false
-
--- ---- what it is to be no book
-
-pub data NotABook (zs : List ℤ) : Type 0 where
-  another-length : (length zs ≡ 320 → ⊥) → NotABook zs
-  another-mark : (k : ℕ) → k < 64 → (slotAt zs k .mark ≡ pos 0 → ⊥) → (slotAt zs k .mark ≡ pos 1 → ⊥) → NotABook zs
-  refused-strip : (k : ℕ) → k < 64 → slotAt zs k .mark ≡ pos 1 → (windowRefusal (slotAt zs k .strip) .number ≡ 0 → ⊥) → NotABook zs
-  shared-area : (j k : ℕ) → j < k → k < 64 → slotAt zs j .mark ≡ pos 1 → slotAt zs k .mark ≡ pos 1
-      → sharesArea (slotAt zs j .strip) (slotAt zs k .strip) ≡ true → NotABook zs
-
-abbrev pub NoBookExactly : Type 0
-NoBookExactly = (e : Event) (before after : List ℤ) → InBook before e after → (numberAnswered e ≡ noBook) ↔ NotABook before
+    → InBoth (slotAt book j .strip) (slotAt book k .strip) → ⊥

@@ -1,4 +1,6 @@
 pub mod PlainList
 pub mod Runs
+pub mod Areas
+pub mod OneCall
 pub mod Laws
 pub mod Morning

@@ -13,9 +13,8 @@ use Rattle.grid.specs.declared.Window.{Window}
 use Rattle.strip_book.specs.Books.{stripTaken, bookedIn, refusedBooking, releaseAnswer}
 use Rattle.strip_book.specs.declared.BookingAnswer.{BookingAnswer}
 use Rattle.strip_book.specs.declared.ReleaseAnswer.{ReleaseAnswer}
-use Rattle.bookkeeping.specs.Laws.{FromEmpty}
 use Rattle.bookkeeping.specs.PlainList.{entry}
-use Rattle.bookkeeping.specs.Runs.{Event, booking, release, entriesOf}
+use Rattle.bookkeeping.specs.Runs.{Event, booking, release, FromEmpty, entriesOf}
 
 abbrev pub stripOf : ℕ → ℕ → ℕ → ℕ → Window
 stripOf l b r t = record { left = pos l; bottom = pos b; right = pos r; top = pos t }

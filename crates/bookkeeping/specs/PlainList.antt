@@ -1,7 +1,9 @@
--- The book as it would be kept on paper: a list of strips, each with its number, in the order of the numbers.
+-- The book as it would be kept on paper: a list of strips, each with its number. A bookkeeper keeps it in the order of the numbers, since then the
+-- first that is missing is seen where two neighbours do not follow each other.
 --   Entry                 a strip and its number;  entry n w: the entry of the strip w with the number n
 --   strips es             the strips of the entries es
---   firstMissing n es     the first number from n on that no entry has, where all their numbers are from n on
+--   RisingFrom n es       the entries es are in the order of their numbers: each is greater than the one before it, and the first is n or more
+--   firstMissing n es     the first number from n on that no entry has, where the entries are in the order of their numbers, all from n on
 --   entered n w es        es and the strip w with the number n, in the order of the numbers
 --   has z es              an entry has the number z
 --   struckOut z es        es without the entry of the number z; just es, where there is none
@@ -12,7 +14,7 @@
 --   answerRelease z es      what one who releases z is told; the list afterwards is struckOut z es
 use mathlib.Core.Bool.{Bool}
 use mathlib.Core.List.{List, [], _∷_, map}
-use Prim.Native.Nat.{ℕ, suc}
+use Prim.Native.Nat.{ℕ, suc, _≤_}
 use lib.Dec.{eqb, ltb}
 use lib.IntN.{ℤ}
 use lib.ListN.{length}
@@ -36,6 +38,10 @@ entry n w = record { number = n; strip = w }
 
 abbrev pub strips : List Entry → List Window
 strips = map (λ (e : Entry). e .strip)
+
+pub data RisingFrom : ℕ → List Entry → Type 0 where
+  no-entry : {n : ℕ} → RisingFrom n []
+  an-entry : {n : ℕ} {e : Entry} {es : List Entry} → n ≤ e .number → RisingFrom (suc (e .number)) es → RisingFrom n (e ∷ es)
 
 unfoldable pub firstMissing : ℕ → List Entry → ℕ
 firstMissing n [] = n

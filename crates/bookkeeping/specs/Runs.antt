@@ -1,9 +1,11 @@
 -- Runs of calls, with the strip book and on paper.
 --   Event                    a call with its answer: a strip is booked, or a slot released
+--   numberAnswered e         the number of the refusal in an event's answer; 0 where the call is done
 --   InBook before e after    the call of e, made on the table before, is answered as e says and leaves the table after
 --   OnPaper before e after   the same of the list on paper
 --   RunOfCalls Step before events after   the events one after another, each a step from what the one before it has left
 --   emptyBook                the table of an empty book: 320 zeros
+--   FromEmpty events book    the book is what the events leave of the empty book
 --   entriesFrom k ss         the slots in use among ss as entries, the first of ss having the number k
 --   entriesOf zs             the slots in use of a table as entries
 use mathlib.Core.Path.{_≡_}
@@ -23,6 +25,10 @@ pub data Event : Type 0 where
   booking : Window → BookingAnswer → Event
   release : ℤ → ReleaseAnswer → Event
 
+abbrev pub numberAnswered : Event → ℕ
+numberAnswered (booking w a) = a .number
+numberAnswered (release z a) = a .number
+
 abbrev pub InBook : List ℤ → Event → List ℤ → Type 0
 InBook before (booking w a) after = BookStrip w a before after
 InBook before (release z a) after = ReleaseSlot z a before after
@@ -40,6 +46,9 @@ pub data RunOfCalls {Book : Type 0} (Step : Book → Event → Book → Type 0) 
 
 unfoldable pub emptyBook : List ℤ
 emptyBook = replicate 320 (pos 0)
+
+abbrev pub FromEmpty : List Event → List ℤ → Type 0
+FromEmpty events book = RunOfCalls InBook emptyBook events book
 
 unfoldable pub entriesFrom : ℕ → List Slot → List Entry
 entriesFrom k [] = []
