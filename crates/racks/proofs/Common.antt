@@ -84,6 +84,14 @@ module _ (a b x y : ℤ) where
   common-read l g e f hy hx hl hg = λ i.
       (back w16 l hl ∙ e ∙ ap (lesser b) (back w16 y hy)) i -ℤ (back w16 g hg ∙ f ∙ ap (greater a) (back w16 x hx)) i
 
+  -- the same where all four numbers are read
+  pub both-read : (l g : ℤ) → l ≡ lesser (toZ w16 (ofZ w16 b)) (toZ w16 (ofZ w16 y)) → g ≡ greater (toZ w16 (ofZ w16 a)) (toZ w16 (ofZ w16 x))
+      → mag b < 2 ^ 15 → mag y < 2 ^ 15 → mag a < 2 ^ 15 → mag x < 2 ^ 15 → mag l < 2 ^ 15 → mag g < 2 ^ 15
+      → toZ w16 (ofZ w16 l) -ℤ toZ w16 (ofZ w16 g) ≡ lesser b y -ℤ greater a x
+  both-read l g e f hb hy ha hx hl hg = λ i.
+      (back w16 l hl ∙ e ∙ (λ k. lesser (back w16 b hb k) (back w16 y hy k))) i
+      -ℤ (back w16 g hg ∙ f ∙ (λ k. greater (back w16 a ha k) (back w16 x hx k))) i
+
 -- ---- a strip v, and what stands at a place of a rack
 abbrev pub across : Window → Window → ℤ
 across v s = lesser (v .right) (s .right) -ℤ greater (v .left) (s .left)
@@ -116,3 +124,20 @@ module _ {v s : Window} (on : WindowOnTable v) (at : Comparable v s) where
   share-test =
       lesser-test (across v s) (upward v s) ∙ (λ i. common _ _ _ _ (on .wide) (at .wide) i && common _ _ _ _ (on .tall) (at .tall) i)
       ∙ and-assoc (ltZ (v .left) (s .right) && ltZ (s .left) (v .right)) (ltZ (v .bottom) (s .top)) (ltZ (s .bottom) (v .top))
+
+-- ---- two strips share area, whichever of them comes first
+pub turned : (v w : Window) → sharesArea v w ≡ sharesArea w v
+unfolding sharesArea
+turned v w = exchanged (ltZ (v .left) (w .right)) (ltZ (w .left) (v .right)) (ltZ (v .bottom) (w .top)) (ltZ (w .bottom) (v .top))
+  where
+    both : (c d : Bool) → (c && d) ≡ (d && c)
+    both true true = refl
+    both true false = refl
+    both false true = refl
+    both false false = refl
+
+    exchanged : (a b c d : Bool) → (a && b && c && d) ≡ (b && a && d && c)
+    exchanged true true c d = both c d
+    exchanged true false c d = refl
+    exchanged false true c d = refl
+    exchanged false false c d = refl

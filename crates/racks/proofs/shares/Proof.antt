@@ -70,7 +70,7 @@ width c = across (own c) (strip c)
 abbrev height : tie.In-loop Inv-loop μ-loop → ℤ
 height c = upward (own c) (strip c)
 
-below : (c : tie.In-loop Inv-loop μ-loop) → c .before .loop .j < 64
+below : (c : tie.In-loop Inv-loop μ-loop) → c .before .loop .j < 72
 below c = let h = few (c .before .before) in let l = c .loop-test .taken in omega arith
 
 on : (c : tie.In-loop Inv-loop μ-loop) → WindowOnTable (own c)
