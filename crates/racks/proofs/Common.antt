@@ -77,20 +77,14 @@ module _ (a b x y : ℤ) where
       (omega (zarith, sub-is (lesser b y) (greater a x)))
       (omega (zarith, sub-is (lesser b y) (greater a x), hb .high, ha .low))
 
-  -- as the program has it, from numbers that it read and from what it took for the lesser and the greater
-  pub common-read : (l g : ℤ) → l ≡ lesser b (toZ w16 (ofZ w16 y)) → g ≡ greater a (toZ w16 (ofZ w16 x))
-      → mag y < 2 ^ 15 → mag x < 2 ^ 15 → mag l < 2 ^ 15 → mag g < 2 ^ 15
-      → toZ w16 (ofZ w16 l) -ℤ toZ w16 (ofZ w16 g) ≡ lesser b y -ℤ greater a x
-  common-read l g e f hy hx hl hg = λ i.
-      (back w16 l hl ∙ e ∙ ap (lesser b) (back w16 y hy)) i -ℤ (back w16 g hg ∙ f ∙ ap (greater a) (back w16 x hx)) i
+  -- as the program has it, from numbers that it read
+  pub read-place : mag x < 2 ^ 15 → mag y < 2 ^ 15
+      → lesser b (toZ w16 (ofZ w16 y)) -ℤ greater a (toZ w16 (ofZ w16 x)) ≡ lesser b y -ℤ greater a x
+  read-place hx hy = λ i. lesser b (back w16 y hy i) -ℤ greater a (back w16 x hx i)
 
-  -- the same where all four numbers are read
-  pub both-read : (l g : ℤ) → l ≡ lesser (toZ w16 (ofZ w16 b)) (toZ w16 (ofZ w16 y)) → g ≡ greater (toZ w16 (ofZ w16 a)) (toZ w16 (ofZ w16 x))
-      → mag b < 2 ^ 15 → mag y < 2 ^ 15 → mag a < 2 ^ 15 → mag x < 2 ^ 15 → mag l < 2 ^ 15 → mag g < 2 ^ 15
-      → toZ w16 (ofZ w16 l) -ℤ toZ w16 (ofZ w16 g) ≡ lesser b y -ℤ greater a x
-  both-read l g e f hb hy ha hx hl hg = λ i.
-      (back w16 l hl ∙ e ∙ (λ k. lesser (back w16 b hb k) (back w16 y hy k))) i
-      -ℤ (back w16 g hg ∙ f ∙ (λ k. greater (back w16 a ha k) (back w16 x hx k))) i
+  pub read-both : mag a < 2 ^ 15 → mag b < 2 ^ 15 → mag x < 2 ^ 15 → mag y < 2 ^ 15
+      → lesser (toZ w16 (ofZ w16 b)) (toZ w16 (ofZ w16 y)) -ℤ greater (toZ w16 (ofZ w16 a)) (toZ w16 (ofZ w16 x)) ≡ lesser b y -ℤ greater a x
+  read-both ha hb hx hy = λ i. lesser (back w16 b hb i) (back w16 y hy i) -ℤ greater (back w16 a ha i) (back w16 x hx i)
 
 -- ---- a strip v, and what stands at a place of a rack
 abbrev pub across : Window → Window → ℤ

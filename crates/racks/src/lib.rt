@@ -2,9 +2,11 @@
 ghost use mathlib.Core.Path.{_≡_};
 ghost use mathlib.Core.List.{List, _∷_};
 ghost use Prim.Native.Nat.{_+_, _%_, _<_};
-ghost use lib.IntN.{pos};
+ghost use lib.IntN.{pos, _-ℤ_};
 ghost use lib.ListN.{length};
 ghost use lib.Signed.{ltZ};
+ghost use mir.Syntax.{w16};
+ghost use mir.Val.{SFits};
 ghost use Rattle.whole.specs.Extremes.{lesser, greater};
 ghost use Rattle.grid.specs.Table.{WindowOnTable};
 ghost use Rattle.grid.specs.declared.Window.{Window};
@@ -33,6 +35,14 @@ fn greater(a: i16, b: i16) -> i16
         return b;
     }
     a
+}
+
+// How far the parts from a to b and from x to y lie over each other: from the greater of their beginnings to the lesser of their ends.
+fn overlap(a: i16, b: i16, x: i16, y: i16) -> i16
+    requires { ⌜ SFits w16 (lesser b y -ℤ greater a x) ⌝ }
+    ensures { λ r. ⌜ r ≡ lesser b y -ℤ greater a x ⌝ }
+{
+    lesser(b, y) - greater(a, x)
 }
 
 // Puts a strip on a rack that holds n.
@@ -66,8 +76,8 @@ pub fn shares(rack: &[i16; 288], n: usize, w: Window) -> bool
     let mut most: i16 = 0;
     let mut j = 0;
     while j < end {
-        let width = lesser(right, rack[144 + j]) - greater(left, rack[j]);
-        let height = lesser(top, rack[216 + j]) - greater(bottom, rack[72 + j]);
+        let width = overlap(left, right, rack[j], rack[144 + j]);
+        let height = overlap(bottom, top, rack[72 + j], rack[216 + j]);
         most = greater(most, lesser(width, height));
         j += 1;
     }
@@ -81,8 +91,8 @@ fn in_common(rack: &[i16; 288], p: usize, q: usize) -> i16
     requires { ⌜ q < 72 ⌝ }
     ensures { λ r. ⌜ ltZ (pos 0) r ≡ share (now (rack .entry)) p q ⌝ }
 {
-    let width = lesser(rack[144 + p], rack[144 + q]) - greater(rack[p], rack[q]);
-    let height = lesser(rack[216 + p], rack[216 + q]) - greater(rack[72 + p], rack[72 + q]);
+    let width = overlap(rack[p], rack[144 + p], rack[q], rack[144 + q]);
+    let height = overlap(rack[72 + p], rack[216 + p], rack[72 + q], rack[216 + q]);
     lesser(width, height)
 }
 
