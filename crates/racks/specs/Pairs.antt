@@ -1,4 +1,6 @@
 -- Pairs of places of a rack, and what comparing some of them tells.
+--   overlapAt rack row p q   how far the strips at the places p and q lie over each other: from left to right in the row 0, from bottom to top in
+--                       the row 72, from the greater of their beginnings to the lesser of their ends
 --   share rack p q      the strips at the places p and q share area
 --   above zs            one of the numbers zs is above 0
 --   Met i from to p q   p is one of the eight places from i on, and q is as far behind p as a place from `from` up to `to` is behind i
@@ -11,11 +13,18 @@ use mathlib.Core.Bool.{Bool, true, false}
 use mathlib.Core.List.{List}
 use mathlib.Core.Logic.{_⊎_}
 use Prim.Native.Nat.{ℕ, _+_, _≤_, _<_}
-use lib.IntN.{ℤ, pos}
+use lib.IntN.{ℤ, pos, _-ℤ_}
+use lib.ListN.{getD}
 use lib.Signed.{ltZ}
+use Rattle.whole.specs.Extremes.{lesser, greater}
 use Rattle.racks.specs.Areas.{sharesArea}
 use Rattle.racks.specs.Members.{any}
 use Rattle.racks.specs.Racks.{stripAt}
+
+abbrev pub overlapAt : List ℤ → ℕ → ℕ → ℕ → ℤ
+overlapAt rack row p q =
+    lesser (getD rack (row + 144 + p) (pos 0)) (getD rack (row + 144 + q) (pos 0))
+    -ℤ greater (getD rack (row + p) (pos 0)) (getD rack (row + q) (pos 0))
 
 abbrev pub share : List ℤ → ℕ → ℕ → Bool
 share rack p q = sharesArea (stripAt rack p) (stripAt rack q)

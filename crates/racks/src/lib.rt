@@ -1,7 +1,7 @@
 // A rack: the strips of a book side by side, so that a strip is compared with all of them in few steps.
 ghost use mathlib.Core.Path.{_≡_};
 ghost use mathlib.Core.List.{List, _∷_};
-ghost use Prim.Native.Nat.{_+_, _%_, _<_};
+ghost use Prim.Native.Nat.{_+_, _%_, _≤_, _<_};
 ghost use lib.IntN.{pos, _-ℤ_};
 ghost use lib.ListN.{length};
 ghost use lib.Signed.{ltZ};
@@ -12,7 +12,7 @@ ghost use Rattle.grid.specs.Table.{WindowOnTable};
 ghost use Rattle.grid.specs.declared.Window.{Window};
 ghost use Rattle.racks.specs.Areas.{sharesArea};
 ghost use Rattle.racks.specs.Members.{any};
-ghost use Rattle.racks.specs.Pairs.{share, above, Met, Compares, Crowd};
+ghost use Rattle.racks.specs.Pairs.{overlapAt, share, above, Met, Compares, Crowd};
 ghost use Rattle.racks.specs.Racks.{Holds};
 use grid::Window;
 
@@ -84,6 +84,22 @@ pub fn shares(rack: &[i16; 288], n: usize, w: Window) -> bool
     0 < most
 }
 
+// How far the strips at two places lie over each other: from left to right, or from bottom to top where the row is 72.
+fn overlap_at(rack: &[i16; 288], row: usize, p: usize, q: usize) -> i16
+    requires { ⌜ p < 72 ⌝ }
+    requires { ⌜ q < 72 ⌝ }
+    requires { ⌜ row ≤ 72 ⌝ }
+    requires { ⌜ SFits w16 (overlapAt (now rack) row p q) ⌝ }
+    ensures { λ r. ⌜ r ≡ overlapAt (now (rack .entry)) row p q ⌝ }
+{
+    overlap(
+        rack[row + p],
+        rack[row + 144 + p],
+        rack[row + q],
+        rack[row + 144 + q],
+    )
+}
+
 // The lesser of the width and the height that the strips at two places have in common: above 0 where they share area.
 fn in_common(rack: &[i16; 288], p: usize, q: usize) -> i16
     requires { ⌜ ((ws : List Window) × Holds (now rack) ws) ⌝ }
@@ -91,8 +107,8 @@ fn in_common(rack: &[i16; 288], p: usize, q: usize) -> i16
     requires { ⌜ q < 72 ⌝ }
     ensures { λ r. ⌜ ltZ (pos 0) r ≡ share (now (rack .entry)) p q ⌝ }
 {
-    let width = overlap(rack[p], rack[144 + p], rack[q], rack[144 + q]);
-    let height = overlap(rack[72 + p], rack[216 + p], rack[72 + q], rack[216 + q]);
+    let width = overlap_at(rack, 0, p, q);
+    let height = overlap_at(rack, 72, p, q);
     lesser(width, height)
 }
 
@@ -151,13 +167,13 @@ fn compare_behind(rack: &[i16; 288], i: usize, most: [i16; 8]) -> [i16; 8]
 fn any_above(numbers: [i16; 8]) -> bool
     ensures { λ r. ⌜ r ≡ above numbers ⌝ }
 {
-    let mut most: i16 = 0;
+    let mut greatest: i16 = 0;
     let mut e = 0;
     while e < 8 {
-        most = greater(most, numbers[e]);
+        greatest = greater(greatest, numbers[e]);
         e += 1;
     }
-    0 < most
+    0 < greatest
 }
 
 // Whether two of the n strips of a rack share area. Eight strips are compared with the eight that begin one place behind, two places and so on, each

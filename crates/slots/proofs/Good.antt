@@ -1,5 +1,5 @@
--- Whether slots are good each by itself, one after the other: where those behind a slot are, it is its own mark and its own numbers that decide; where
--- they are not, nothing before them helps.
+-- Whether slots are good each by itself, one after the other: where those behind a slot are, it is its own mark and its own numbers that decide;
+-- where they are not, nothing before them helps.
 use mathlib.Core.Path.{_≡_, refl, sym, ap, _∙_}
 use mathlib.Core.Bool.{Bool, true, false, _&&_}
 use mathlib.Core.List.{List, [], _∷_}
@@ -118,8 +118,8 @@ unfolding stripsIn all
 full-strips [] e = refl
 full-strips (s ∷ ss) e = go (inUse s) e (full-strips ss)
   where
-    go : (u : Bool) → length (if u then s .strip ∷ stripsIn ss else stripsIn ss) ≡ length (s ∷ ss) → (length (stripsIn ss) ≡ length ss → all inUse ss ≡ true)
-        → (u && all inUse ss) ≡ true
+    go : (u : Bool) → length (if u then s .strip ∷ stripsIn ss else stripsIn ss) ≡ length (s ∷ ss)
+        → (length (stripsIn ss) ≡ length ss → all inUse ss ≡ true) → (u && all inUse ss) ≡ true
     go true e h = h (omega arith)
     go false e h = absurd (omega (arith, e, strips-few ss))
 

@@ -18,10 +18,10 @@ use Rattle.racks.proofs.any_above.Statement.{statement}
 use Rattle.racks.proofs.any_above.Tie as tie
 
 abbrev Inv-loop : tie.InvT-loop
-Inv-loop numbers most₀ e₀ most e = (e ≤ 8) × ((ltZ (pos 0) (toZ w16 most) || above (drop e numbers)) ≡ above numbers)
+Inv-loop numbers greatest₀ e₀ greatest e = (e ≤ 8) × ((ltZ (pos 0) (toZ w16 greatest) || above (drop e numbers)) ≡ above numbers)
 
 abbrev μ-loop : tie.MeasureT-loop
-μ-loop numbers most₀ e₀ most e = 8 - e
+μ-loop numbers greatest₀ e₀ greatest e = 8 - e
 
 loop-holds : tie.Need-loop-holds Inv-loop μ-loop
 loop-holds c = (omega arith, refl)
@@ -46,20 +46,20 @@ loop-again c =
     let l = c .before .before .before in
     let zs = l .before .args .t1 in
     let e = l .loop .e in
-    let most = toZ w16 (l .loop .most) in
-    let value : toZ w16 (ofZ w16 (c .greater .result)) ≡ greater most (getD zs e (pos 0)) =
+    let greatest = toZ w16 (l .loop .greatest) in
+    let value : toZ w16 (ofZ w16 (c .greater .result)) ≡ greater greatest (getD zs e (pos 0)) =
     back w16 (c .greater .result) (c .greater .ok) ∙ c .greater .ensures
-    ∙ ap (greater most) (back w16 (getD zs e (pos 0)) (c .before .greater-arg .given)) in
+    ∙ ap (greater greatest) (back w16 (getD zs e (pos 0)) (c .before .greater-arg .given)) in
     let t = c .before .before .loop-test .taken in
     let long = l .before .good .0 .1 .0 .1 in
-    (omega arith, ap (λ (z : ℤ). ltZ (pos 0) z || above (drop (e + 1) zs)) value ∙ next-above zs e most (omega arith) ∙ l .loop .inv .1)
+    (omega arith, ap (λ (z : ℤ). ltZ (pos 0) z || above (drop (e + 1) zs)) value ∙ next-above zs e greatest (omega arith) ∙ l .loop .inv .1)
 
 returns : tie.Need-returns Inv-loop μ-loop
 returns c =
     let l = c .before in
     let long = l .before .good .0 .1 .0 .1 in
     let t = c .loop-test .left in
-    sym (none-above (l .before .args .t1) (l .loop .e) (ltZ (pos 0) (toZ w16 (l .loop .most))) (omega arith)) ∙ l .loop .inv .1
+    sym (none-above (l .before .args .t1) (l .loop .e) (ltZ (pos 0) (toZ w16 (l .loop .greatest))) (omega arith)) ∙ l .loop .inv .1
 
 pub any-above-spec : {M : Type 1} → statement M
 any-above-spec =

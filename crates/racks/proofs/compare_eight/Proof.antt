@@ -80,8 +80,10 @@ loop-again c =
       omega arith,
       simp length-set (l .loop .inv .1),
       subst (λ (z : ℤ). Compares (now (a .args .rack)) (Lanes i j (e + 1)) (a .args .most) (set found e z)) (sym value)
-          (both-met (l .loop .inv .2) (lane-met (i + e) (j + e) e found (n .in-common .result) (omega arith) (omega arith) (omega arith) (n .in-common .ensures))
-          (λ p q k. ⊎-elim (λ h. inr (h, omega (arith, k .2))) (λ h. inl (k .0, h, k .2)) (eq-or-lt-of-le {n = p} {m = i + e} (omega (arith, k .1))))),
+          (both-met (l .loop .inv .2)
+          (lane-met (i + e) (j + e) e found (n .in-common .result) (omega arith) (omega arith) (omega arith) (n .in-common .ensures))
+          (λ p q k. ⊎-elim (λ h. inr (h, omega (arith, k .2))) (λ h. inl (k .0, h, k .2))
+          (eq-or-lt-of-le {n = p} {m = i + e} (omega (arith, k .1))))),
     )
 
 returns : tie.Need-returns Inv-loop μ-loop

@@ -1,53 +1,58 @@
 -- `racks::compare_on` meets its contract: eight comparisons, each one place further. Assumes nothing.
+use Prim.Native.Nat.{ℕ, _+_, _<_}
 use native.Mathlib.Omega.{arith}
 use Rattle.racks.proofs.Pairs.{fewer-met, further-met}
 use Rattle.racks.proofs.compare_on.Statement.{statement}
 use Rattle.racks.proofs.compare_on.Tie as tie
 
+-- a comparison up to seven places further
+further : (c : tie.Start) (k : ℕ) → k < 8 → (c .args .i < c .args .j + k) × (c .args .j + k < 65)
+further c k h = (omega (arith, c .pre .1 .0), omega (arith, c .pre .1 .1))
+
 compare-eight-requires : tie.Need-compare-eight-requires
-compare-eight-requires c κs = let a = c in (a .pre .0, (omega (arith, a .pre .1 .0), omega (arith, a .pre .1 .1)))
+compare-eight-requires c κs = (c .pre .0, (c .pre .1 .0, omega (arith, c .pre .1 .1)))
 
 add-compare-eight : tie.Need-add-compare-eight
 add-compare-eight c = let a = c .before in omega (arith, a .pre .1 .1)
 
 compare-eight-requires-2 : tie.Need-compare-eight-requires-2
-compare-eight-requires-2 c κs = let a = c .before in (a .pre .0, (omega (arith, a .pre .1 .0), omega (arith, a .pre .1 .1)))
+compare-eight-requires-2 c κs = let a = c .before in (a .pre .0, further a 1 (omega arith))
 
 add-compare-eight-2 : tie.Need-add-compare-eight-2
 add-compare-eight-2 c = let a = c .before .before in omega (arith, a .pre .1 .1)
 
 compare-eight-requires-3 : tie.Need-compare-eight-requires-3
-compare-eight-requires-3 c κs = let a = c .before .before in (a .pre .0, (omega (arith, a .pre .1 .0), omega (arith, a .pre .1 .1)))
+compare-eight-requires-3 c κs = let a = c .before .before in (a .pre .0, further a 2 (omega arith))
 
 add-compare-eight-3 : tie.Need-add-compare-eight-3
 add-compare-eight-3 c = let a = c .before .before .before in omega (arith, a .pre .1 .1)
 
 compare-eight-requires-4 : tie.Need-compare-eight-requires-4
-compare-eight-requires-4 c κs = let a = c .before .before .before in (a .pre .0, (omega (arith, a .pre .1 .0), omega (arith, a .pre .1 .1)))
+compare-eight-requires-4 c κs = let a = c .before .before .before in (a .pre .0, further a 3 (omega arith))
 
 add-compare-eight-4 : tie.Need-add-compare-eight-4
 add-compare-eight-4 c = let a = c .before .before .before .before in omega (arith, a .pre .1 .1)
 
 compare-eight-requires-5 : tie.Need-compare-eight-requires-5
-compare-eight-requires-5 c κs = let a = c .before .before .before .before in (a .pre .0, (omega (arith, a .pre .1 .0), omega (arith, a .pre .1 .1)))
+compare-eight-requires-5 c κs = let a = c .before .before .before .before in (a .pre .0, further a 4 (omega arith))
 
 add-compare-eight-5 : tie.Need-add-compare-eight-5
 add-compare-eight-5 c = let a = c .before .before .before .before .before in omega (arith, a .pre .1 .1)
 
 compare-eight-requires-6 : tie.Need-compare-eight-requires-6
-compare-eight-requires-6 c κs = let a = c .before .before .before .before .before in (a .pre .0, (omega (arith, a .pre .1 .0), omega (arith, a .pre .1 .1)))
+compare-eight-requires-6 c κs = let a = c .before .before .before .before .before in (a .pre .0, further a 5 (omega arith))
 
 add-compare-eight-6 : tie.Need-add-compare-eight-6
 add-compare-eight-6 c = let a = c .before .before .before .before .before .before in omega (arith, a .pre .1 .1)
 
 compare-eight-requires-7 : tie.Need-compare-eight-requires-7
-compare-eight-requires-7 c κs = let a = c .before .before .before .before .before .before in (a .pre .0, (omega (arith, a .pre .1 .0), omega (arith, a .pre .1 .1)))
+compare-eight-requires-7 c κs = let a = c .before .before .before .before .before .before in (a .pre .0, further a 6 (omega arith))
 
 add-compare-eight-7 : tie.Need-add-compare-eight-7
 add-compare-eight-7 c = let a = c .before .before .before .before .before .before .before in omega (arith, a .pre .1 .1)
 
 compare-eight-requires-8 : tie.Need-compare-eight-requires-8
-compare-eight-requires-8 c κs = let a = c .before .before .before .before .before .before .before in (a .pre .0, (omega (arith, a .pre .1 .0), omega (arith, a .pre .1 .1)))
+compare-eight-requires-8 c κs = let a = c .before .before .before .before .before .before .before in (a .pre .0, further a 7 (omega arith))
 
 returns : tie.Need-returns
 returns c =

@@ -39,8 +39,11 @@ loop-again c =
     let l = c .before .before in
     let a = l .before in
     let h = l .loop .inv .0 in
-    let met = c .compare-behind .ensures (a .pre .0) (a .pre .2) in
-    (omega arith, block-met (l .loop .inv .1) (fewer-met met (λ p q k. record { first = k .first; last = k .last; near = k .near; far = omega (arith, a .pre .1, k .far) })))
+    let met = c .compare-behind .ensures (a .pre .0) (a .pre .2) in (
+      omega arith,
+      block-met (l .loop .inv .1)
+          (fewer-met met (λ p q k. record { first = k .first; last = k .last; near = k .near; far = omega (arith, a .pre .1, k .far) })),
+    )
 
 any-above-requires : tie.Need-any-above-requires Inv-loop μ-loop
 any-above-requires c κs = search needs
@@ -51,7 +54,8 @@ returns c =
     let l = c .before .before in
     let a = l .before in
     let t = c .before .loop-test .left in
-    crowd (a .pre .2) (a .pre .1) (c .any-above .ensures) refl (fewer-met (l .loop .inv .1) (λ p q k. let x = k .0 in let y = k .1 in (omega arith, x, y)))
+    crowd (a .pre .2) (a .pre .1) (c .any-above .ensures) refl
+    (fewer-met (l .loop .inv .1) (λ p q k. let x = k .0 in let y = k .1 in (omega arith, x, y)))
 
 pub crowded-spec : {M : Type 1} → statement M
 crowded-spec =

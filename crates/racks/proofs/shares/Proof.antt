@@ -130,7 +130,8 @@ overlap-requires-2 c κs =
     let t = c .before .before .before .before .before in
     subst (SFits w16) (sym (read-place _ _ _ _ (c .before .overlap-arg3 .given) (c .overlap-arg4 .given))) (upward-fits (on t) (comparable t))
 
-height-is : (c : tie.After-overlap2 Inv-loop μ-loop) → toZ w16 (ofZ w16 (c .overlap2 .result)) ≡ height (c .before .before .before .before .before .before)
+height-is : (c : tie.After-overlap2 Inv-loop μ-loop)
+    → toZ w16 (ofZ w16 (c .overlap2 .result)) ≡ height (c .before .before .before .before .before .before)
 height-is c =
     back w16 (c .overlap2 .result) (c .overlap2 .ok) ∙ c .overlap2 .ensures
     ∙ read-place _ _ _ _ (c .before .before .overlap-arg3 .given) (c .before .overlap-arg4 .given)

@@ -29,10 +29,10 @@ sub-p c = five-more c
 gather-slot-requires : tie.Need-gather-slot-requires Inv-loop μ-loop
 gather-slot-requires c κs =
     let l = c .before .before in
-    let back : l .loop .p ≡ l .loop .p - 5 + 5 = omega (arith, five-more (c .before)) in (
-      omega (arith, back, l .loop .inv .0),
-      (l .before .pre .0, subst (λ (q : ℕ). Gathered (slotsFrom q (now (l .before .args .book))) (l .loop .n) (l .loop .rack)) back (l .loop .inv .2)),
-    )
+    let a = l .before in
+    let back : l .loop .p ≡ l .loop .p - 5 + 5 = omega (arith, five-more (c .before)) in
+    let behind = subst (λ (q : ℕ). Gathered (slotsFrom q (now (a .args .book))) (l .loop .n) (l .loop .rack)) back (l .loop .inv .2) in
+    (omega (arith, back, l .loop .inv .0), (a .pre .0, behind))
 
 enum-known-m : tie.Need-enum-known-m Inv-loop μ-loop
 enum-known-m c = search needs
@@ -44,7 +44,8 @@ loop-again : tie.Need-loop-again Inv-loop μ-loop
 loop-again c =
     let t = c .before .before .before .before .before in
     let l = t .before in
-    (omega (arith, l .loop .inv .0), omega (arith, five-more t, l .loop .inv .1), found-good _ (c .before .m .given .1) (c .before .before .before .gather-slot .ensures))
+    let more = found-good _ (c .before .m .given .1) (c .before .before .before .gather-slot .ensures) in
+    (omega (arith, l .loop .inv .0), omega (arith, five-more t, l .loop .inv .1), more)
 
 enum-told : tie.Need-enum-told Inv-loop μ-loop
 enum-told c = search needs

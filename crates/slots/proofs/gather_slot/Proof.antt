@@ -31,7 +31,9 @@ returns : tie.Need-returns
 returns c =
     let a = c .before .before in
     let zs = now (a .args .book) in
-    workers.good (passes-free zs (a .args .p) (among a) (mark-is zs (a .args .p) (among a) (c .before .mark .given) 0 (omega arith) (c .if1 .taken)) (a .pre .1 .1))
+    workers.good
+    (passes-free zs (a .args .p) (among a)
+    (mark-is zs (a .args .p) (among a) (c .before .mark .given) 0 (omega arith) (c .if1 .taken)) (a .pre .1 .1))
 
 returns-2 : tie.Need-returns-2
 returns-2 c =

@@ -137,7 +137,8 @@ returns-4 c =
     let t = found-good _ (k .before .tested .given .1) (k .before .before .before .test-book .ensures) .1 in
     rw (c .refused-booking4 .ensures, c .before .refused3 .ensures)
     (lent-refused
-    (refuses-full (window k) (book k) (sound k) (fine (e .before .before .before)) (clear e) (all-used (book k) (long k) (sym (t .count) ∙ c .before .before .if3 .taken)))
+    (refuses-full (window k) (book k) (sound k) (fine (e .before .before .before)) (clear e)
+    (all-used (book k) (long k) (sym (t .count) ∙ c .before .before .if3 .taken)))
     (λ e. omega arith))
 
 -- ---- a slot is free
@@ -157,7 +158,9 @@ lowest-free-requires c κs = (omega arith, (omega arith, long (c .before .before
 -- the slot that was found
 found : (c : tie.After-lowest-free) → let k = c .before .before .before .before .before .before .before .before .before in
     c .lowest-free .result ≡ lowestFree (slotsOf (book k))
-found c = let k = c .before .before .before .before .before .before .before .before .before in lowest-of-all (book k) (long k) (c .lowest-free .ensures)
+found c =
+    let k = c .before .before .before .before .before .before .before .before .before in
+    lowest-of-all (book k) (long k) (c .lowest-free .ensures)
 
 lower : (c : tie.After-lowest-free) → c .lowest-free .result < 64
 lower c = omega (arith, found c, free (c .before .before) .1)
