@@ -1,6 +1,6 @@
 -- What two strips have in common, from left to right or from bottom to top, is from the greater of their beginnings to the lesser of their ends. It
 -- is above 0 both ways just where they share area; a vacant place begins where no strip has its end.
-use mathlib.Core.Path.{_≡_, refl, ap, _∙_}
+use mathlib.Core.Path.{_≡_, refl, _∙_}
 use mathlib.Core.Logic.{⊎-elim}
 use mathlib.Core.Bool.{Bool, true, false, _&&_, _||_}
 use Prim.Native.Nat.{_^_, _<_}

@@ -1,5 +1,5 @@
 -- A rack: 72 places, the numbers of their strips side by side: the left sides from 0 on, the bottoms from 72, the rights from 144, the tops from 216.
--- It holds at most 64 strips, so that places behind the last are vacant.
+-- It holds at most 64 strips, so that at least eight places behind the last are vacant.
 --   stripAt rack j    the strip at the place j
 --   vacant            what stands at a place without a strip: four numbers just off the table
 --   putAt rack j w    the rack with the strip w at the place j

@@ -1,4 +1,4 @@
-// A rack: the strips of a book side by side, so that a strip is compared with all of them in few steps.
+// A rack: the strips of a book side by side, so that all are compared with each other, or one with all, in few steps.
 ghost use mathlib.Core.Path.{_≡_};
 ghost use mathlib.Core.List.{List, _∷_};
 ghost use Prim.Native.Nat.{_+_, _%_, _≤_, _<_};
@@ -61,8 +61,8 @@ pub fn put(rack: &mut [i16; 288], n: usize, w: Window)
     rack[216 + n] = top;
 }
 
-// Whether w shares area with one of the n strips of a rack. What two rectangles have in common is as wide and as high as from the greater of their
-// beginnings to the lesser of their ends; the most of the lesser of the two is sought, at sixteen places at a time, vacant ones among them.
+// Whether w shares area with one of the n strips of a rack. The lesser of the width and the height that they have in common is then above 0; the most of
+// it is sought, at sixteen places at a time, vacant ones among them.
 pub fn shares(rack: &[i16; 288], n: usize, w: Window) -> bool
     requires { ⌜ ((ws : List Window) × (n ≡ length ws) × Holds (now rack) ws) ⌝ }
     requires { ⌜ WindowOnTable w ⌝ }
@@ -128,7 +128,7 @@ fn compare_eight(rack: &[i16; 288], i: usize, j: usize, most: [i16; 8]) -> [i16;
     found
 }
 
-// The same for the eight from j on, from j + 1 on and so to j + 7. They are not a loop, since the compiler would make one.
+// The same with the eight from j on, then from j + 1 on and so to j + 7. They are written out, since the compiler makes slower code of a loop.
 fn compare_on(rack: &[i16; 288], i: usize, j: usize, most: [i16; 8]) -> [i16; 8]
     requires { ⌜ ((ws : List Window) × Holds (now rack) ws) ⌝ }
     requires { ⌜ i < j ⌝ }
@@ -145,8 +145,8 @@ fn compare_on(rack: &[i16; 288], i: usize, j: usize, most: [i16; 8]) -> [i16; 8]
     compare_eight(rack, i, j + 7, found6)
 }
 
-// Compares the eight strips from the place i on with all strips behind them. The last strip is told by the vacant place behind it: where the compiler
-// can count the turns, it takes eight of them at once and not the eight strips, which is dearer.
+// Compares the eight strips from the place i on with all strips behind them. The vacant place behind the last strip ends the loop: if the compiler
+// could count the turns, it would take eight turns at once in place of eight strips, which is dearer.
 fn compare_behind(rack: &[i16; 288], i: usize, most: [i16; 8]) -> [i16; 8]
     requires { ⌜ i % 8 ≡ 0 ⌝ }
     requires { ⌜ i < 64 ⌝ }

@@ -1,18 +1,17 @@
 -- `racks::any_above` meets its contract: the most of the numbers so far is above 0 where one of them is. Assumes nothing.
 use mathlib.Core.Path.{_≡_, refl, sym, ap, _∙_}
-use mathlib.Core.Bool.{Bool, _||_}
+use mathlib.Core.Bool.{_||_}
 use Prim.Native.Nat.{_+_, _-_, _≤_}
 use native.Mathlib.Omega.{arith}
 use borrow.Author.Needs.{needs}
 use lib.IntN.{ℤ, pos}
-use lib.ListN.{length, drop, getD, drop-of-length-le}
+use lib.ListN.{drop, getD}
 use lib.Signed.{ltZ}
 use mir.Syntax.{w16}
 use mir.Val.{toZ, ofZ}
 use Rattle.whole.specs.Extremes.{greater}
 use Rattle.whole.proofs.Comparisons.{back}
 use Rattle.racks.specs.Pairs.{above}
-use Rattle.racks.proofs.Common.{greater-test}
 use Rattle.racks.proofs.Pairs.{next-above, none-above}
 use Rattle.racks.proofs.any_above.Statement.{statement}
 use Rattle.racks.proofs.any_above.Tie as tie

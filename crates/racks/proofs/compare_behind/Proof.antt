@@ -1,5 +1,6 @@
 -- `racks::compare_behind` meets its contract: all behind the eight places, up to j, have met them, and the last strip stands before j in the end.
 -- Assumes nothing.
+use mathlib.Core.Path.{_≡_, refl}
 use Prim.Native.Nat.{_+_, _-_, _%_, _<_}
 use native.Mathlib.Omega.{arith}
 use borrow.Author.Needs.{needs}
@@ -7,10 +8,6 @@ use Rattle.racks.specs.Pairs.{Met, Compares}
 use Rattle.racks.proofs.Pairs.{strip-there, none-there, nothing-met, fewer-met, further-met}
 use Rattle.racks.proofs.compare_behind.Statement.{statement}
 use Rattle.racks.proofs.compare_behind.Tie as tie
-use mathlib.Core.Path.{_≡_, refl}
-use mathlib.Core.List.{List}
-use lib.ListN.{length}
-use Rattle.grid.specs.declared.Window.{Window}
 
 abbrev Inv-loop : tie.InvT-loop
 Inv-loop rack i found₀ j₀ found j = (i < j) × (j % 8 ≡ 1) × (j < 66) × Compares rack (Met i (i + 1) j) found₀ found

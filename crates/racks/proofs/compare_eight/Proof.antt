@@ -1,7 +1,6 @@
 -- `racks::compare_eight` meets its contract: the first e lanes have met. Assumes nothing.
-use mathlib.Core.Path.{_≡_, refl, sym, ap, _∙_, subst}
+use mathlib.Core.Path.{_≡_, sym, _∙_, subst}
 use mathlib.Core.Logic.{_⊎_, inl, inr, ⊎-elim}
-use mathlib.Core.List.{List}
 use Prim.Native.Nat.{ℕ, _+_, _-_, _≤_, _<_}
 use native.Mathlib.Nat.{eq-or-lt-of-le}
 use native.Mathlib.Omega.{arith}
@@ -13,7 +12,7 @@ use mir.Syntax.{w16}
 use mir.Val.{toZ, ofZ}
 use Rattle.whole.specs.Extremes.{greater}
 use Rattle.whole.proofs.Comparisons.{back}
-use Rattle.racks.specs.Pairs.{Met, Compares}
+use Rattle.racks.specs.Pairs.{Compares}
 use Rattle.racks.proofs.Pairs.{nothing-met, fewer-met, both-met, lane-met}
 use Rattle.racks.proofs.compare_eight.Statement.{statement}
 use Rattle.racks.proofs.compare_eight.Tie as tie

@@ -1,11 +1,10 @@
 -- `racks::crowded` meets its contract: the strips before the place i have met all behind them. Assumes nothing.
-use mathlib.Core.Path.{_≡_, refl, subst}
-use Prim.Native.Nat.{ℕ, _+_, _-_, _%_, _<_}
+use mathlib.Core.Path.{_≡_, refl}
+use Prim.Native.Nat.{ℕ, _-_, _%_, _<_}
 use native.Mathlib.Omega.{arith}
 use borrow.Author.Needs.{needs}
-use denote.Ref.{now}
 use Rattle.racks.specs.Members.{any}
-use Rattle.racks.specs.Pairs.{Met, Compares}
+use Rattle.racks.specs.Pairs.{Compares}
 use Rattle.racks.proofs.Pairs.{nothing-met, fewer-met, block-met, crowd}
 use Rattle.racks.proofs.crowded.Statement.{statement}
 use Rattle.racks.proofs.crowded.Tie as tie

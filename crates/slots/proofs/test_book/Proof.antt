@@ -1,6 +1,5 @@
 -- `slots::test_book` meets its contract: its length, each slot by itself, and then the pairs of strips on the rack decide. Assumes nothing.
 use mathlib.Core.Path.{subst}
-use mathlib.Core.Bool.{Bool}
 use borrow.Author.Needs.{needs}
 use denote.Ref.{now}
 use Rattle.racks.specs.Pairs.{Crowd}
