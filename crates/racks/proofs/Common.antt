@@ -1,6 +1,6 @@
 -- What two strips have in common, from left to right or from bottom to top, is from the greater of their beginnings to the lesser of their ends. It
 -- is above 0 both ways just where they share area; a vacant place begins where no strip has its end.
-use mathlib.Core.Path.{_≡_, refl, ap, _∙_}
+use mathlib.Core.Path.{_≡_, refl, _∙_}
 use mathlib.Core.Logic.{⊎-elim}
 use mathlib.Core.Bool.{Bool, true, false, _&&_, _||_}
 use Prim.Native.Nat.{_^_, _<_}
@@ -77,12 +77,14 @@ module _ (a b x y : ℤ) where
       (omega (zarith, sub-is (lesser b y) (greater a x)))
       (omega (zarith, sub-is (lesser b y) (greater a x), hb .high, ha .low))
 
-  -- as the program has it, from numbers that it read and from what it took for the lesser and the greater
-  pub common-read : (l g : ℤ) → l ≡ lesser b (toZ w16 (ofZ w16 y)) → g ≡ greater a (toZ w16 (ofZ w16 x))
-      → mag y < 2 ^ 15 → mag x < 2 ^ 15 → mag l < 2 ^ 15 → mag g < 2 ^ 15
-      → toZ w16 (ofZ w16 l) -ℤ toZ w16 (ofZ w16 g) ≡ lesser b y -ℤ greater a x
-  common-read l g e f hy hx hl hg = λ i.
-      (back w16 l hl ∙ e ∙ ap (lesser b) (back w16 y hy)) i -ℤ (back w16 g hg ∙ f ∙ ap (greater a) (back w16 x hx)) i
+  -- as the program has it, from numbers that it read
+  pub read-place : mag x < 2 ^ 15 → mag y < 2 ^ 15
+      → lesser b (toZ w16 (ofZ w16 y)) -ℤ greater a (toZ w16 (ofZ w16 x)) ≡ lesser b y -ℤ greater a x
+  read-place hx hy = λ i. lesser b (back w16 y hy i) -ℤ greater a (back w16 x hx i)
+
+  pub read-both : mag a < 2 ^ 15 → mag b < 2 ^ 15 → mag x < 2 ^ 15 → mag y < 2 ^ 15
+      → lesser (toZ w16 (ofZ w16 b)) (toZ w16 (ofZ w16 y)) -ℤ greater (toZ w16 (ofZ w16 a)) (toZ w16 (ofZ w16 x)) ≡ lesser b y -ℤ greater a x
+  read-both ha hb hx hy = λ i. lesser (back w16 b hb i) (back w16 y hy i) -ℤ greater (back w16 a ha i) (back w16 x hx i)
 
 -- ---- a strip v, and what stands at a place of a rack
 abbrev pub across : Window → Window → ℤ
@@ -116,3 +118,20 @@ module _ {v s : Window} (on : WindowOnTable v) (at : Comparable v s) where
   share-test =
       lesser-test (across v s) (upward v s) ∙ (λ i. common _ _ _ _ (on .wide) (at .wide) i && common _ _ _ _ (on .tall) (at .tall) i)
       ∙ and-assoc (ltZ (v .left) (s .right) && ltZ (s .left) (v .right)) (ltZ (v .bottom) (s .top)) (ltZ (s .bottom) (v .top))
+
+-- ---- two strips share area, whichever of them comes first
+pub turned : (v w : Window) → sharesArea v w ≡ sharesArea w v
+unfolding sharesArea
+turned v w = exchanged (ltZ (v .left) (w .right)) (ltZ (w .left) (v .right)) (ltZ (v .bottom) (w .top)) (ltZ (w .bottom) (v .top))
+  where
+    both : (c d : Bool) → (c && d) ≡ (d && c)
+    both true true = refl
+    both true false = refl
+    both false true = refl
+    both false false = refl
+
+    exchanged : (a b c d : Bool) → (a && b && c && d) ≡ (b && a && d && c)
+    exchanged true true c d = both c d
+    exchanged true false c d = refl
+    exchanged false true c d = refl
+    exchanged false false c d = refl

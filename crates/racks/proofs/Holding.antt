@@ -64,37 +64,37 @@ module _ (rack : List ℤ) (n : ℕ) (w : Window) where
   one = set rack n (w .left)
 
   abbrev two : List ℤ
-  two = set one (64 + n) (w .bottom)
+  two = set one (72 + n) (w .bottom)
 
   abbrev three : List ℤ
-  three = set two (128 + n) (w .right)
+  three = set two (144 + n) (w .right)
 
-  elsewhere : (k : ℕ) → k ≢ n → k ≢ (64 + n) → k ≢ (128 + n) → k ≢ (192 + n) → getD (putAt rack n w) k (pos 0) ≡ getD rack k (pos 0)
+  elsewhere : (k : ℕ) → k ≢ n → k ≢ (72 + n) → k ≢ (144 + n) → k ≢ (216 + n) → getD (putAt rack n w) k (pos 0) ≡ getD rack k (pos 0)
   elsewhere k p q r s =
-      getD-set-other three (192 + n) k (w .top) (pos 0) s ∙ getD-set-other two (128 + n) k (w .right) (pos 0) r
-      ∙ getD-set-other one (64 + n) k (w .bottom) (pos 0) q ∙ getD-set-other rack n k (w .left) (pos 0) p
+      getD-set-other three (216 + n) k (w .top) (pos 0) s ∙ getD-set-other two (144 + n) k (w .right) (pos 0) r
+      ∙ getD-set-other one (72 + n) k (w .bottom) (pos 0) q ∙ getD-set-other rack n k (w .left) (pos 0) p
 
-  others : n < 64 → (j : ℕ) → j < 64 → j ≢ n → stripAt (putAt rack n w) j ≡ stripAt rack j
+  others : n < 64 → (j : ℕ) → j < 72 → j ≢ n → stripAt (putAt rack n w) j ≡ stripAt rack j
   others h j l d = λ i. record {
     left = elsewhere j d (λ e. omega arith) (λ e. omega arith) (λ e. omega arith) i;
-    bottom = elsewhere (64 + j) (λ e. omega arith) (λ e. d (omega arith)) (λ e. omega arith) (λ e. omega arith) i;
-    right = elsewhere (128 + j) (λ e. omega arith) (λ e. omega arith) (λ e. d (omega arith)) (λ e. omega arith) i;
-    top = elsewhere (192 + j) (λ e. omega arith) (λ e. omega arith) (λ e. omega arith) (λ e. d (omega arith)) i;
+    bottom = elsewhere (72 + j) (λ e. omega arith) (λ e. d (omega arith)) (λ e. omega arith) (λ e. omega arith) i;
+    right = elsewhere (144 + j) (λ e. omega arith) (λ e. omega arith) (λ e. d (omega arith)) (λ e. omega arith) i;
+    top = elsewhere (216 + j) (λ e. omega arith) (λ e. omega arith) (λ e. omega arith) (λ e. d (omega arith)) i;
   }
 
-  here : n < 64 → length rack ≡ 256 → stripAt (putAt rack n w) n ≡ w
+  here : n < 64 → length rack ≡ 288 → stripAt (putAt rack n w) n ≡ w
   here h e = λ i. record {
     left =
-        (getD-set-other three (192 + n) n (w .top) (pos 0) (λ e. omega arith) ∙ getD-set-other two (128 + n) n (w .right) (pos 0) (λ e. omega arith)
-        ∙ getD-set-other one (64 + n) n (w .bottom) (pos 0) (λ e. omega arith) ∙ getD-set-same rack n (w .left) (pos 0) (omega arith)) i;
+        (getD-set-other three (216 + n) n (w .top) (pos 0) (λ e. omega arith) ∙ getD-set-other two (144 + n) n (w .right) (pos 0) (λ e. omega arith)
+        ∙ getD-set-other one (72 + n) n (w .bottom) (pos 0) (λ e. omega arith) ∙ getD-set-same rack n (w .left) (pos 0) (omega arith)) i;
     bottom =
-        (getD-set-other three (192 + n) (64 + n) (w .top) (pos 0) (λ e. omega arith)
-        ∙ getD-set-other two (128 + n) (64 + n) (w .right) (pos 0) (λ e. omega arith)
-        ∙ getD-set-same one (64 + n) (w .bottom) (pos 0) (simp length-set (omega arith))) i;
+        (getD-set-other three (216 + n) (72 + n) (w .top) (pos 0) (λ e. omega arith)
+        ∙ getD-set-other two (144 + n) (72 + n) (w .right) (pos 0) (λ e. omega arith)
+        ∙ getD-set-same one (72 + n) (w .bottom) (pos 0) (simp length-set (omega arith))) i;
     right =
-        (getD-set-other three (192 + n) (128 + n) (w .top) (pos 0) (λ e. omega arith)
-        ∙ getD-set-same two (128 + n) (w .right) (pos 0) (simp length-set (omega arith))) i;
-    top = getD-set-same three (192 + n) (w .top) (pos 0) (simp length-set (omega arith)) i;
+        (getD-set-other three (216 + n) (144 + n) (w .top) (pos 0) (λ e. omega arith)
+        ∙ getD-set-same two (144 + n) (w .right) (pos 0) (simp length-set (omega arith))) i;
+    top = getD-set-same three (216 + n) (w .top) (pos 0) (simp length-set (omega arith)) i;
   }
 
   before : n < 64 → stripsOn (putAt rack n w) n ≡ stripsOn rack n
@@ -120,18 +120,18 @@ put-holds {rack} {n} {w} {ws} h on e hold =
     (subst (λ (k : ℕ). Holds (putAt rack k w) (w ∷ ws)) (sym e) (one-put (omega arith) on hold))
 
 -- ---- a rack of vacant places
-pub vacant-holds : Holds (replicate 256 (pos 16384)) []
+pub vacant-holds : Holds (replicate 288 (pos 16384)) []
 unfolding stripsOn
 vacant-holds = record {
-  long = length-replicate 256 (pos 16384);
+  long = length-replicate 288 (pos 16384);
   few = omega arith;
   are = refl;
   on = λ j l. absurd (omega arith);
   rest = λ j l m i. record {
-    left = getD-replicate 256 j (pos 16384) (pos 0) (omega arith) i;
-    bottom = getD-replicate 256 (64 + j) (pos 16384) (pos 0) (omega arith) i;
-    right = getD-replicate 256 (128 + j) (pos 16384) (pos 0) (omega arith) i;
-    top = getD-replicate 256 (192 + j) (pos 16384) (pos 0) (omega arith) i;
+    left = getD-replicate 288 j (pos 16384) (pos 0) (omega arith) i;
+    bottom = getD-replicate 288 (72 + j) (pos 16384) (pos 0) (omega arith) i;
+    right = getD-replicate 288 (144 + j) (pos 16384) (pos 0) (omega arith) i;
+    top = getD-replicate 288 (216 + j) (pos 16384) (pos 0) (omega arith) i;
   };
 }
 
@@ -157,7 +157,7 @@ module _ {v : Window} (on : WindowOnTable v) where
     tall = λ _. h .tall;
   }
 
-  pub place : {rack : List ℤ} {ws : List Window} → Holds rack ws → (j : ℕ) → j < 64 → Comparable v (stripAt rack j)
+  pub place : {rack : List ℤ} {ws : List Window} → Holds rack ws → (j : ℕ) → j < 72 → Comparable v (stripAt rack j)
   place {rack} {ws} hold j h = go (ltb j (length ws)) refl
     where
       go : (t : Bool) → ltb j (length ws) ≡ t → Comparable v (stripAt rack j)
@@ -167,7 +167,7 @@ module _ {v : Window} (on : WindowOnTable v) where
   past : ltZ (pos 16384) (v .right) ≡ false
   past = same-test {a = pos 16384} {b = v .right} {c = pos 0} {d = pos 0} (λ l. absurd (omega (zarith, on .right .high))) (λ l. absurd (omega zarith))
 
-  vacant-none : sharesArea v vacant ≡ false
+  pub vacant-none : sharesArea v vacant ≡ false
   unfolding sharesArea
   vacant-none = go (ltZ (v .left) (pos 16384))
     where

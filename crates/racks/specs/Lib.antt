@@ -1,3 +1,4 @@
 pub mod Members
 pub mod Areas
 pub mod Racks
+pub mod Pairs

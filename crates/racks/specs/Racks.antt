@@ -1,4 +1,5 @@
--- A rack: places for 64 strips, their numbers side by side: the left sides from 0 on, the bottoms from 64, the rights from 128, the tops from 192.
+-- A rack: 72 places, the numbers of their strips side by side: the left sides from 0 on, the bottoms from 72, the rights from 144, the tops from 216.
+-- It holds at most 64 strips, so that at least eight places behind the last are vacant.
 --   stripAt rack j    the strip at the place j
 --   vacant            what stands at a place without a strip: four numbers just off the table
 --   putAt rack j w    the rack with the strip w at the place j
@@ -16,24 +17,24 @@ abbrev pub stripAt : List ℤ → ℕ → Window
 stripAt rack j =
     record {
       left = getD rack j (pos 0);
-      bottom = getD rack (64 + j) (pos 0);
-      right = getD rack (128 + j) (pos 0);
-      top = getD rack (192 + j) (pos 0);
+      bottom = getD rack (72 + j) (pos 0);
+      right = getD rack (144 + j) (pos 0);
+      top = getD rack (216 + j) (pos 0);
     }
 
 abbrev pub vacant : Window
 vacant = record { left = pos 16384; bottom = pos 16384; right = pos 16384; top = pos 16384 }
 
 abbrev pub putAt : List ℤ → ℕ → Window → List ℤ
-putAt rack j w = set (set (set (set rack j (w .left)) (64 + j) (w .bottom)) (128 + j) (w .right)) (192 + j) (w .top)
+putAt rack j w = set (set (set (set rack j (w .left)) (72 + j) (w .bottom)) (144 + j) (w .right)) (216 + j) (w .top)
 
 unfoldable pub stripsOn : List ℤ → ℕ → List Window
 stripsOn rack zero = []
 stripsOn rack (suc n) = stripAt rack n ∷ stripsOn rack n
 
 pub record Holds (rack : List ℤ) (ws : List Window) : Type 0 where
-  pub long : length rack ≡ 256
+  pub long : length rack ≡ 288
   pub few : length ws ≤ 64
   pub are : stripsOn rack (length ws) ≡ ws
   pub on : (j : ℕ) → j < length ws → WindowOnTable (stripAt rack j)
-  pub rest : (j : ℕ) → length ws ≤ j → j < 64 → stripAt rack j ≡ vacant
+  pub rest : (j : ℕ) → length ws ≤ j → j < 72 → stripAt rack j ≡ vacant

@@ -1,13 +1,18 @@
-// A rack: the strips of a book side by side, so that a strip is compared with all of them in few steps.
+// A rack: the strips of a book side by side, so that all are compared with each other, or one with all, in few steps.
 ghost use mathlib.Core.Path.{_≡_};
 ghost use mathlib.Core.List.{List, _∷_};
-ghost use Prim.Native.Nat.{_<_};
+ghost use Prim.Native.Nat.{_+_, _%_, _≤_, _<_};
+ghost use lib.IntN.{pos, _-ℤ_};
 ghost use lib.ListN.{length};
+ghost use lib.Signed.{ltZ};
+ghost use mir.Syntax.{w16};
+ghost use mir.Val.{SFits};
 ghost use Rattle.whole.specs.Extremes.{lesser, greater};
 ghost use Rattle.grid.specs.Table.{WindowOnTable};
 ghost use Rattle.grid.specs.declared.Window.{Window};
 ghost use Rattle.racks.specs.Areas.{sharesArea};
 ghost use Rattle.racks.specs.Members.{any};
+ghost use Rattle.racks.specs.Pairs.{overlapAt, share, above, Met, Compares, Crowd};
 ghost use Rattle.racks.specs.Racks.{Holds};
 use grid::Window;
 
@@ -32,8 +37,16 @@ fn greater(a: i16, b: i16) -> i16
     a
 }
 
+// How far the parts from a to b and from x to y lie over each other: from the greater of their beginnings to the lesser of their ends.
+fn overlap(a: i16, b: i16, x: i16, y: i16) -> i16
+    requires { ⌜ SFits w16 (lesser b y -ℤ greater a x) ⌝ }
+    ensures { λ r. ⌜ r ≡ lesser b y -ℤ greater a x ⌝ }
+{
+    lesser(b, y) - greater(a, x)
+}
+
 // Puts a strip on a rack that holds n.
-pub fn put(rack: &mut [i16; 256], n: usize, w: Window)
+pub fn put(rack: &mut [i16; 288], n: usize, w: Window)
     requires { ⌜ n < 64 ⌝ }
     requires { ⌜ WindowOnTable w ⌝ }
     ensures { λ _. ⌜ ((ws : List Window) → n ≡ length ws → Holds (now (rack .entry)) ws → Holds (now (rack .exit)) (w ∷ ws)) ⌝ }
@@ -43,14 +56,14 @@ pub fn put(rack: &mut [i16; 256], n: usize, w: Window)
     let right = w.right as i16;
     let top = w.top as i16;
     rack[n] = left;
-    rack[64 + n] = bottom;
-    rack[128 + n] = right;
-    rack[192 + n] = top;
+    rack[72 + n] = bottom;
+    rack[144 + n] = right;
+    rack[216 + n] = top;
 }
 
-// Whether w shares area with one of the n strips of a rack. What two rectangles have in common is as wide and as high as from the greater of their
-// beginnings to the lesser of their ends; the most of the lesser of the two is sought, at sixteen places at a time, vacant ones among them.
-pub fn shares(rack: &[i16; 256], n: usize, w: Window) -> bool
+// Whether w shares area with one of the n strips of a rack. The lesser of the width and the height that they have in common is then above 0; the most of
+// it is sought, at sixteen places at a time, vacant ones among them.
+pub fn shares(rack: &[i16; 288], n: usize, w: Window) -> bool
     requires { ⌜ ((ws : List Window) × (n ≡ length ws) × Holds (now rack) ws) ⌝ }
     requires { ⌜ WindowOnTable w ⌝ }
     ensures { λ r. ⌜ ((ws : List Window) → n ≡ length ws → Holds (now (rack .entry)) ws → r ≡ any (sharesArea w) ws) ⌝ }
@@ -63,10 +76,118 @@ pub fn shares(rack: &[i16; 256], n: usize, w: Window) -> bool
     let mut most: i16 = 0;
     let mut j = 0;
     while j < end {
-        let width = lesser(right, rack[128 + j]) - greater(left, rack[j]);
-        let height = lesser(top, rack[192 + j]) - greater(bottom, rack[64 + j]);
+        let width = overlap(left, right, rack[j], rack[144 + j]);
+        let height = overlap(bottom, top, rack[72 + j], rack[216 + j]);
         most = greater(most, lesser(width, height));
         j += 1;
     }
     0 < most
+}
+
+// How far the strips at two places lie over each other: from left to right, or from bottom to top where the row is 72.
+fn overlap_at(rack: &[i16; 288], row: usize, p: usize, q: usize) -> i16
+    requires { ⌜ p < 72 ⌝ }
+    requires { ⌜ q < 72 ⌝ }
+    requires { ⌜ row ≤ 72 ⌝ }
+    requires { ⌜ SFits w16 (overlapAt (now rack) row p q) ⌝ }
+    ensures { λ r. ⌜ r ≡ overlapAt (now (rack .entry)) row p q ⌝ }
+{
+    overlap(
+        rack[row + p],
+        rack[row + 144 + p],
+        rack[row + q],
+        rack[row + 144 + q],
+    )
+}
+
+// The lesser of the width and the height that the strips at two places have in common: above 0 where they share area.
+fn in_common(rack: &[i16; 288], p: usize, q: usize) -> i16
+    requires { ⌜ ((ws : List Window) × Holds (now rack) ws) ⌝ }
+    requires { ⌜ p < q ⌝ }
+    requires { ⌜ q < 72 ⌝ }
+    ensures { λ r. ⌜ ltZ (pos 0) r ≡ share (now (rack .entry)) p q ⌝ }
+{
+    let width = overlap_at(rack, 0, p, q);
+    let height = overlap_at(rack, 72, p, q);
+    lesser(width, height)
+}
+
+// Compares eight strips, from the place i on, with the eight from the place j on, each with one. The most that was found for each so far is kept.
+fn compare_eight(rack: &[i16; 288], i: usize, j: usize, most: [i16; 8]) -> [i16; 8]
+    requires { ⌜ ((ws : List Window) × Holds (now rack) ws) ⌝ }
+    requires { ⌜ i < j ⌝ }
+    requires { ⌜ j < 65 ⌝ }
+    ensures { λ r. ⌜ Compares (now (rack .entry)) (Met i j (j + 1)) most r ⌝ }
+{
+    let mut found = most;
+    let mut e = 0;
+    while e < 8 {
+        found[e] = greater(found[e], in_common(rack, i + e, j + e));
+        e += 1;
+    }
+    found
+}
+
+// The same with the eight from j on, then from j + 1 on and so to j + 7. They are written out, since the compiler makes slower code of a loop.
+fn compare_on(rack: &[i16; 288], i: usize, j: usize, most: [i16; 8]) -> [i16; 8]
+    requires { ⌜ ((ws : List Window) × Holds (now rack) ws) ⌝ }
+    requires { ⌜ i < j ⌝ }
+    requires { ⌜ j < 58 ⌝ }
+    ensures { λ r. ⌜ Compares (now (rack .entry)) (Met i j (j + 8)) most r ⌝ }
+{
+    let found0 = compare_eight(rack, i, j, most);
+    let found1 = compare_eight(rack, i, j + 1, found0);
+    let found2 = compare_eight(rack, i, j + 2, found1);
+    let found3 = compare_eight(rack, i, j + 3, found2);
+    let found4 = compare_eight(rack, i, j + 4, found3);
+    let found5 = compare_eight(rack, i, j + 5, found4);
+    let found6 = compare_eight(rack, i, j + 6, found5);
+    compare_eight(rack, i, j + 7, found6)
+}
+
+// Compares the eight strips from the place i on with all strips behind them. The vacant place behind the last strip ends the loop: if the compiler
+// could count the turns, it would take eight turns at once in place of eight strips, which is dearer.
+fn compare_behind(rack: &[i16; 288], i: usize, most: [i16; 8]) -> [i16; 8]
+    requires { ⌜ i % 8 ≡ 0 ⌝ }
+    requires { ⌜ i < 64 ⌝ }
+    requires { ⌜ ((ws : List Window) × Holds (now rack) ws) ⌝ }
+    ensures { λ r. ⌜ ((ws : List Window) → Holds (now (rack .entry)) ws → Compares (now (rack .entry)) (Met i (i + 1) (length ws)) most r) ⌝ }
+{
+    let mut found = most;
+    let mut j = i + 1;
+    while rack[j] != VACANT {
+        let more = compare_on(rack, i, j, found);
+        found = more;
+        j += 8;
+    }
+    found
+}
+
+// Whether one of eight numbers is above 0.
+fn any_above(numbers: [i16; 8]) -> bool
+    ensures { λ r. ⌜ r ≡ above numbers ⌝ }
+{
+    let mut greatest: i16 = 0;
+    let mut e = 0;
+    while e < 8 {
+        greatest = greater(greatest, numbers[e]);
+        e += 1;
+    }
+    0 < greatest
+}
+
+// Whether two of the n strips of a rack share area. Eight strips are compared with the eight that begin one place behind, two places and so on, each
+// with one, so that every two strips meet once.
+pub fn crowded(rack: &[i16; 288], n: usize) -> bool
+    requires { ⌜ ((ws : List Window) × (n ≡ length ws) × Holds (now rack) ws) ⌝ }
+    ensures { λ r. ⌜ Crowd (now (rack .entry)) n r ⌝ }
+{
+    let mut most = [0i16; 8];
+    let mut i = 0;
+    while i < n {
+        let more = compare_behind(rack, i, most);
+        most = more;
+        i += 8;
+    }
+    any_above(most)
 }

@@ -27,7 +27,7 @@ slots-count [] = refl
 past : (k : ℕ) → 5 * suc k ≡ suc (suc (suc (suc (suc (5 * k)))))
 past k = omega arith
 
-pub slots-drop : (k : ℕ) (zs : List ℤ) → slotsFrom k zs ≡ drop k (slotsOf zs)
+pub slots-drop : (k : ℕ) (zs : List ℤ) → slotsFrom (5 * k) zs ≡ drop k (slotsOf zs)
 unfolding slotsOf
 slots-drop zero zs = refl
 slots-drop (suc k) [] = ap (λ (n : ℕ). slotsOf (drop n [])) (past k)
@@ -37,10 +37,10 @@ slots-drop (suc k) (a ∷ b ∷ c ∷ []) = ap (λ (n : ℕ). slotsOf (drop n (a
 slots-drop (suc k) (a ∷ b ∷ c ∷ d ∷ []) = ap (λ (n : ℕ). slotsOf (drop n (a ∷ b ∷ c ∷ d ∷ []))) (past k)
 slots-drop (suc k) (a ∷ b ∷ c ∷ d ∷ e ∷ zs) = ap (λ (n : ℕ). slotsOf (drop n (a ∷ b ∷ c ∷ d ∷ e ∷ zs))) (past k) ∙ slots-drop k zs
 
--- the slots from k on are the slot k and those behind it
-five : (zs : List ℤ) (p : ℕ) → p + 5 ≤ length zs → slotsOf (drop p zs) ≡ slotIn zs p ∷ slotsOf (drop (p + 5) zs)
+-- the slots from a place on are the slot there and those behind it
+pub slots-more : (zs : List ℤ) (p : ℕ) → p + 5 ≤ length zs → slotsFrom p zs ≡ slotIn zs p ∷ slotsFrom (p + 5) zs
 unfolding slotsOf
-five zs p h =
+slots-more zs p h =
     let h₀ : p < length zs = omega arith in
     let h₁ : suc p < length zs = omega arith in
     let h₂ : suc (suc p) < length zs = omega arith in
@@ -54,17 +54,12 @@ five zs p h =
       drop-cons zs (suc (suc (suc (suc p)))) (pos 0) h₄,
     ))
 
-pub slots-more : (zs : List ℤ) (k : ℕ) → 5 * k + 5 ≤ length zs → slotsFrom k zs ≡ slotIn zs (5 * k) ∷ slotsFrom (k + 1) zs
-slots-more zs k h =
-    let next : 5 * k + 5 ≡ 5 * (k + 1) = omega arith in
-    five zs (5 * k) h ∙ ap (λ (n : ℕ). slotIn zs (5 * k) ∷ slotsOf (drop n zs)) next
-
 -- the slot k stands at the place k
 pub slot-at : (k : ℕ) (zs : List ℤ) (s : Slot) → 5 * k + 5 ≤ length zs → getD (slotsOf zs) k s ≡ slotIn zs (5 * k)
 slot-at k zs s h =
     ap (λ (n : ℕ). getD (slotsOf zs) n s) (sym (add-zero k))
     ∙ sym (getD-drop k (slotsOf zs) 0 s)
-    ∙ ap (λ (ss : List Slot). getD ss 0 s) (sym (slots-drop k zs) ∙ slots-more zs k h)
+    ∙ ap (λ (ss : List Slot). getD ss 0 s) (sym (slots-drop k zs) ∙ slots-more zs (5 * k) h)
 
 -- five numbers that are put at the place of a slot are that slot
 module _ (s : Slot) where

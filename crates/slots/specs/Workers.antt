@@ -1,21 +1,24 @@
 -- What the workers over a table promise.
 --   slotIn zs p        the slot whose mark stands at the place p of a table;  stripIn zs p: its strip
---   slotsFrom k zs     the slots from k on
+--   slotsFrom p zs     the slots from the place p on
+--   eachGood ss        the marks of the slots ss and their strips in use are good, whether or not they share area
+--   Gathered ss n rack   the slots ss are good each by itself, and their n strips are on the rack
 --   OnRack ss n rack   the slots ss are good, and their n strips are on the rack
 --   Finds Bad Fine r   a test finds r: Faulty, and then Bad holds, or Good n, and then Fine holds of n
---   Tests ss r rack    the test of the slots ss finds r, and leaves their strips on the rack where they are good
---   BookTest zs r rack   the same of a whole table: whether it is a book
+--   Gathers ss r rack  the test of the slots ss, each by itself, finds r, and leaves their strips on the rack where they are good
+--   BookTest zs r rack   the test of a whole table finds r: whether it is a book, and then its strips are on the rack
 use mathlib.Core.Path.{_≡_}
-use mathlib.Core.Bool.{true, false}
+use mathlib.Core.Bool.{Bool, true, false, _&&_}
 use mathlib.Core.List.{List}
-use Prim.Native.Nat.{ℕ, _+_, _*_}
+use Prim.Native.Nat.{ℕ, _+_}
 use lib.IntN.{ℤ, pos}
 use lib.ListN.{length, drop, getD}
 use Rattle.grid.specs.declared.Window.{Window}
+use Rattle.racks.specs.Members.{all}
 use Rattle.racks.specs.Racks.{Holds}
 use Rattle.slots.specs.declared.Tested.{Tested}
 use Rattle.slots.specs.declared.Tested.the-variants as Tested
-use Rattle.slots.specs.Slots.{Slot, slotsOf, stripsIn, slotsGood, isBook}
+use Rattle.slots.specs.Slots.{Slot, slotsOf, stripsIn, goodMark, goodStrip, slotsGood, isBook}
 
 abbrev pub stripIn : List ℤ → ℕ → Window
 stripIn zs p =
@@ -25,7 +28,15 @@ abbrev pub slotIn : List ℤ → ℕ → Slot
 slotIn zs p = record { mark = getD zs p (pos 0); strip = stripIn zs p }
 
 abbrev pub slotsFrom : ℕ → List ℤ → List Slot
-slotsFrom k zs = slotsOf (drop (5 * k) zs)
+slotsFrom p zs = slotsOf (drop p zs)
+
+abbrev pub eachGood : List Slot → Bool
+eachGood ss = all goodMark ss && all goodStrip (stripsIn ss)
+
+pub record Gathered (ss : List Slot) (n : ℕ) (rack : List ℤ) : Type 0 where
+  pub good : eachGood ss ≡ true
+  pub count : n ≡ length (stripsIn ss)
+  pub holds : Holds rack (stripsIn ss)
 
 pub record OnRack (ss : List Slot) (n : ℕ) (rack : List ℤ) : Type 0 where
   pub good : slotsGood ss ≡ true
@@ -36,8 +47,8 @@ pub data Finds (Bad : Type 0) (Fine : ℕ → Type 0) : Tested → Type 0 where
   faulty : Bad → Finds Bad Fine Tested.Faulty
   good : {n : ℕ} → Fine n → Finds Bad Fine (Tested.Good n)
 
-abbrev pub Tests : List Slot → Tested → List ℤ → Type 0
-Tests ss r rack = Finds (slotsGood ss ≡ false) (λ n. OnRack ss n rack) r
+abbrev pub Gathers : List Slot → Tested → List ℤ → Type 0
+Gathers ss r rack = Finds (eachGood ss ≡ false) (λ n. Gathered ss n rack) r
 
 abbrev pub BookTest : List ℤ → Tested → List ℤ → Type 0
 BookTest zs r rack = Finds (isBook zs ≡ false) (λ n. (isBook zs ≡ true) × OnRack (slotsOf zs) n rack) r

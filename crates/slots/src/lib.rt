@@ -6,68 +6,62 @@ ghost use lib.ListN.{length};
 ghost use lib.Seq.{sets, slice};
 ghost use Rattle.racks.specs.Racks.{Holds};
 ghost use Rattle.slots.specs.Slots.{slotsOf, slotOf, slotAt, inUse, lowestFree, slotNumbers};
-ghost use Rattle.slots.specs.Workers.{stripIn, slotsFrom, OnRack, Tests, BookTest};
+ghost use Rattle.slots.specs.Workers.{stripIn, slotsFrom, Gathered, Gathers, BookTest};
 use grid::Window;
 
-// Whether slots are good, and how many strips of them are then on a rack.
+// What a test of slots finds: they pass, and so many strips of them are then on a rack, or they are faulty.
 pub enum Tested {
     Good(usize),
     Faulty,
 }
 
-// The strip of the slot k.
-pub fn strip_at(book: &[i32], k: usize) -> Window
-    requires { ⌜ 5 * k + 5 ≤ length (now book) ⌝ }
-    ensures { λ r. ⌜ r ≡ stripIn (now (book .entry)) (5 * k) ⌝ }
+// The strip of the slot whose mark stands at the place p.
+fn strip_at(book: &[i32], p: usize) -> Window
+    requires { ⌜ p + 5 ≤ length (now book) ⌝ }
+    ensures { λ r. ⌜ r ≡ stripIn (now (book .entry)) p ⌝ }
 {
     Window {
-        left: book[5 * k + 1],
-        bottom: book[5 * k + 2],
-        right: book[5 * k + 3],
-        top: book[5 * k + 4],
+        left: book[p + 1],
+        bottom: book[p + 2],
+        right: book[p + 3],
+        top: book[p + 4],
     }
 }
 
-// Tests the slot k, where those behind it are good and their n strips are on the rack, and puts its own there.
-fn test_slot(book: &[i32], k: usize, rack: &mut [i16; 256], n: usize) -> Tested
-    requires { ⌜ k < 64 ⌝ }
+// Tests the slot whose mark stands at the place p, and puts its strip on the rack, where the n strips of the slots behind it are.
+fn gather_slot(book: &[i32], p: usize, rack: &mut [i16; 288], n: usize) -> Tested
+    requires { ⌜ p + 5 ≤ 320 ⌝ }
     requires { ⌜ length (now book) ≡ 320 ⌝ }
-    requires { ⌜ OnRack (slotsFrom (k + 1) (now book)) n (now rack) ⌝ }
-    ensures { λ r. ⌜ Tests (slotsFrom k (now (book .entry))) r (now (rack .exit)) ⌝ }
+    requires { ⌜ Gathered (slotsFrom (p + 5) (now book)) n (now rack) ⌝ }
+    ensures { λ r. ⌜ Gathers (slotsFrom p (now (book .entry))) r (now (rack .exit)) ⌝ }
 {
-    let mark = book[5 * k];
+    let mark = book[p];
     if mark == 0 {
         return Tested::Good(n);
     }
     if mark != 1 {
         return Tested::Faulty;
     }
-    let w = strip_at(book, k);
+    let w = strip_at(book, p);
     let refusal = grid::window_refusal(w);
     if refusal.number != 0 {
-        return Tested::Faulty;
-    }
-    if racks::shares(rack, n, w) {
         return Tested::Faulty;
     }
     racks::put(rack, n, w);
     Tested::Good(n + 1)
 }
 
-// Whether a table is a book, and then its strips on a rack, on which there is none before. It goes from the last slot to the first, and each strip is
-// compared with those that are on the rack.
-pub fn test_book(book: &[i32], rack: &mut [i16; 256]) -> Tested
+// Tests the marks and the strips of all slots, from the last to the first, and puts the strips on a rack, on which there is none before.
+fn gather(book: &[i32], rack: &mut [i16; 288]) -> Tested
+    requires { ⌜ length (now book) ≡ 320 ⌝ }
     requires { ⌜ Holds (now rack) [] ⌝ }
-    ensures { λ r. ⌜ BookTest (now (book .entry)) r (now (rack .exit)) ⌝ }
+    ensures { λ r. ⌜ Gathers (slotsOf (now (book .entry))) r (now (rack .exit)) ⌝ }
 {
-    if book.len() != 320 {
-        return Tested::Faulty;
-    }
     let mut n = 0;
-    let mut k = 64;
-    while 0 < k {
-        k -= 1;
-        match test_slot(book, k, rack, n) {
+    let mut p = 320;
+    while 0 < p {
+        p -= 5;
+        match gather_slot(book, p, rack, n) {
             Tested::Good(m) => {
                 n = m;
             }
@@ -75,6 +69,24 @@ pub fn test_book(book: &[i32], rack: &mut [i16; 256]) -> Tested
                 return Tested::Faulty;
             }
         }
+    }
+    Tested::Good(n)
+}
+
+// Whether a table is a book, and then its strips on a rack, on which there is none before.
+pub fn test_book(book: &[i32], rack: &mut [i16; 288]) -> Tested
+    requires { ⌜ Holds (now rack) [] ⌝ }
+    ensures { λ r. ⌜ BookTest (now (book .entry)) r (now (rack .exit)) ⌝ }
+{
+    if book.len() != 320 {
+        return Tested::Faulty;
+    }
+    let gathered = gather(book, rack);
+    let Tested::Good(n) = gathered else {
+        return Tested::Faulty;
+    };
+    if racks::crowded(rack, n) {
+        return Tested::Faulty;
     }
     Tested::Good(n)
 }

@@ -20,7 +20,8 @@ use Rattle.grid.proofs.Refusals.{stops, goes-on}
 use Rattle.racks.specs.Areas.{sharesArea}
 use Rattle.racks.specs.Members.{any, all}
 use Rattle.slots.specs.Slots.{Slot, slotsOf, stripsIn, inUse, slotsGood, isBook, lowestFree, freeSlot}
-use Rattle.slots.proofs.Lowest.{free-among, lowest-none}
+use Rattle.slots.proofs.Good.{strips-full, full-strips}
+use Rattle.slots.proofs.Lowest.{free-among}
 use Rattle.slots.proofs.Places.{slots-count}
 use Rattle.strip_book.specs.Books.{noBook, stripTaken, bookFull, slotNotInUse, tableRefusal, clash, full, usedAt, slotRefusal, bookingRefusal, releaseRefusal}
 
@@ -41,19 +42,15 @@ module _ (zs : List ℤ) (h : length zs ≡ 320) where
   pub lowest-of-all : {k : ℕ} → k ≡ 0 + lowestFree (slice 0 64 (slotsOf zs)) → k ≡ lowestFree (slotsOf zs)
   lowest-of-all e = omega (arith, e, ap lowestFree (take-all 64 (slotsOf zs) (omega (arith, sixty-four))))
 
-  -- all are in use exactly where the lowest free one would be the 65th
-  pub all-used : lowestFree (slotsOf zs) ≡ 64 → all inUse (slotsOf zs) ≡ true
-  all-used e = go (all inUse (slotsOf zs)) refl
-    where
-      go : (b : Bool) → all inUse (slotsOf zs) ≡ b → all inUse (slotsOf zs) ≡ true
-      go true f = f
-      go false f = absurd (omega (arith, free-among (slotsOf zs) f, sixty-four))
+  -- all are in use exactly where there are 64 strips; else the lowest free one is one of them
+  pub all-used : length (stripsIn (slotsOf zs)) ≡ 64 → all inUse (slotsOf zs) ≡ true
+  all-used e = full-strips (slotsOf zs) (e ∙ sym sixty-four)
 
-  pub not-all-used : (lowestFree (slotsOf zs) ≡ 64 → ⊥) → (all inUse (slotsOf zs) ≡ false) × (lowestFree (slotsOf zs) < 64)
+  pub not-all-used : (length (stripsIn (slotsOf zs)) ≡ 64 → ⊥) → (all inUse (slotsOf zs) ≡ false) × (lowestFree (slotsOf zs) < 64)
   not-all-used n = go (all inUse (slotsOf zs)) refl
     where
       go : (b : Bool) → all inUse (slotsOf zs) ≡ b → (all inUse (slotsOf zs) ≡ false) × (lowestFree (slotsOf zs) < 64)
-      go true f = absurd (n (lowest-none (slotsOf zs) f ∙ sixty-four))
+      go true f = absurd (n (strips-full (slotsOf zs) f ∙ sixty-four))
       go false f = (f, omega (arith, free-among (slotsOf zs) f, sixty-four))
 
 -- ---- what booking refuses

@@ -62,7 +62,7 @@ fn release_answer(number: u8) -> ReleaseAnswer
 pub fn book_strip(book: &mut [i32], w: Window) -> BookingAnswer
     ensures { λ a. ⌜ BookStrip w a (now (book .entry)) (now (book .exit)) ⌝ }
 {
-    let mut rack = [racks::VACANT; 256];
+    let mut rack = [racks::VACANT; 288];
     let tested = slots::test_book(book, &mut rack);
     let Tested::Good(n) = tested else {
         return refused_booking(refused(NO_BOOK));
@@ -74,10 +74,10 @@ pub fn book_strip(book: &mut [i32], w: Window) -> BookingAnswer
     if racks::shares(&rack, n, w) {
         return refused_booking(refused(STRIP_TAKEN));
     }
-    let k = slots::lowest_free(book, 0, 64);
-    if k == 64 {
+    if n == 64 {
         return refused_booking(refused(BOOK_FULL));
     }
+    let k = slots::lowest_free(book, 0, 64);
     slots::put(book, k, 1, w);
     let slot = k as i32;
     BookingAnswer {
@@ -106,7 +106,7 @@ fn used_at(book: &[i32], slot: i32) -> bool
 pub fn release_slot(book: &mut [i32], slot: i32) -> ReleaseAnswer
     ensures { λ a. ⌜ ReleaseSlot slot a (now (book .entry)) (now (book .exit)) ⌝ }
 {
-    let mut rack = [racks::VACANT; 256];
+    let mut rack = [racks::VACANT; 288];
     let tested = slots::test_book(book, &mut rack);
     let Tested::Good(n) = tested else {
         return release_answer(NO_BOOK);

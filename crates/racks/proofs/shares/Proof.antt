@@ -6,11 +6,10 @@ use Prim.Native.Nat.{_-_, _≤_, _<_}
 use native.Mathlib.Omega.{arith}
 use borrow.Author.Needs.{needs}
 use denote.Ref.{now}
-use lib.IntN.{ℤ, pos, _-ℤ_}
+use lib.IntN.{ℤ, pos}
 use lib.Signed.{ltZ}
 use mir.Syntax.{w16}
 use mir.Val.{SFits, toZ, ofZ}
-use mir.Facts.{toZ-ofZ}
 use Rattle.whole.specs.Extremes.{lesser, greater}
 use Rattle.whole.proofs.Comparisons.{back}
 use Rattle.grid.specs.Table.{WindowOnTable}
@@ -18,7 +17,7 @@ use Rattle.grid.specs.declared.Window.{Window}
 use Rattle.racks.specs.Areas.{sharesArea}
 use Rattle.racks.specs.Members.{any}
 use Rattle.racks.specs.Racks.{stripAt, stripsOn}
-use Rattle.racks.proofs.Common.{Comparable, across, upward, across-fits, upward-fits, common-read, share-test, greater-test}
+use Rattle.racks.proofs.Common.{Comparable, across, upward, across-fits, upward-fits, read-place, share-test, greater-test}
 use Rattle.racks.proofs.Holding.{held, reading, is-reading, short-fits, place, one-more, none-more}
 use Rattle.racks.proofs.shares.Statement.{statement}
 use Rattle.racks.proofs.shares.Tie as tie
@@ -70,7 +69,7 @@ width c = across (own c) (strip c)
 abbrev height : tie.In-loop Inv-loop μ-loop → ℤ
 height c = upward (own c) (strip c)
 
-below : (c : tie.In-loop Inv-loop μ-loop) → c .before .loop .j < 64
+below : (c : tie.In-loop Inv-loop μ-loop) → c .before .loop .j < 72
 below c = let h = few (c .before .before) in let l = c .loop-test .taken in omega arith
 
 on : (c : tie.In-loop Inv-loop μ-loop) → WindowOnTable (own c)
@@ -83,109 +82,89 @@ comparable c =
     let h = c .before .before .before .before .before .before .before .before .before .before .pre .0 .2 in
     place (on c) h (c .before .loop .j) (below c)
 
-add-lesser : tie.Need-add-lesser Inv-loop μ-loop
-add-lesser c = let h = below c in search needs
+mul-overlap : tie.Need-mul-overlap Inv-loop μ-loop
+mul-overlap c = let h = below c in search needs
 
-mul-lesser : tie.Need-mul-lesser Inv-loop μ-loop
-mul-lesser c = let h = below c in search needs
+element-copy-out-overlap : tie.Need-element-copy-out-overlap Inv-loop μ-loop
+element-copy-out-overlap c = let h = below c in omega arith
 
-element-copy-out-lesser : tie.Need-element-copy-out-lesser Inv-loop μ-loop
-element-copy-out-lesser c = let h = below c in omega arith
+add-overlap : tie.Need-add-overlap Inv-loop μ-loop
+add-overlap c = let h = below (c .before) in search needs
+
+mul-overlap-2 : tie.Need-mul-overlap-2 Inv-loop μ-loop
+mul-overlap-2 c = let h = below (c .before) in search needs
+
+element-copy-out-overlap-2 : tie.Need-element-copy-out-overlap-2 Inv-loop μ-loop
+element-copy-out-overlap-2 c = let h = below (c .before) in omega arith
+
+overlap-requires : tie.Need-overlap-requires Inv-loop μ-loop
+overlap-requires c κs =
+    let t = c .before .before in
+    subst (SFits w16) (sym (read-place _ _ _ _ (c .before .overlap-arg .given) (c .overlap-arg2 .given))) (across-fits (on t) (comparable t))
+
+width-is : (c : tie.After-overlap Inv-loop μ-loop) → toZ w16 (ofZ w16 (c .overlap .result)) ≡ width (c .before .before .before)
+width-is c =
+    back w16 (c .overlap .result) (c .overlap .ok) ∙ c .overlap .ensures
+    ∙ read-place _ _ _ _ (c .before .before .overlap-arg .given) (c .before .overlap-arg2 .given)
+
+add-overlap-2 : tie.Need-add-overlap-2 Inv-loop μ-loop
+add-overlap-2 c = let h = below (c .before .before .before) in search needs
+
+mul-overlap-3 : tie.Need-mul-overlap-3 Inv-loop μ-loop
+mul-overlap-3 c = let h = below (c .before .before .before) in search needs
+
+element-copy-out-overlap-3 : tie.Need-element-copy-out-overlap-3 Inv-loop μ-loop
+element-copy-out-overlap-3 c = let h = below (c .before .before .before) in omega arith
+
+add-overlap-3 : tie.Need-add-overlap-3 Inv-loop μ-loop
+add-overlap-3 c = let h = below (c .before .before .before .before) in search needs
+
+mul-overlap-4 : tie.Need-mul-overlap-4 Inv-loop μ-loop
+mul-overlap-4 c = let h = below (c .before .before .before .before) in search needs
+
+element-copy-out-overlap-4 : tie.Need-element-copy-out-overlap-4 Inv-loop μ-loop
+element-copy-out-overlap-4 c = let h = below (c .before .before .before .before) in omega arith
+
+overlap-requires-2 : tie.Need-overlap-requires-2 Inv-loop μ-loop
+overlap-requires-2 c κs =
+    let t = c .before .before .before .before .before in
+    subst (SFits w16) (sym (read-place _ _ _ _ (c .before .overlap-arg3 .given) (c .overlap-arg4 .given))) (upward-fits (on t) (comparable t))
+
+height-is : (c : tie.After-overlap2 Inv-loop μ-loop)
+    → toZ w16 (ofZ w16 (c .overlap2 .result)) ≡ height (c .before .before .before .before .before .before)
+height-is c =
+    back w16 (c .overlap2 .result) (c .overlap2 .ok) ∙ c .overlap2 .ensures
+    ∙ read-place _ _ _ _ (c .before .before .overlap-arg3 .given) (c .before .overlap-arg4 .given)
 
 lesser-requires : tie.Need-lesser-requires Inv-loop μ-loop
 lesser-requires c κs = tt
 
-mul-greater : tie.Need-mul-greater Inv-loop μ-loop
-mul-greater c = let h = below (c .before .before) in search needs
-
-element-copy-out-greater : tie.Need-element-copy-out-greater Inv-loop μ-loop
-element-copy-out-greater c = let h = below (c .before .before) in omega arith
-
 greater-requires : tie.Need-greater-requires Inv-loop μ-loop
 greater-requires c κs = tt
 
-width-is : (c : tie.After-greater Inv-loop μ-loop)
-    → toZ w16 (ofZ w16 (c .before .before .lesser .result)) -ℤ toZ w16 (ofZ w16 (c .greater .result))
-    ≡ width (c .before .before .before .before)
-width-is c =
-    let l = c .before .before .lesser in
-    let g = c .greater in
-    common-read _ _ _ _ (l .result) (g .result) (l .ensures) (g .ensures)
-    (c .before .before .before .lesser-arg .given) (c .before .greater-arg .given) (l .ok) (g .ok)
+-- what a turn finds
+abbrev turn : tie.After-lesser Inv-loop μ-loop → tie.In-loop Inv-loop μ-loop
+turn c = c .before .before .before .before .before .before .before
 
-sub-width : tie.Need-sub-width Inv-loop μ-loop
-sub-width c =
-    let a = c .before .before .before .before in
-    subst (SFits w16) (sym (width-is c)) (across-fits (on a) (comparable a))
-
-add-lesser-2 : tie.Need-add-lesser-2 Inv-loop μ-loop
-add-lesser-2 c = let h = below (c .before .before .before .before) in search needs
-
-mul-lesser-2 : tie.Need-mul-lesser-2 Inv-loop μ-loop
-mul-lesser-2 c = let h = below (c .before .before .before .before) in search needs
-
-element-copy-out-lesser-2 : tie.Need-element-copy-out-lesser-2 Inv-loop μ-loop
-element-copy-out-lesser-2 c = let h = below (c .before .before .before .before) in omega arith
-
-lesser-requires-2 : tie.Need-lesser-requires-2 Inv-loop μ-loop
-lesser-requires-2 c κs = tt
-
-add-greater : tie.Need-add-greater Inv-loop μ-loop
-add-greater c = let h = below (c .before .before .before .before .before .before) in search needs
-
-mul-greater-2 : tie.Need-mul-greater-2 Inv-loop μ-loop
-mul-greater-2 c = let h = below (c .before .before .before .before .before .before) in search needs
-
-element-copy-out-greater-2 : tie.Need-element-copy-out-greater-2 Inv-loop μ-loop
-element-copy-out-greater-2 c = let h = below (c .before .before .before .before .before .before) in omega arith
-
-greater-requires-2 : tie.Need-greater-requires-2 Inv-loop μ-loop
-greater-requires-2 c κs = tt
-
-height-is : (c : tie.After-greater2 Inv-loop μ-loop)
-    → toZ w16 (ofZ w16 (c .before .before .lesser2 .result)) -ℤ toZ w16 (ofZ w16 (c .greater2 .result))
-    ≡ height (c .before .before .before .before .before .before .before .before)
-height-is c =
-    let l = c .before .before .lesser2 in
-    let g = c .greater2 in
-    common-read _ _ _ _ (l .result) (g .result) (l .ensures) (g .ensures)
-    (c .before .before .before .lesser-arg2 .given) (c .before .greater-arg2 .given) (l .ok) (g .ok)
-
-sub-height : tie.Need-sub-height Inv-loop μ-loop
-sub-height c =
-    let a = c .before .before .before .before .before .before .before .before in
-    subst (SFits w16) (sym (height-is c)) (upward-fits (on a) (comparable a))
-
-lesser-requires-3 : tie.Need-lesser-requires-3 Inv-loop μ-loop
-lesser-requires-3 c κs = tt
-
-greater-requires-3 : tie.Need-greater-requires-3 Inv-loop μ-loop
-greater-requires-3 c κs = tt
+found : (c : tie.After-lesser Inv-loop μ-loop) → c .lesser .result ≡ lesser (width (turn c)) (height (turn c))
+found c =
+    let h = c .before in
+    c .lesser .ensures ∙ (λ i. lesser (width-is (h .before .before .before) i) (height-is h i))
 
 add-j : tie.Need-add-j Inv-loop μ-loop
-add-j c = let h = below (c .before .before .before .before .before .before .before .before .before .before) in search needs
+add-j c = let h = below (turn (c .before)) in search needs
 
 loop-less : tie.Need-loop-less Inv-loop μ-loop
-loop-less c = let l = c .before .before .before .before .before .before .before .before .before .before .loop-test .taken in omega arith
-
--- what a turn finds
-abbrev turn : tie.After-lesser3 Inv-loop μ-loop → tie.In-loop Inv-loop μ-loop
-turn c = c .before .before .before .before .before .before .before .before .before
-
-found : (c : tie.After-lesser3 Inv-loop μ-loop) → c .lesser3 .result ≡ lesser (width (turn c)) (height (turn c))
-found c =
-    let w = c .before .before .before .before .before in
-    let h = c .before in
-    c .lesser3 .ensures ∙ (λ i. lesser ((toZ-ofZ (sub-width w) ∙ width-is w) i) ((toZ-ofZ (sub-height h) ∙ height-is h) i))
+loop-less c = let l = turn (c .before) .loop-test .taken in omega arith
 
 loop-again : tie.Need-loop-again Inv-loop μ-loop
 loop-again c =
     let t = turn (c .before) in
-    let m = c .greater3 in
+    let m = c .greater in
     let l = t .loop-test .taken in (
       omega arith,
       ap (ltZ (pos 0)) (back w16 (m .result) (m .ok) ∙ m .ensures
-          ∙ ap (greater (toZ w16 (t .before .loop .most))) (back w16 (c .before .lesser3 .result) (c .before .lesser3 .ok) ∙ found (c .before)))
+          ∙ ap (greater (toZ w16 (t .before .loop .most))) (back w16 (c .before .lesser .result) (c .before .lesser .ok) ∙ found (c .before)))
           ∙ greater-test (toZ w16 (t .before .loop .most)) (lesser (width t) (height t))
           ∙ (λ i. share-test (on t) (comparable t) i || t .before .loop .inv .1 i)
           ∙ sym (one-more (sharesArea (own t)) _ (t .before .loop .j)),
@@ -213,25 +192,21 @@ shares-spec =
     add-end
     mul-end
     loop-holds
-    add-lesser
-    mul-lesser
-    element-copy-out-lesser
+    mul-overlap
+    element-copy-out-overlap
+    add-overlap
+    mul-overlap-2
+    element-copy-out-overlap-2
+    overlap-requires
+    add-overlap-2
+    mul-overlap-3
+    element-copy-out-overlap-3
+    add-overlap-3
+    mul-overlap-4
+    element-copy-out-overlap-4
+    overlap-requires-2
     lesser-requires
-    mul-greater
-    element-copy-out-greater
     greater-requires
-    sub-width
-    add-lesser-2
-    mul-lesser-2
-    element-copy-out-lesser-2
-    lesser-requires-2
-    add-greater
-    mul-greater-2
-    element-copy-out-greater-2
-    greater-requires-2
-    sub-height
-    lesser-requires-3
-    greater-requires-3
     add-j
     loop-less
     loop-again

@@ -17,9 +17,9 @@ use Rattle.grid.specs.declared.Window.{Window}
 use Rattle.grid.proofs.Calls.{lent-refused, lent-done}
 use Rattle.grid.proofs.Refusals.{window-on-table}
 use Rattle.racks.specs.Areas.{sharesArea}
-use Rattle.racks.specs.Members.{any}
+use Rattle.racks.specs.Members.{any, all}
 use Rattle.racks.proofs.Holding.{vacant-holds}
-use Rattle.slots.specs.Slots.{slotsOf, stripsIn, isBook, lowestFree, slotOf, slotNumbers}
+use Rattle.slots.specs.Slots.{slotsOf, stripsIn, inUse, isBook, lowestFree, slotOf, slotNumbers}
 use Rattle.slots.proofs.Testing.{found-faulty, found-good}
 use Rattle.strip_book.specs.declared.BookingAnswer.{BookingAnswer}
 use Rattle.strip_book.proofs.Refusing.{book-long, lowest-of-all, all-used, not-all-used, refuses-table, refuses-window, refuses-clash, refuses-full, books}
@@ -121,13 +121,6 @@ returns-3 c =
 clear : (c : tie.Else2) → let k = c .before .before .before .before .before .before in any (sharesArea (window k)) (stripsIn (slotsOf (book k))) ≡ false
 clear c = sym (shared (c .before)) ∙ c .if2 .left
 
-lowest-free-requires : tie.Need-lowest-free-requires
-lowest-free-requires c κs = (omega arith, (omega arith, long (c .before .before .before .before .before .before .before)))
-
--- the slot that was found
-found : (c : tie.After-lowest-free) → c .lowest-free .result ≡ lowestFree (slotsOf (book (c .before .before .before .before .before .before .before .before)))
-found c = let k = c .before .before .before .before .before .before .before .before in lowest-of-all (book k) (long k) (c .lowest-free .ensures)
-
 refused-requires-3 : tie.Need-refused-requires-3
 refused-requires-3 c κs = search needs
 
@@ -139,22 +132,38 @@ same-length-4 c = search needs
 
 returns-4 : tie.Need-returns-4
 returns-4 c =
-    let f = c .before .before .before in
-    let e = f .before .before in
+    let e = c .before .before .before in
     let k = e .before .before .before .before .before .before in
+    let t = found-good _ (k .before .tested .given .1) (k .before .before .before .test-book .ensures) .1 in
     rw (c .refused-booking4 .ensures, c .before .refused3 .ensures)
     (lent-refused
-    (refuses-full (window k) (book k) (sound k) (fine (e .before .before .before)) (clear e) (all-used (book k) (long k) (sym (found f) ∙ c .before .before .if3 .taken)))
+    (refuses-full (window k) (book k) (sound k) (fine (e .before .before .before)) (clear e)
+    (all-used (book k) (long k) (sym (t .count) ∙ c .before .before .if3 .taken)))
     (λ e. omega arith))
 
 -- ---- a slot is free
 abbrev in-slot : ℤ → BookingAnswer
 in-slot z = record { number = 0; place = 0; slot = z }
 
-lower : (c : tie.Else3) → c .before .lowest-free .result < 64
-lower c =
+free : (c : tie.Else3) → let k = c .before .before .before .before .before .before .before in
+    (all inUse (slotsOf (book k)) ≡ false) × (lowestFree (slotsOf (book k)) < 64)
+free c =
+    let k = c .before .before .before .before .before .before .before in
+    let t = found-good _ (k .before .tested .given .1) (k .before .before .before .test-book .ensures) .1 in
+    not-all-used (book k) (long k) (λ e. c .if3 .left (t .count ∙ e))
+
+lowest-free-requires : tie.Need-lowest-free-requires
+lowest-free-requires c κs = (omega arith, (omega arith, long (c .before .before .before .before .before .before .before .before)))
+
+-- the slot that was found
+found : (c : tie.After-lowest-free) → let k = c .before .before .before .before .before .before .before .before .before in
+    c .lowest-free .result ≡ lowestFree (slotsOf (book k))
+found c =
     let k = c .before .before .before .before .before .before .before .before .before in
-    omega (arith, found (c .before), not-all-used (book k) (long k) (λ e. c .if3 .left (found (c .before) ∙ e)) .1)
+    lowest-of-all (book k) (long k) (c .lowest-free .ensures)
+
+lower : (c : tie.After-lowest-free) → c .lowest-free .result < 64
+lower c = omega (arith, found c, free (c .before .before) .1)
 
 put-requires : tie.Need-put-requires
 put-requires c κs = omega (arith, lower (c .before), long (c .before .before .before .before .before .before .before .before .before .before))
@@ -167,14 +176,13 @@ same-length-5 c = search needs
 
 returns-5 : tie.Need-returns-5
 returns-5 c =
-    let t = c .before .before .before in
-    let f = t .before in
-    let e = f .before .before in
+    let f = c .before .before .before in
+    let t = f .before .before in
+    let e = t .before in
     let k = e .before .before .before .before .before .before in
-    let n = not-all-used (book k) (long k) (λ q. t .if3 .left (found f ∙ q)) in
-    lent-done (books (window k) (book k) (sound k) (fine (e .before .before .before)) (clear e) (n .0))
+    lent-done (books (window k) (book k) (sound k) (fine (e .before .before .before)) (clear e) (free t .0))
     (record {
-      answer = ap in-slot (toZ-pos w32 (omega (arith, lower t)) ∙ ap pos (found f));
+      answer = ap in-slot (toZ-pos w32 (omega (arith, lower f)) ∙ ap pos (found f));
       book = c .before .put .ensures ∙ ap (λ (j : ℕ). sets (book k) (5 * j) (slotNumbers (slotOf 1 (window k)))) (found f);
     })
 
@@ -198,11 +206,11 @@ book-strip-spec =
     refused-booking-requires-3
     same-length-3
     returns-3
-    lowest-free-requires
     refused-requires-3
     refused-booking-requires-4
     same-length-4
     returns-4
+    lowest-free-requires
     put-requires
     cast-slot
     same-length-5
