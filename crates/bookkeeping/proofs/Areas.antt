@@ -15,6 +15,7 @@ use Rattle.whole.proofs.Polynomials.{ring}
 use Rattle.grid.specs.Sides.{left, right, bottom, top}
 use Rattle.grid.specs.declared.Window.{Window}
 use Rattle.racks.specs.Areas.{sharesArea}
+use Rattle.racks.proofs.Common.{turned}
 use Rattle.rings.specs.Lists.{∅, _◂_}
 use Rattle.rings.specs.Points.{Point}
 use Rattle.rings.proofs.Windows.{left-value, right-value, bottom-value, top-value}
@@ -50,8 +51,7 @@ not-overlapping v w h = not-eq-not .0 (λ e. h (overlap v w e))
 
 -- whichever is named first
 pub shares-turned : (v w : Window) → sharesArea v w ≡ false → sharesArea w v ≡ false
-shares-turned v w e = not-overlapping w v λ h.
-    tt-ff (sym (overlapping v w (record { left = h .right; right = h .left; bottom = h .top; top = h .bottom })) ∙ e)
+shares-turned v w e = turned w v ∙ e
 
 pub touching-shares-none : TouchingSharesNone
 touching-shares-none v w left b = not-overlapping v w λ h. omega zarith

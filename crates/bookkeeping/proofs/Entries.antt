@@ -13,7 +13,7 @@ use Rattle.whole.specs.Choice.{if_then_else_}
 use Rattle.whole.proofs.Comparisons.{tt-ff}
 use Rattle.grid.specs.declared.Window.{Window}
 use Rattle.racks.specs.Members.{any, all}
-use Rattle.slots.specs.Slots.{Slot, is, inUse, stripsIn, lowestFree, slotOf, freeSlot}
+use Rattle.slots.specs.Slots.{Slot, numberIs, inUse, stripsIn, lowestFree, slotOf, freeSlot}
 use Rattle.bookkeeping.specs.PlainList.{Entry, entry, strips, RisingFrom, no-entry, an-entry, firstMissing, entered, has, struckOut}
 use Rattle.bookkeeping.specs.Runs.{entriesFrom}
 
@@ -134,7 +134,7 @@ has-negative n (e ∷ es) = has-negative n es
 pub struck-absent : (z : ℤ) (es : List Entry) → has z es ≡ false → struckOut z es ≡ es
 unfolding any struckOut
 struck-absent z [] h = refl
-struck-absent z (e ∷ es) h = go (is (e .number) z) h (struck-absent z es)
+struck-absent z (e ∷ es) h = go (numberIs (e .number) z) h (struck-absent z es)
   where
     go : (b : Bool) → (b || has z es) ≡ false → (has z es ≡ false → struckOut z es ≡ es) → (if b then es else e ∷ struckOut z es) ≡ e ∷ es
     go true h f = absurd (tt-ff h)

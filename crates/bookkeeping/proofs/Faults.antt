@@ -19,10 +19,10 @@ use Rattle.grid.specs.declared.Window.{Window}
 use Rattle.racks.specs.Areas.{sharesArea}
 use Rattle.racks.specs.Members.{any, all}
 use Rattle.rings.specs.Lists.{All, ∅, _◂_}
-use Rattle.slots.specs.Slots.{Slot, slotsOf, is, inUse, stripsIn, goodMark, slotsGood, isBook, freeSlot}
+use Rattle.slots.specs.Slots.{Slot, slotsOf, numberIs, inUse, stripsIn, goodMark, slotsGood, isBook, freeSlot}
 use Rattle.slots.proofs.Places.{slots-count}
 use Rattle.strip_book.specs.Books.{noBook, stripTaken, bookFull, slotNotInUse}
-use Rattle.strip_book.specs.Books.{tableRefusal, clash, full, usedAt, slotRefusal, bookingRefusal, releaseRefusal}
+use Rattle.strip_book.specs.Books.{tableRefusal, clash, noneFree, usedAt, slotRefusal, bookingRefusal, releaseRefusal}
 use Rattle.strip_book.proofs.Refusing.{book-long, refuses-table, refuses-release}
 use Rattle.bookkeeping.specs.OneCall.{NotABook, another-length, another-mark, refused-strip, shared-area, NoBookExactly}
 use Rattle.bookkeeping.specs.Runs.{Event, booking, release, numberAnswered, InBook}
@@ -30,22 +30,22 @@ use Rattle.bookkeeping.proofs.Good.{Fault, mark-fault, strip-fault, are
 use Rattle.bookkeeping.proofs.Steps.{refusalOf, number-refused, answered-by, book-good}
 
 -- ---- the tests of a mark
-is-number : (n : ℕ) (z : ℤ) → is n z ≡ true → z ≡ pos n
+is-number : (n : ℕ) (z : ℤ) → numberIs n z ≡ true → z ≡ pos n
 is-number n (pos m) e = ap pos (eqb-true m n e)
 is-number n (negsuc m) e = absurd (ff-tt e)
 
 good-marked : (s : Slot) → goodMark s ≡ true → (s .mark ≡ pos 0 → ⊥) → (s .mark ≡ pos 1 → ⊥) → ⊥
-good-marked s = go (is 0 (s .mark)) (is 1 (s .mark)) refl refl
+good-marked s = go (numberIs 0 (s .mark)) (numberIs 1 (s .mark)) refl refl
   where
-    go : (a b : Bool) → is 0 (s .mark) ≡ a → is 1 (s .mark) ≡ b → (a || b) ≡ true → (s .mark ≡ pos 0 → ⊥) → (s .mark ≡ pos 1 → ⊥) → ⊥
+    go : (a b : Bool) → numberIs 0 (s .mark) ≡ a → numberIs 1 (s .mark) ≡ b → (a || b) ≡ true → (s .mark ≡ pos 0 → ⊥) → (s .mark ≡ pos 1 → ⊥) → ⊥
     go true b p q e f g = f (is-number 0 (s .mark) p)
     go false b p q e f g = g (is-number 1 (s .mark) (q ∙ e))
 
 -- ---- the faults of a table
 a-fault : (zs : List ℤ) → length zs ≡ 320 → Fault (slotsOf zs) → NotABook zs
 a-fault zs l (mark-fault k h e) = another-mark k (omega (arith, slots-count zs))
-    (λ m. tt-ff (sym (ap (λ (z : ℤ). is 0 z || is 1 z) m) ∙ e))
-    (λ m. tt-ff (sym (ap (λ (z : ℤ). is 0 z || is 1 z) m) ∙ e))
+    (λ m. tt-ff (sym (ap (λ (z : ℤ). numberIs 0 z || numberIs 1 z) m) ∙ e))
+    (λ m. tt-ff (sym (ap (λ (z : ℤ). numberIs 0 z || numberIs 1 z) m) ∙ e))
 a-fault zs l (strip-fault k h u e) = refused-strip k (omega (arith, slots-count zs)) (is-number 1 _ u) (eqb-false _ _ e)
 a-fault zs l (area-fault h) =
     shared-area (h .one) (h .other) (h .before) (omega (arith, slots-count zs))
@@ -62,8 +62,8 @@ not-a-book zs = go (eqb (length zs) 320) refl
 no-book-no-fault : (zs : List ℤ) → isBook zs ≡ true → NotABook zs → ⊥
 no-book-no-fault zs b (another-length n) = n (book-long zs b)
 no-book-no-fault zs b (another-mark k h m n) = good-marked (getD (slotsOf zs) k freeSlot) (book-good zs b .marks k) m n
-no-book-no-fault zs b (refused-strip k h m e) = e (eqb-true _ _ (book-good zs b .strips k (ap (is 1) m)))
-no-book-no-fault zs b (shared-area j k h l m n e) = tt-ff (sym e ∙ book-good zs b .areas j k h (ap (is 1) m) (ap (is 1) n))
+no-book-no-fault zs b (refused-strip k h m e) = e (eqb-true _ _ (book-good zs b .strips k (ap (numberIs 1) m)))
+no-book-no-fault zs b (shared-area j k h l m n e) = tt-ff (sym e ∙ book-good zs b .areas j k h (ap (numberIs 1) m) (ap (numberIs 1) n))
 
 -- ---- the other refusals have other numbers
 record Other (r : Refusal) : Type 0 where
@@ -95,10 +95,10 @@ unfolding tableRefusal
 book-other zs b = rw b fine
 
 refusal-other : (e : Event) (zs : List ℤ) → isBook zs ≡ true → Other (refusalOf e zs)
-unfolding bookingRefusal clash full releaseRefusal slotRefusal
+unfolding bookingRefusal clash noneFree releaseRefusal slotRefusal
 refusal-other (booking w a) zs b =
     let taken : Other (clash w zs) = either (any (sharesArea w) (stripsIn (slotsOf zs))) (other stripTaken 0 (omega arith)) fine in
-    let filled : Other (full zs) = either (all inUse (slotsOf zs)) (other bookFull 0 (omega arith)) fine in
+    let filled : Other (noneFree zs) = either (all inUse (slotsOf zs)) (other bookFull 0 (omega arith)) fine in
     first-other (book-other zs b ◂ window-other w ◂ taken ◂ filled ◂ ∅)
 refusal-other (release z a) zs b =
     let free : Other (slotRefusal z zs) = either (usedAt (slotsOf zs) z) fine (other slotNotInUse 0 (omega arith)) in

@@ -11,7 +11,7 @@ use Rattle.whole.proofs.Comparisons.{ff-tt, tt-ff}
 use Rattle.grid.specs.declared.Window.{Window}
 use Rattle.racks.specs.Areas.{sharesArea}
 use Rattle.racks.specs.Members.{any, all}
-use Rattle.slots.specs.Slots.{Slot, inUse, stripsIn, goodMark, goodStrip, apart, slotsGood, freeSlot}
+use Rattle.slots.specs.Slots.{Slot, inUse, stripsIn, goodMark, goodStrip, noTwoShare, slotsGood, freeSlot}
 use Rattle.bookkeeping.proofs.Tests.{all-at, not-all, any-is}
 
 -- ---- tests of the strips, as tests of the slots
@@ -56,20 +56,21 @@ module _ (P : Window → Bool) where
   no-strip ss e k u = not-true _ (at-used (λ w. not (P w)) ss (not-false _ (sym (any-is P (stripsIn ss)) ∙ e)) k u)
 
 -- ---- strips apart
-apart-at : (ss : List Slot) → apart (stripsIn ss) ≡ true → (j k : ℕ) → j < k → inUse (getD ss j freeSlot) ≡ true → inUse (getD ss k freeSlot) ≡ true
+apart-at : (ss : List Slot) → noTwoShare (stripsIn ss) ≡ true → (j k : ℕ) → j < k
+    → inUse (getD ss j freeSlot) ≡ true → inUse (getD ss k freeSlot) ≡ true
     → sharesArea (getD ss j freeSlot .strip) (getD ss k freeSlot .strip) ≡ false
-unfolding apart stripsIn
+unfolding noTwoShare stripsIn
 apart-at [] e j k l u v = absurd (ff-tt u)
 apart-at (s ∷ ss) e zero zero l u v = absurd (omega arith)
 apart-at (s ∷ ss) e (suc j) zero l u v = absurd (omega arith)
 apart-at (s ∷ ss) e zero (suc k) l u v =
-    let first : (not (any (sharesArea (s .strip)) (stripsIn ss)) && apart (stripsIn ss)) ≡ true = rw u at e in
-    let clear = and-eq-true-iff (not (any (sharesArea (s .strip)) (stripsIn ss))) (apart (stripsIn ss)) .0 first .0 in
+    let first : (not (any (sharesArea (s .strip)) (stripsIn ss)) && noTwoShare (stripsIn ss)) ≡ true = rw u at e in
+    let clear = and-eq-true-iff (not (any (sharesArea (s .strip)) (stripsIn ss))) (noTwoShare (stripsIn ss)) .0 first .0 in
     no-strip (sharesArea (s .strip)) ss (not-true _ clear) k v
 apart-at (s ∷ ss) e (suc j) (suc k) l u v = apart-at ss (go (inUse s) e) j k (omega arith) u v
   where
-    go : (b : Bool) → apart (if b then s .strip ∷ stripsIn ss else stripsIn ss) ≡ true → apart (stripsIn ss) ≡ true
-    go true e = and-eq-true-iff (not (any (sharesArea (s .strip)) (stripsIn ss))) (apart (stripsIn ss)) .0 e .1
+    go : (b : Bool) → noTwoShare (if b then s .strip ∷ stripsIn ss else stripsIn ss) ≡ true → noTwoShare (stripsIn ss) ≡ true
+    go true e = and-eq-true-iff (not (any (sharesArea (s .strip)) (stripsIn ss))) (noTwoShare (stripsIn ss)) .0 e .1
     go false e = e
 
 pub record Sharing (ss : List Slot) : Type 0 where
@@ -81,8 +82,8 @@ pub record Sharing (ss : List Slot) : Type 0 where
   pub used-other : inUse (getD ss other freeSlot) ≡ true
   pub shares : sharesArea (getD ss one freeSlot .strip) (getD ss other freeSlot .strip) ≡ true
 
-not-apart : (ss : List Slot) → apart (stripsIn ss) ≡ false → Sharing ss
-unfolding apart stripsIn
+not-apart : (ss : List Slot) → noTwoShare (stripsIn ss) ≡ false → Sharing ss
+unfolding noTwoShare stripsIn
 not-apart [] e = absurd (tt-ff e)
 not-apart (s ∷ ss) e = go (inUse s) refl e (not-apart ss)
   where
@@ -97,15 +98,15 @@ not-apart (s ∷ ss) e = go (inUse s) refl e (not-apart ss)
       shares = h .shares;
     }
 
-    first : inUse s ≡ true → (b : Bool) → any (sharesArea (s .strip)) (stripsIn ss) ≡ b → (not b && apart (stripsIn ss)) ≡ false
-        → (apart (stripsIn ss) ≡ false → Sharing ss) → Sharing (s ∷ ss)
+    first : inUse s ≡ true → (b : Bool) → any (sharesArea (s .strip)) (stripsIn ss) ≡ b → (not b && noTwoShare (stripsIn ss)) ≡ false
+        → (noTwoShare (stripsIn ss) ≡ false → Sharing ss) → Sharing (s ∷ ss)
     first u true p e f =
         let k = strip-of (sharesArea (s .strip)) ss p in
         record { one = 0; other = suc (k .0); before = omega arith; among = omega arith; used-one = u; used-other = k .2; shares = k .3 }
     first u false p e f = later (f e)
 
-    go : (b : Bool) → inUse s ≡ b → apart (if b then s .strip ∷ stripsIn ss else stripsIn ss) ≡ false → (apart (stripsIn ss) ≡ false → Sharing ss)
-        → Sharing (s ∷ ss)
+    go : (b : Bool) → inUse s ≡ b → noTwoShare (if b then s .strip ∷ stripsIn ss else stripsIn ss) ≡ false
+        → (noTwoShare (stripsIn ss) ≡ false → Sharing ss) → Sharing (s ∷ ss)
     go true u e f = first u (any (sharesArea (s .strip)) (stripsIn ss)) refl e f
     go false u e f = later (f e)
 
@@ -123,7 +124,7 @@ pub data Fault (ss : List Slot) : Type 0 where
 
 pub good-slots : (ss : List Slot) → slotsGood ss ≡ true → Good ss
 good-slots ss e =
-    let p = and-eq-true-iff (all goodMark ss && all goodStrip (stripsIn ss)) (apart (stripsIn ss)) .0 e in
+    let p = and-eq-true-iff (all goodMark ss && all goodStrip (stripsIn ss)) (noTwoShare (stripsIn ss)) .0 e in
     let q = and-eq-true-iff (all goodMark ss) (all goodStrip (stripsIn ss)) .0 (p .0) in
     record {
       marks = all-at goodMark freeSlot ss (q .0) refl;
@@ -134,7 +135,7 @@ good-slots ss e =
 pub faulty-slots : (ss : List Slot) → slotsGood ss ≡ false → Fault ss
 faulty-slots ss e = go (all goodMark ss) (all goodStrip (stripsIn ss)) refl refl e
   where
-    go : (a b : Bool) → all goodMark ss ≡ a → all goodStrip (stripsIn ss) ≡ b → (a && b && apart (stripsIn ss)) ≡ false → Fault ss
+    go : (a b : Bool) → all goodMark ss ≡ a → all goodStrip (stripsIn ss) ≡ b → (a && b && noTwoShare (stripsIn ss)) ≡ false → Fault ss
     go true true p q e = area-fault (not-apart ss e)
     go true false p q e = let k = one-fails goodStrip ss q in strip-fault (k .0) (k .1) (k .2) (k .3)
     go false b p q e = let k = not-all goodMark freeSlot ss p in mark-fault (k .0) (k .1) (k .2)

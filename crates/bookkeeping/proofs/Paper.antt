@@ -20,7 +20,7 @@ use Rattle.grid.proofs.Calls.{lent-refused, lent-done}
 use Rattle.racks.specs.Members.{all}
 use Rattle.slots.specs.Slots.{Slot, slotsOf, inUse, isBook, lowestFree, freeSlot}
 use Rattle.slots.proofs.Lowest.{lowest-free, free-among}
-use Rattle.strip_book.specs.Books.{slotNotInUse, tableRefusal, clash, full, usedAt, bookingRefusal, releaseRefusal}
+use Rattle.strip_book.specs.Books.{slotNotInUse, tableRefusal, clash, noneFree, usedAt, bookingRefusal, releaseRefusal}
 use Rattle.strip_book.specs.Books.{BookStrip, bookedIn, refusedBooking, Booked, ReleaseSlot, releaseAnswer, Released}
 use Rattle.strip_book.specs.declared.BookingAnswer.{BookingAnswer}
 use Rattle.strip_book.specs.declared.ReleaseAnswer.{ReleaseAnswer}
@@ -33,7 +33,7 @@ use Rattle.bookkeeping.proofs.Steps.{lent-by, bookable, book-slots, slo
 
 -- ---- a booking: its refusal, and what is answered and entered on paper
 same-refusal : (w : Window) (zs : List ℤ) → isBook zs ≡ true → bookingRefusal w zs ≡ refusalToBook w (entriesOf zs)
-unfolding bookingRefusal tableRefusal clash full refusalToBook first
+unfolding bookingRefusal tableRefusal clash noneFree refusalToBook first
 same-refusal w zs b =
     let ss = slotsOf zs in
     let filled : eqb (length (entriesOf zs)) 64 ≡ all inUse ss = rw (book-slots zs b) at (entries-full 0 ss) in

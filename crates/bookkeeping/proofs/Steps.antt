@@ -22,7 +22,7 @@ use Rattle.slots.specs.Slots.{Slot, slotsOf, inUse, stripsIn, goodMark, goodStr
 use Rattle.slots.proofs.Lowest.{free-among}
 use Rattle.slots.proofs.Places.{slots-count, slots-put, used-among}
 use Rattle.strip_book.specs.Books.{noBook, stripTaken, bookFull, slotNotInUse}
-use Rattle.strip_book.specs.Books.{tableRefusal, clash, full, usedAt, slotRefusal, bookingRefusal, releaseRefusal, Booked, Released}
+use Rattle.strip_book.specs.Books.{tableRefusal, clash, noneFree, usedAt, slotRefusal, bookingRefusal, releaseRefusal, Booked, Released}
 use Rattle.strip_book.specs.declared.BookingAnswer.{BookingAnswer}
 use Rattle.strip_book.specs.declared.ReleaseAnswer.{ReleaseAnswer}
 use Rattle.strip_book.proofs.Refusing.{book-long}
@@ -71,12 +71,12 @@ pub record Bookable (w : Window) (zs : List ℤ) : Type 0 where
   pub room : all inUse (slotsOf zs) ≡ false
 
 pub bookable : (w : Window) (zs : List ℤ) → bookingRefusal w zs .number ≡ 0 → Bookable w zs
-unfolding bookingRefusal tableRefusal clash full
+unfolding bookingRefusal tableRefusal clash noneFree
 bookable w zs e =
-    let p = all-done (tableRefusal zs) (windowRefusal w ∷ clash w zs ∷ full zs ∷ []) e in
-    let q = all-done (windowRefusal w) (clash w zs ∷ full zs ∷ []) (p .1) in
-    let r = all-done (clash w zs) (full zs ∷ []) (q .1) in
-    let s = all-done (full zs) [] (r .1) in
+    let p = all-done (tableRefusal zs) (windowRefusal w ∷ clash w zs ∷ noneFree zs ∷ []) e in
+    let q = all-done (windowRefusal w) (clash w zs ∷ noneFree zs ∷ []) (p .1) in
+    let r = all-done (clash w zs) (noneFree zs ∷ []) (q .1) in
+    let s = all-done (noneFree zs) [] (r .1) in
     record {
       book = passed (isBook zs) noBook (omega arith) (p .0);
       good = eq-eqb _ _ (q .0);

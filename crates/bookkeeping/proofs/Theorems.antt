@@ -13,7 +13,7 @@ use Rattle.grid.proofs.Refusals.{window-on-table}
 use Rattle.racks.specs.Areas.{sharesArea}
 use Rattle.racks.specs.Members.{all}
 use Rattle.rings.specs.Lists.{All, ∅, _◂_}
-use Rattle.slots.specs.Slots.{Slot, slotsOf, slotAt, inUse, stripsIn, apart, isBook, lowestFree}
+use Rattle.slots.specs.Slots.{Slot, slotsOf, slotAt, inUse, stripsIn, noTwoShare, isBook, lowestFree}
 use Rattle.slots.proofs.Lowest.{lowest-free, used-below}
 use Rattle.strip_book.specs.Books.{noBook}
 use Rattle.bookkeeping.specs.Laws.{AsAPlainList, EachRunOnPaper, FromAnyBook, PaperInOrder, LeastMissing}
@@ -28,7 +28,7 @@ use Rattle.bookkeeping.proofs.Steps.{book-good, call-stays}
 
 -- ---- where they begin
 empty-is-a-book : isBook emptyBook ≡ true
-unfolding isBook emptyBook slotsOf all stripsIn apart
+unfolding isBook emptyBook slotsOf all stripsIn noTwoShare
 empty-is-a-book = refl
 
 empty-has-none : entriesOf emptyBook ≡ []

@@ -24,7 +24,7 @@ use Rattle.grid.specs.declared.Refusal.{Refusal}
 use Rattle.grid.specs.declared.Window.{Window}
 use Rattle.racks.specs.Areas.{sharesArea}
 use Rattle.racks.specs.Members.{any}
-use Rattle.slots.specs.Slots.{is}
+use Rattle.slots.specs.Slots.{numberIs}
 use Rattle.strip_book.specs.Books.{stripTaken, bookFull, slotNotInUse, refusedBooking, bookedIn, releaseAnswer}
 use Rattle.strip_book.specs.declared.BookingAnswer.{BookingAnswer}
 use Rattle.strip_book.specs.declared.ReleaseAnswer.{ReleaseAnswer}
@@ -52,19 +52,19 @@ entered n w [] = entry n w ∷ []
 entered n w (e ∷ es) = if ltb (e .number) n then e ∷ entered n w es else entry n w ∷ e ∷ es
 
 abbrev pub has : ℤ → List Entry → Bool
-has z = any (λ (e : Entry). is (e .number) z)
+has z = any (λ (e : Entry). numberIs (e .number) z)
 
 unfoldable pub struckOut : ℤ → List Entry → List Entry
 struckOut z [] = []
-struckOut z (e ∷ es) = if is (e .number) z then es else e ∷ struckOut z es
+struckOut z (e ∷ es) = if numberIs (e .number) z then es else e ∷ struckOut z es
 
 -- ---- one who books
 
 unfoldable pub refusalToBook : Window → List Entry → Refusal
 refusalToBook w es =
     let shared = if any (sharesArea w) (strips es) then refuse stripTaken 0 else none in
-    let full = if eqb (length es) 64 then refuse bookFull 0 else none in
-    first (windowRefusal w ∷ shared ∷ full ∷ [])
+    let noneFree = if eqb (length es) 64 then refuse bookFull 0 else none in
+    first (windowRefusal w ∷ shared ∷ noneFree ∷ [])
 
 unfoldable pub answerBooking : Window → List Entry → BookingAnswer
 answerBooking w es = let r = refusalToBook w es in if eqb (r .number) 0 then bookedIn (firstMissing 0 es) else refusedBooking r

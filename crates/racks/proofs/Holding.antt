@@ -25,7 +25,7 @@ use Rattle.grid.specs.Table.{farthest, WindowOnTable}
 use Rattle.grid.specs.declared.Window.{Window}
 use Rattle.racks.specs.Areas.{sharesArea}
 use Rattle.racks.specs.Members.{any}
-use Rattle.racks.specs.Racks.{stripAt, vacant, putAt, stripsOn, Holds}
+use Rattle.racks.specs.Racks.{stripAt, vacant, putOn, stripsOn, Carries}
 use Rattle.racks.proofs.Common.{Comparable}
 
 -- ---- a number of a strip on the table, made sixteen bits long, is that number
@@ -69,12 +69,12 @@ module _ (rack : List ℤ) (n : ℕ) (w : Window) where
   abbrev three : List ℤ
   three = set two (144 + n) (w .right)
 
-  elsewhere : (k : ℕ) → k ≢ n → k ≢ (72 + n) → k ≢ (144 + n) → k ≢ (216 + n) → getD (putAt rack n w) k (pos 0) ≡ getD rack k (pos 0)
+  elsewhere : (k : ℕ) → k ≢ n → k ≢ (72 + n) → k ≢ (144 + n) → k ≢ (216 + n) → getD (putOn rack n w) k (pos 0) ≡ getD rack k (pos 0)
   elsewhere k p q r s =
       getD-set-other three (216 + n) k (w .top) (pos 0) s ∙ getD-set-other two (144 + n) k (w .right) (pos 0) r
       ∙ getD-set-other one (72 + n) k (w .bottom) (pos 0) q ∙ getD-set-other rack n k (w .left) (pos 0) p
 
-  others : n < 64 → (j : ℕ) → j < 72 → j ≢ n → stripAt (putAt rack n w) j ≡ stripAt rack j
+  others : n < 64 → (j : ℕ) → j < 72 → j ≢ n → stripAt (putOn rack n w) j ≡ stripAt rack j
   others h j l d = λ i. record {
     left = elsewhere j d (λ e. omega arith) (λ e. omega arith) (λ e. omega arith) i;
     bottom = elsewhere (72 + j) (λ e. omega arith) (λ e. d (omega arith)) (λ e. omega arith) (λ e. omega arith) i;
@@ -82,7 +82,7 @@ module _ (rack : List ℤ) (n : ℕ) (w : Window) where
     top = elsewhere (216 + j) (λ e. omega arith) (λ e. omega arith) (λ e. omega arith) (λ e. d (omega arith)) i;
   }
 
-  here : n < 64 → length rack ≡ 288 → stripAt (putAt rack n w) n ≡ w
+  here : n < 64 → length rack ≡ 288 → stripAt (putOn rack n w) n ≡ w
   here h e = λ i. record {
     left =
         (getD-set-other three (216 + n) n (w .top) (pos 0) (λ e. omega arith) ∙ getD-set-other two (144 + n) n (w .right) (pos 0) (λ e. omega arith)
@@ -97,30 +97,30 @@ module _ (rack : List ℤ) (n : ℕ) (w : Window) where
     top = getD-set-same three (216 + n) (w .top) (pos 0) (simp length-set (omega arith)) i;
   }
 
-  before : n < 64 → stripsOn (putAt rack n w) n ≡ stripsOn rack n
-  before h = same-strips rack (putAt rack n w) n (λ j l. others h j (omega arith) (λ e. omega arith))
+  before : n < 64 → stripsOn (putOn rack n w) n ≡ stripsOn rack n
+  before h = same-strips rack (putOn rack n w) n (λ j l. others h j (omega arith) (λ e. omega arith))
 
-one-put : {rack : List ℤ} {w : Window} {ws : List Window} → length ws < 64 → WindowOnTable w → Holds rack ws
-    → Holds (putAt rack (length ws) w) (w ∷ ws)
+one-put : {rack : List ℤ} {w : Window} {ws : List Window} → length ws < 64 → WindowOnTable w → Carries rack ws
+    → Carries (putOn rack (length ws) w) (w ∷ ws)
 unfolding stripsOn
 one-put {rack} {w} {ws} h on hold = record {
   long = simp length-set (hold .long);
   few = omega arith;
   are = λ i. here rack (length ws) w h (hold .long) i ∷ (before rack (length ws) w h ∙ hold .are) i;
-  on = λ j l. below-more (λ (j : ℕ). WindowOnTable (stripAt (putAt rack (length ws) w) j)) (length ws)
+  on = λ j l. below-more (λ (j : ℕ). WindowOnTable (stripAt (putOn rack (length ws) w) j)) (length ws)
       (λ j l. subst WindowOnTable (sym (others rack (length ws) w h j (omega arith) (λ e. omega arith))) (hold .on j l))
       (subst WindowOnTable (sym (here rack (length ws) w h (hold .long))) on) j (omega arith);
   rest = λ j l m. others rack (length ws) w h j m (λ e. omega arith) ∙ hold .rest j (omega arith) m;
 }
 
-pub put-holds : {rack : List ℤ} {n : ℕ} {w : Window} {ws : List Window} → n < 64 → WindowOnTable w → n ≡ length ws → Holds rack ws
-    → Holds (putAt rack n (reading w)) (w ∷ ws)
+pub put-holds : {rack : List ℤ} {n : ℕ} {w : Window} {ws : List Window} → n < 64 → WindowOnTable w → n ≡ length ws → Carries rack ws
+    → Carries (putOn rack n (reading w)) (w ∷ ws)
 put-holds {rack} {n} {w} {ws} h on e hold =
-    subst (λ (u : Window). Holds (putAt rack n u) (w ∷ ws)) (sym (is-reading on))
-    (subst (λ (k : ℕ). Holds (putAt rack k w) (w ∷ ws)) (sym e) (one-put (omega arith) on hold))
+    subst (λ (u : Window). Carries (putOn rack n u) (w ∷ ws)) (sym (is-reading on))
+    (subst (λ (k : ℕ). Carries (putOn rack k w) (w ∷ ws)) (sym e) (one-put (omega arith) on hold))
 
 -- ---- a rack of vacant places
-pub vacant-holds : Holds (replicate 288 (pos 16384)) []
+pub vacant-holds : Carries (replicate 288 (pos 16384)) []
 unfolding stripsOn
 vacant-holds = record {
   long = length-replicate 288 (pos 16384);
@@ -157,7 +157,7 @@ module _ {v : Window} (on : WindowOnTable v) where
     tall = λ _. h .tall;
   }
 
-  pub place : {rack : List ℤ} {ws : List Window} → Holds rack ws → (j : ℕ) → j < 72 → Comparable v (stripAt rack j)
+  pub place : {rack : List ℤ} {ws : List Window} → Carries rack ws → (j : ℕ) → j < 72 → Comparable v (stripAt rack j)
   place {rack} {ws} hold j h = go (ltb j (length ws)) refl
     where
       go : (t : Bool) → ltb j (length ws) ≡ t → Comparable v (stripAt rack j)
@@ -180,7 +180,7 @@ pub one-more : (P : Window → Bool) (rack : List ℤ) (j : ℕ) → any P (stri
 unfolding any stripsOn
 one-more P rack j = ap (λ (k : ℕ). any P (stripsOn rack k)) (add-one j)
 
-module _ {rack : List ℤ} {ws : List Window} (hold : Holds rack ws) where
+module _ {rack : List ℤ} {ws : List Window} (hold : Carries rack ws) where
   just-those : (P : Window → Bool) (j : ℕ) → length ws ≡ j → any P (stripsOn rack j) ≡ any P ws
   just-those P j e = ap (any P) (subst (λ (n : ℕ). stripsOn rack n ≡ ws) e (hold .are))
 

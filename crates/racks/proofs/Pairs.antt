@@ -24,7 +24,7 @@ use Rattle.grid.specs.Table.{farthest}
 use Rattle.grid.specs.declared.Window.{Window}
 use Rattle.racks.specs.Areas.{sharesArea}
 use Rattle.racks.specs.Members.{any}
-use Rattle.racks.specs.Racks.{stripAt, vacant, Holds}
+use Rattle.racks.specs.Racks.{stripAt, vacant, Carries}
 use Rattle.racks.specs.Pairs.{share, above, Met, Sharing, Compares, Crowd}
 use Rattle.racks.proofs.Common.{across, upward, across-fits, upward-fits, share-test, greater-test}
 use Rattle.racks.proofs.Holding.{place, vacant-none}
@@ -39,7 +39,7 @@ both-vacant : Measured vacant vacant
 unfolding lesser greater sharesArea
 both-vacant = record { wide = sfits-lit {z = pos 0} tt; tall = sfits-lit {z = pos 0} tt; test = refl }
 
-module _ {rack : List ℤ} {ws : List Window} (hold : Holds rack ws) {p q : ℕ} (l : p < q) (m : q < 72) where
+module _ {rack : List ℤ} {ws : List Window} (hold : Carries rack ws) {p q : ℕ} (l : p < q) (m : q < 72) where
   no-strips : length ws ≤ p → (stripAt rack p ≡ vacant) × (stripAt rack q ≡ vacant)
   no-strips h = (hold .rest p h (omega arith), hold .rest q (omega arith) m)
 
@@ -69,7 +69,7 @@ module _ {rack : List ℤ} {ws : List Window} (hold : Holds rack ws) {p q : ℕ}
       go false e = absurd (tt-ff (sym s ∙ off (ltb-false q (length ws) e) (ltb p (length ws)) refl))
 
 -- ---- a place behind the last strip is told by its first number
-module _ {rack : List ℤ} {ws : List Window} (hold : Holds rack ws) (j : ℕ) where
+module _ {rack : List ℤ} {ws : List Window} (hold : Carries rack ws) (j : ℕ) where
   pub strip-there : j < 72 → (ofZ w16 (getD rack j (pos 0)) ≡ 16384 → ⊥) → j < length ws
   strip-there h n = go (ltb j (length ws)) refl
     where
@@ -168,7 +168,7 @@ module _ {rack : List ℤ} where
           inr (record { first = h; last = k .0; near = omega arith; far = omega arith })
 
 -- ---- all pairs have met
-pub crowd : {rack : List ℤ} {ws : List Window} {n : ℕ} {before after : List ℤ} {r : Bool} → Holds rack ws → n ≡ length ws → r ≡ above after
+pub crowd : {rack : List ℤ} {ws : List Window} {n : ℕ} {before after : List ℤ} {r : Bool} → Carries rack ws → n ≡ length ws → r ≡ above after
     → above before ≡ false → Compares rack (λ (p q : ℕ). (p < q) × (q < n)) before after → Crowd rack n r
 crowd {rack} {ws} {n} {before} {after} {r} hold e is none all = record {
   apart = λ f p q l m. go f p q (l, m) (share rack p q) refl;

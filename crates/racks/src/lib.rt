@@ -13,7 +13,7 @@ ghost use Rattle.grid.specs.declared.Window.{Window};
 ghost use Rattle.racks.specs.Areas.{sharesArea};
 ghost use Rattle.racks.specs.Members.{any};
 ghost use Rattle.racks.specs.Pairs.{overlapAt, share, above, Met, Compares, Crowd};
-ghost use Rattle.racks.specs.Racks.{Holds};
+ghost use Rattle.racks.specs.Racks.{Carries};
 use grid::Window;
 
 // The number at a place without a strip: one past the table's end, so that a strip has nothing in common with it.
@@ -49,7 +49,7 @@ fn overlap(a: i16, b: i16, x: i16, y: i16) -> i16
 pub fn put(rack: &mut [i16; 288], n: usize, w: Window)
     requires { ⌜ n < 64 ⌝ }
     requires { ⌜ WindowOnTable w ⌝ }
-    ensures { λ _. ⌜ ((ws : List Window) → n ≡ length ws → Holds (now (rack .entry)) ws → Holds (now (rack .exit)) (w ∷ ws)) ⌝ }
+    ensures { λ _. ⌜ ((ws : List Window) → n ≡ length ws → Carries (now (rack .entry)) ws → Carries (now (rack .exit)) (w ∷ ws)) ⌝ }
 {
     let left = w.left as i16;
     let bottom = w.bottom as i16;
@@ -61,12 +61,12 @@ pub fn put(rack: &mut [i16; 288], n: usize, w: Window)
     rack[216 + n] = top;
 }
 
-// Whether w shares area with one of the n strips of a rack. The lesser of the width and the height that they have in common is then above 0; the most of
-// it is sought, at sixteen places at a time, vacant ones among them.
+// Whether w shares area with one of the n strips of a rack: the lesser of the width and the height that they have in common is then above 0. The most
+// of it is sought. The compiler takes sixteen places together, so that the loop ends at a multiple of sixteen, vacant places among them.
 pub fn shares(rack: &[i16; 288], n: usize, w: Window) -> bool
-    requires { ⌜ ((ws : List Window) × (n ≡ length ws) × Holds (now rack) ws) ⌝ }
+    requires { ⌜ ((ws : List Window) × (n ≡ length ws) × Carries (now rack) ws) ⌝ }
     requires { ⌜ WindowOnTable w ⌝ }
-    ensures { λ r. ⌜ ((ws : List Window) → n ≡ length ws → Holds (now (rack .entry)) ws → r ≡ any (sharesArea w) ws) ⌝ }
+    ensures { λ r. ⌜ ((ws : List Window) → n ≡ length ws → Carries (now (rack .entry)) ws → r ≡ any (sharesArea w) ws) ⌝ }
 {
     let left = w.left as i16;
     let bottom = w.bottom as i16;
@@ -102,7 +102,7 @@ fn overlap_at(rack: &[i16; 288], row: usize, p: usize, q: usize) -> i16
 
 // The lesser of the width and the height that the strips at two places have in common: above 0 where they share area.
 fn in_common(rack: &[i16; 288], p: usize, q: usize) -> i16
-    requires { ⌜ ((ws : List Window) × Holds (now rack) ws) ⌝ }
+    requires { ⌜ ((ws : List Window) × Carries (now rack) ws) ⌝ }
     requires { ⌜ p < q ⌝ }
     requires { ⌜ q < 72 ⌝ }
     ensures { λ r. ⌜ ltZ (pos 0) r ≡ share (now (rack .entry)) p q ⌝ }
@@ -114,7 +114,7 @@ fn in_common(rack: &[i16; 288], p: usize, q: usize) -> i16
 
 // Compares eight strips, from the place i on, with the eight from the place j on, each with one. The most that was found for each so far is kept.
 fn compare_eight(rack: &[i16; 288], i: usize, j: usize, most: [i16; 8]) -> [i16; 8]
-    requires { ⌜ ((ws : List Window) × Holds (now rack) ws) ⌝ }
+    requires { ⌜ ((ws : List Window) × Carries (now rack) ws) ⌝ }
     requires { ⌜ i < j ⌝ }
     requires { ⌜ j < 65 ⌝ }
     ensures { λ r. ⌜ Compares (now (rack .entry)) (Met i j (j + 1)) most r ⌝ }
@@ -130,7 +130,7 @@ fn compare_eight(rack: &[i16; 288], i: usize, j: usize, most: [i16; 8]) -> [i16;
 
 // The same with the eight from j on, then from j + 1 on and so to j + 7. They are written out, since the compiler makes slower code of a loop.
 fn compare_on(rack: &[i16; 288], i: usize, j: usize, most: [i16; 8]) -> [i16; 8]
-    requires { ⌜ ((ws : List Window) × Holds (now rack) ws) ⌝ }
+    requires { ⌜ ((ws : List Window) × Carries (now rack) ws) ⌝ }
     requires { ⌜ i < j ⌝ }
     requires { ⌜ j < 58 ⌝ }
     ensures { λ r. ⌜ Compares (now (rack .entry)) (Met i j (j + 8)) most r ⌝ }
@@ -150,8 +150,8 @@ fn compare_on(rack: &[i16; 288], i: usize, j: usize, most: [i16; 8]) -> [i16; 8]
 fn compare_behind(rack: &[i16; 288], i: usize, most: [i16; 8]) -> [i16; 8]
     requires { ⌜ i % 8 ≡ 0 ⌝ }
     requires { ⌜ i < 64 ⌝ }
-    requires { ⌜ ((ws : List Window) × Holds (now rack) ws) ⌝ }
-    ensures { λ r. ⌜ ((ws : List Window) → Holds (now (rack .entry)) ws → Compares (now (rack .entry)) (Met i (i + 1) (length ws)) most r) ⌝ }
+    requires { ⌜ ((ws : List Window) × Carries (now rack) ws) ⌝ }
+    ensures { λ r. ⌜ ((ws : List Window) → Carries (now (rack .entry)) ws → Compares (now (rack .entry)) (Met i (i + 1) (length ws)) most r) ⌝ }
 {
     let mut found = most;
     let mut j = i + 1;
@@ -179,7 +179,7 @@ fn any_above(numbers: [i16; 8]) -> bool
 // Whether two of the n strips of a rack share area. Eight strips are compared with the eight that begin one place behind, two places and so on, each
 // with one, so that every two strips meet once.
 pub fn crowded(rack: &[i16; 288], n: usize) -> bool
-    requires { ⌜ ((ws : List Window) × (n ≡ length ws) × Holds (now rack) ws) ⌝ }
+    requires { ⌜ ((ws : List Window) × (n ≡ length ws) × Carries (now rack) ws) ⌝ }
     ensures { λ r. ⌜ Crowd (now (rack .entry)) n r ⌝ }
 {
     let mut most = [0i16; 8];

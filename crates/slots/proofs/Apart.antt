@@ -14,7 +14,7 @@ use Rattle.racks.specs.Members.{any}
 use Rattle.racks.specs.Pairs.{share, Crowd}
 use Rattle.racks.specs.Racks.{stripAt, stripsOn}
 use Rattle.racks.proofs.Common.{turned}
-use Rattle.slots.specs.Slots.{apart}
+use Rattle.slots.specs.Slots.{noTwoShare}
 
 module _ (rack : List ℤ) where
   -- ---- a test of the strips at the first places
@@ -36,18 +36,18 @@ module _ (rack : List ℤ) where
       or-true false = refl
 
   -- ---- pairs of places
-  apart-on : (n : ℕ) → ((p q : ℕ) → p < q → q < n → share rack p q ≡ false) → apart (stripsOn rack n) ≡ true
-  unfolding apart stripsOn
+  apart-on : (n : ℕ) → ((p q : ℕ) → p < q → q < n → share rack p q ≡ false) → noTwoShare (stripsOn rack n) ≡ true
+  unfolding noTwoShare stripsOn
   apart-on zero h = refl
   apart-on (suc n) h =
       let clear = none-passes (sharesArea (stripAt rack n)) n (λ j l. turned (stripAt rack n) (stripAt rack j) ∙ h j n l (omega arith)) in
       λ i. not (clear i) && apart-on n (λ p q l m. h p q l (omega arith)) i
 
-  apart-not : (n p q : ℕ) → p < q → q < n → share rack p q ≡ true → apart (stripsOn rack n) ≡ false
-  unfolding apart stripsOn
+  apart-not : (n p q : ℕ) → p < q → q < n → share rack p q ≡ true → noTwoShare (stripsOn rack n) ≡ false
+  unfolding noTwoShare stripsOn
   apart-not zero p q l m s = absurd (omega arith)
   apart-not (suc n) p q l m s = ⊎-elim
-      (λ e. ap (λ (b : Bool). not b && apart (stripsOn rack n))
+      (λ e. ap (λ (b : Bool). not b && noTwoShare (stripsOn rack n))
       (one-passes (sharesArea (stripAt rack n)) n p (omega (arith, e))
       (turned (stripAt rack n) (stripAt rack p) ∙ ap (λ (k : ℕ). share rack p k) (sym e) ∙ s)))
       (λ k. ap (λ (b : Bool). not (any (sharesArea (stripAt rack n)) (stripsOn rack n)) && b) (apart-not n p q l k s)
@@ -59,8 +59,8 @@ module _ (rack : List ℤ) where
       and-false false = refl
 
 module _ {rack : List ℤ} {n : ℕ} where
-  pub all-apart : Crowd rack n false → apart (stripsOn rack n) ≡ true
+  pub all-apart : Crowd rack n false → noTwoShare (stripsOn rack n) ≡ true
   all-apart c = apart-on rack n (c .apart refl)
 
-  pub not-apart : Crowd rack n true → apart (stripsOn rack n) ≡ false
+  pub not-apart : Crowd rack n true → noTwoShare (stripsOn rack n) ≡ false
   not-apart c = let s = c .sharing refl in apart-not rack n (s .0) (s .1) (s .2) (s .3) (s .4)

@@ -12,12 +12,12 @@ use Rattle.whole.specs.Choice.{if_then_else_}
 use Rattle.whole.proofs.Comparisons.{ff-tt}
 use Rattle.grid.specs.Refusals.{windowRefusal}
 use Rattle.racks.specs.Members.{all}
-use Rattle.slots.specs.Slots.{Slot, slotsOf, is, inUse, stripsIn, goodMark, goodStrip}
+use Rattle.slots.specs.Slots.{Slot, slotsOf, numberIs, inUse, stripsIn, goodMark, goodStrip}
 use Rattle.slots.specs.Workers.{slotsFrom, eachGood}
 use Rattle.slots.proofs.Places.{slots-count, slots-drop}
 
 -- ---- a mark
-pub is-not : (z : ℤ) (n : ℕ) → (z ≡ pos n → ⊥) → is n z ≡ false
+pub is-not : (z : ℤ) (n : ℕ) → (z ≡ pos n → ⊥) → numberIs n z ≡ false
 is-not (pos m) n h = ne-eqb m n (λ (e : m ≡ n). h (ap pos e))
 is-not (negsuc m) n h = refl
 

@@ -49,7 +49,8 @@ unfolding all lowestFree
 lowest-none [] e = refl
 lowest-none (s ∷ ss) e = go (inUse s) e (lowest-none ss)
   where
-    go : (u : Bool) → u && all inUse ss ≡ true → (all inUse ss ≡ true → lowestFree ss ≡ length ss) → (if u then suc (lowestFree ss) else 0) ≡ length (s ∷ ss)
+    go : (u : Bool) → u && all inUse ss ≡ true → (all inUse ss ≡ true → lowestFree ss ≡ length ss)
+        → (if u then suc (lowestFree ss) else 0) ≡ length (s ∷ ss)
     go true e h = ap suc (h e)
     go false e h = absurd (ff-tt e)
 

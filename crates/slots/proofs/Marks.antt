@@ -10,10 +10,10 @@ use lib.ListN.{length, getD}
 use lib.Signed.{mag}
 use mir.Syntax.{w32}
 use mir.Val.{ofZ}
-use Rattle.slots.specs.Slots.{slotAt, is, inUse, freeSlot}
+use Rattle.slots.specs.Slots.{slotAt, numberIs, inUse, freeSlot}
 use Rattle.slots.proofs.Places.{slot-at}
 
-pub bits-are : (z : ℤ) (n : ℕ) → mag z < 2 ^ 31 → n < 2 ^ 31 → eqb (ofZ w32 z) n ≡ is n z
+pub bits-are : (z : ℤ) (n : ℕ) → mag z < 2 ^ 31 → n < 2 ^ 31 → eqb (ofZ w32 z) n ≡ numberIs n z
 bits-are (pos m) n h k = refl
 bits-are (negsuc m) n h k = ne-eqb (2 ^ 32 - suc m) n (λ (e : 2 ^ 32 - suc m ≡ n). omega arith)
 

@@ -15,8 +15,8 @@ use Rattle.grid.specs.Refusals.{windowRefusal}
 use Rattle.grid.specs.declared.Window.{Window}
 use Rattle.racks.specs.Members.{all}
 use Rattle.racks.specs.Pairs.{Crowd}
-use Rattle.racks.specs.Racks.{stripsOn, Holds}
-use Rattle.slots.specs.Slots.{Slot, slotsOf, stripsIn, apart, slotsGood, isBook}
+use Rattle.racks.specs.Racks.{stripsOn, Carries}
+use Rattle.slots.specs.Slots.{Slot, slotsOf, stripsIn, noTwoShare, slotsGood, isBook}
 use Rattle.slots.specs.Workers.{slotIn, slotsFrom, eachGood, Gathered, OnRack, Finds}
 use Rattle.slots.specs.Workers as workers
 use Rattle.slots.specs.declared.Tested.{Tested}
@@ -63,7 +63,7 @@ module _ (zs : List ℤ) (p : ℕ) (h : p + 5 ≤ length zs) where
       record {
         good = ap eachGood more ∙ free-good here behind m ∙ r .good;
         count = r .count ∙ ap length (sym same);
-        holds = subst (Holds rack) (sym same) (r .holds);
+        holds = subst (Carries rack) (sym same) (r .holds);
       }
 
   -- ---- its strip
@@ -72,20 +72,20 @@ module _ (zs : List ℤ) (p : ℕ) (h : p + 5 ≤ length zs) where
     fails-strip f = ap eachGood more ∙ bad-strip here behind m (subst (λ (v : Window). windowRefusal v .number ≡ 0 → ⊥) e f)
 
     pub passes-used : {n : ℕ} {rack rack′ : List ℤ} → windowRefusal w .number ≡ 0 → Gathered behind n rack
-        → Holds rack′ (w ∷ stripsIn behind) → Gathered (slotsFrom p zs) (n + 1) rack′
+        → Carries rack′ (w ∷ stripsIn behind) → Gathered (slotsFrom p zs) (n + 1) rack′
     passes-used {n} {rack} {rack′} f r put =
         let same : stripsIn (slotsFrom p zs) ≡ w ∷ stripsIn behind =
         ap stripsIn more ∙ used-strips here behind m ∙ ap (λ (v : Window). v ∷ stripsIn behind) (sym e) in
         record {
           good = ap eachGood more ∙ good-use here behind m (subst (λ (v : Window). windowRefusal v .number ≡ 0) e f) (r .good);
           count = omega (arith, r .count, ap length same);
-          holds = subst (Holds rack′) (sym same) put;
+          holds = subst (Carries rack′) (sym same) put;
         }
 
 -- ---- all slots of a table
 module _ (zs : List ℤ) (h : length zs ≡ 320) where
   -- behind the last slot there is none
-  pub starts : {rack : List ℤ} → Holds rack [] → Gathered (slotsFrom 320 zs) 0 rack
+  pub starts : {rack : List ℤ} → Carries rack [] → Gathered (slotsFrom 320 zs) 0 rack
   unfolding stripsIn all slotsOf
   starts {rack} r =
       let none : slotsFrom 320 zs ≡ [] = ap slotsOf (drop-of-length-le zs {i = 320} (omega arith)) in
@@ -111,13 +111,13 @@ module _ (zs : List ℤ) where
     book-by-slots = ap (λ (b : Bool). b && slotsGood (slotsOf zs)) (eq-eqb (length zs) 320 h)
 
     pub not-each : eachGood (slotsOf zs) ≡ false → isBook zs ≡ false
-    not-each f = book-by-slots ∙ ap (λ (b : Bool). b && apart (stripsIn (slotsOf zs))) f
+    not-each f = book-by-slots ∙ ap (λ (b : Bool). b && noTwoShare (stripsIn (slotsOf zs))) f
 
     module _ {n : ℕ} {rack : List ℤ} (g : Gathered (slotsOf zs) n rack) where
-      by-pairs : isBook zs ≡ apart (stripsOn rack n)
+      by-pairs : isBook zs ≡ noTwoShare (stripsOn rack n)
       by-pairs =
-          book-by-slots ∙ ap (λ (b : Bool). b && apart (stripsIn (slotsOf zs))) (g .good)
-          ∙ ap apart (sym (g .holds .are) ∙ ap (stripsOn rack) (sym (g .count)))
+          book-by-slots ∙ ap (λ (b : Bool). b && noTwoShare (stripsIn (slotsOf zs))) (g .good)
+          ∙ ap noTwoShare (sym (g .holds .are) ∙ ap (stripsOn rack) (sym (g .count)))
 
       pub crowded-book : Crowd rack n true → isBook zs ≡ false
       crowded-book c = by-pairs ∙ not-apart c

@@ -4,12 +4,12 @@
 --   slotOf m w        the slot with the mark m and the strip w
 --   freeSlot          a slot that was freed: five zeros
 --   slotAt zs k       the slot k of a table; a free one, where there is none of that number
---   is n z            the whole number z is n
+--   numberIs n z      the whole number z is n
 --   inUse s           the mark of the slot s is 1
 --   stripsIn ss       the strips that are entered: those of the slots in use, in slot order
 --   goodMark s        the mark of the slot s is 0 or 1
 --   goodStrip w       neither 2 nor 3 would refuse the numbers of w
---   apart ws          no two of the strips ws share area
+--   noTwoShare ws     no two of the strips ws share area
 --   slotsGood ss      the marks of the slots ss are good, the strips in use are good, and no two of them share area
 --   isBook zs         the table has 320 numbers, and its slots are good
 --   lowestFree ss     the place of the first slot that is not in use; how many there are, if all are
@@ -48,12 +48,12 @@ freeSlot = slotOf 0 (record { left = pos 0; bottom = pos 0; right = pos 0; top =
 abbrev pub slotAt : List ℤ → ℕ → Slot
 slotAt zs k = getD (slotsOf zs) k freeSlot
 
-abbrev pub is : ℕ → ℤ → Bool
-is n (pos m) = eqb m n
-is n (negsuc m) = false
+abbrev pub numberIs : ℕ → ℤ → Bool
+numberIs n (pos m) = eqb m n
+numberIs n (negsuc m) = false
 
 abbrev pub inUse : Slot → Bool
-inUse s = is 1 (s .mark)
+inUse s = numberIs 1 (s .mark)
 
 unfoldable pub stripsIn : List Slot → List Window
 stripsIn [] = []
@@ -62,17 +62,17 @@ stripsIn (s ∷ ss) = if inUse s then s .strip ∷ stripsIn ss else stripsIn ss
 -- ---- a book
 
 abbrev pub goodMark : Slot → Bool
-goodMark s = is 0 (s .mark) || is 1 (s .mark)
+goodMark s = numberIs 0 (s .mark) || numberIs 1 (s .mark)
 
 abbrev pub goodStrip : Window → Bool
 goodStrip w = eqb (windowRefusal w .number) 0
 
-unfoldable pub apart : List Window → Bool
-apart [] = true
-apart (w ∷ ws) = not (any (sharesArea w) ws) && apart ws
+unfoldable pub noTwoShare : List Window → Bool
+noTwoShare [] = true
+noTwoShare (w ∷ ws) = not (any (sharesArea w) ws) && noTwoShare ws
 
 abbrev pub slotsGood : List Slot → Bool
-slotsGood ss = all goodMark ss && all goodStrip (stripsIn ss) && apart (stripsIn ss)
+slotsGood ss = all goodMark ss && all goodStrip (stripsIn ss) && noTwoShare (stripsIn ss)
 
 unfoldable pub isBook : List ℤ → Bool
 isBook zs = eqb (length zs) 320 && slotsGood (slotsOf zs)

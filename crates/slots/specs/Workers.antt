@@ -15,7 +15,7 @@ use lib.IntN.{ℤ, pos}
 use lib.ListN.{length, drop, getD}
 use Rattle.grid.specs.declared.Window.{Window}
 use Rattle.racks.specs.Members.{all}
-use Rattle.racks.specs.Racks.{Holds}
+use Rattle.racks.specs.Racks.{Carries}
 use Rattle.slots.specs.declared.Tested.{Tested}
 use Rattle.slots.specs.declared.Tested.the-variants as Tested
 use Rattle.slots.specs.Slots.{Slot, slotsOf, stripsIn, goodMark, goodStrip, slotsGood, isBook}
@@ -36,12 +36,12 @@ eachGood ss = all goodMark ss && all goodStrip (stripsIn ss)
 pub record Gathered (ss : List Slot) (n : ℕ) (rack : List ℤ) : Type 0 where
   pub good : eachGood ss ≡ true
   pub count : n ≡ length (stripsIn ss)
-  pub holds : Holds rack (stripsIn ss)
+  pub holds : Carries rack (stripsIn ss)
 
 pub record OnRack (ss : List Slot) (n : ℕ) (rack : List ℤ) : Type 0 where
   pub good : slotsGood ss ≡ true
   pub count : n ≡ length (stripsIn ss)
-  pub holds : Holds rack (stripsIn ss)
+  pub holds : Carries rack (stripsIn ss)
 
 pub data Finds (Bad : Type 0) (Fine : ℕ → Type 0) : Tested → Type 0 where
   faulty : Bad → Finds Bad Fine Tested.Faulty

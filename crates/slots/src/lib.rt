@@ -4,7 +4,7 @@ ghost use mathlib.Core.List.{[]};
 ghost use Prim.Native.Nat.{_+_, _*_, _≤_, _<_};
 ghost use lib.ListN.{length};
 ghost use lib.Seq.{sets, slice};
-ghost use Rattle.racks.specs.Racks.{Holds};
+ghost use Rattle.racks.specs.Racks.{Carries};
 ghost use Rattle.slots.specs.Slots.{slotsOf, slotOf, slotAt, inUse, lowestFree, slotNumbers};
 ghost use Rattle.slots.specs.Workers.{stripIn, slotsFrom, Gathered, Gathers, BookTest};
 use grid::Window;
@@ -54,7 +54,7 @@ fn gather_slot(book: &[i32], p: usize, rack: &mut [i16; 288], n: usize) -> Teste
 // Tests the marks and the strips of all slots, from the last to the first, and puts the strips on a rack, on which there is none before.
 fn gather(book: &[i32], rack: &mut [i16; 288]) -> Tested
     requires { ⌜ length (now book) ≡ 320 ⌝ }
-    requires { ⌜ Holds (now rack) [] ⌝ }
+    requires { ⌜ Carries (now rack) [] ⌝ }
     ensures { λ r. ⌜ Gathers (slotsOf (now (book .entry))) r (now (rack .exit)) ⌝ }
 {
     let mut n = 0;
@@ -75,7 +75,7 @@ fn gather(book: &[i32], rack: &mut [i16; 288]) -> Tested
 
 // Whether a table is a book, and then its strips on a rack, on which there is none before.
 pub fn test_book(book: &[i32], rack: &mut [i16; 288]) -> Tested
-    requires { ⌜ Holds (now rack) [] ⌝ }
+    requires { ⌜ Carries (now rack) [] ⌝ }
     ensures { λ r. ⌜ BookTest (now (book .entry)) r (now (rack .exit)) ⌝ }
 {
     if book.len() != 320 {

@@ -23,7 +23,8 @@ use Rattle.slots.specs.Slots.{Slot, slotsOf, stripsIn, inUse, slotsGood, isBook
 use Rattle.slots.proofs.Good.{strips-full, full-strips}
 use Rattle.slots.proofs.Lowest.{free-among}
 use Rattle.slots.proofs.Places.{slots-count}
-use Rattle.strip_book.specs.Books.{noBook, stripTaken, bookFull, slotNotInUse, tableRefusal, clash, full, usedAt, slotRefusal, bookingRefusal, releaseRefusal}
+use Rattle.strip_book.specs.Books.{noBook, stripTaken, bookFull, slotNotInUse}
+use Rattle.strip_book.specs.Books.{tableRefusal, clash, noneFree, usedAt, slotRefusal, bookingRefusal, releaseRefusal}
 
 -- ---- a book
 pub book-long : (zs : List ℤ) → isBook zs ≡ true → length zs ≡ 320
@@ -71,11 +72,11 @@ module _ (w : Window) (zs : List ℤ) where
 
       module _ (c : any (sharesArea w) (stripsIn (slotsOf zs)) ≡ false) where
         pub refuses-full : all inUse (slotsOf zs) ≡ true → bookingRefusal w zs ≡ refuse bookFull 0
-        unfolding bookingRefusal tableRefusal clash full first
+        unfolding bookingRefusal tableRefusal clash noneFree first
         refuses-full e = rw (b, f, c, e)
 
         pub books : all inUse (slotsOf zs) ≡ false → bookingRefusal w zs .number ≡ 0
-        unfolding bookingRefusal tableRefusal clash full first
+        unfolding bookingRefusal tableRefusal clash noneFree first
         books e = rw (b, f, c, e)
 
 -- ---- what releasing refuses

@@ -2,7 +2,7 @@
 --   noBook, stripTaken, bookFull, slotNotInUse   the numbers of the book's own refusals; the place of each is 0
 --   tableRefusal zs        23 where the table zs is no book
 --   clash w zs             16 where an entered strip shares area with w
---   full zs                17 where all slots are taken
+--   noneFree zs            17 where all slots are in use
 --   usedAt ss z            the slot z is one of ss, and in use
 --   slotRefusal z zs       18 where the slot z is not in use, or there is none of that number
 --   bookingRefusal w zs    what booking refuses: 23, 2, 3, 16, then 17
@@ -40,10 +40,10 @@ abbrev pub stripTaken : ℕ
 stripTaken = 16  --        an entered strip shares area with the new one
 
 abbrev pub bookFull : ℕ
-bookFull = 17  --          all 64 slots are taken
+bookFull = 17  --          all 64 slots are in use
 
 abbrev pub slotNotInUse : ℕ
-slotNotInUse = 18  --          the slot is not in use or not in 0 to 63
+slotNotInUse = 18  --      the slot is not in use or not in 0 to 63
 
 -- ---- refusals
 
@@ -53,8 +53,8 @@ tableRefusal zs = if isBook zs then none else refuse noBook 0
 unfoldable pub clash : Window → List ℤ → Refusal
 clash w zs = if any (sharesArea w) (stripsIn (slotsOf zs)) then refuse stripTaken 0 else none
 
-unfoldable pub full : List ℤ → Refusal
-full zs = if all inUse (slotsOf zs) then refuse bookFull 0 else none
+unfoldable pub noneFree : List ℤ → Refusal
+noneFree zs = if all inUse (slotsOf zs) then refuse bookFull 0 else none
 
 abbrev pub usedAt : List Slot → ℤ → Bool
 usedAt ss (pos k) = inUse (getD ss k freeSlot)
@@ -64,7 +64,7 @@ unfoldable pub slotRefusal : ℤ → List ℤ → Refusal
 slotRefusal z zs = if usedAt (slotsOf zs) z then none else refuse slotNotInUse 0
 
 unfoldable pub bookingRefusal : Window → List ℤ → Refusal
-bookingRefusal w zs = first (tableRefusal zs ∷ windowRefusal w ∷ clash w zs ∷ full zs ∷ [])
+bookingRefusal w zs = first (tableRefusal zs ∷ windowRefusal w ∷ clash w zs ∷ noneFree zs ∷ [])
 
 unfoldable pub releaseRefusal : ℤ → List ℤ → Refusal
 releaseRefusal z zs = first (tableRefusal zs ∷ slotRefusal z zs ∷ [])

@@ -2,7 +2,6 @@
 use mathlib.Core.Path.{_≡_}
 use mathlib.Core.List.{List}
 use Prim.Native.Nat.{ℕ}
-use native.Mathlib.Omega.{arith}
 use denote.Ref.{now}
 use Rattle.words.specs.Words.{numeral, unsigned}
 use Rattle.arguments.specs.Arguments.{firstWord, behindFirst, Numbers}

@@ -1,4 +1,4 @@
--- `slots::lowest_free` meets its contract: all slots from the first up to k are in use, so the lowest free one is the lowest from k on. Assumes nothing.
+-- `slots::lowest_free` meets its contract: the slots up to k are in use, so the lowest free one is the lowest from k on. Assumes nothing.
 use mathlib.Core.Path.{_≡_, refl, sym, _∙_}
 use Prim.Native.Nat.{_+_, _-_, _*_, _≤_}
 use native.Mathlib.Omega.{arith}
@@ -63,7 +63,8 @@ loop-again c =
 returns-2 : tie.Need-returns-2 Inv-loop μ-loop
 returns-2 c =
     let l = c .before in
-    omega (arith, l .loop .inv .1, free-none (now (l .before .args .book)) (l .loop .k) (l .before .args .to) (l .before .pre .1 .1) (l .before .pre .1 .0) (c .loop-test .left))
+    let a = l .before in
+    omega (arith, l .loop .inv .1, free-none (now (a .args .book)) (l .loop .k) (a .args .to) (a .pre .1 .1) (a .pre .1 .0) (c .loop-test .left))
 
 pub lowest-free-spec : {M : Type 1} → statement M
 lowest-free-spec =

@@ -22,7 +22,8 @@ use Rattle.racks.proofs.Holding.{vacant-holds}
 use Rattle.slots.specs.Slots.{slotsOf, stripsIn, inUse, isBook, lowestFree, slotOf, slotNumbers}
 use Rattle.slots.proofs.Testing.{found-faulty, found-good}
 use Rattle.strip_book.specs.declared.BookingAnswer.{BookingAnswer}
-use Rattle.strip_book.proofs.Refusing.{book-long, lowest-of-all, all-used, not-all-used, refuses-table, refuses-window, refuses-clash, refuses-full, books}
+use Rattle.strip_book.proofs.Refusing.{book-long, lowest-of-all, all-used, not-all-used}
+use Rattle.strip_book.proofs.Refusing.{refuses-table, refuses-window, refuses-clash, refuses-full, books}
 use Rattle.strip_book.proofs.book_strip.Statement.{statement}
 use Rattle.strip_book.proofs.book_strip.Tie as tie
 
@@ -49,7 +50,9 @@ returns c =
     let b = c .before .before .before .before in
     let a = b .before .before .before in
     rw (c .refused-booking .ensures, c .before .refused .ensures)
-    (lent-refused (refuses-table (a .args .w) (now (a .args .book)) (found-faulty (c .before .before .enum-told .given .1) (b .test-book .ensures))) (λ e. omega arith))
+    (lent-refused
+    (refuses-table (a .args .w) (now (a .args .book)) (found-faulty (c .before .before .enum-told .given .1) (b .test-book .ensures)))
+    (λ e. omega arith))
 
 -- ---- it is a book
 abbrev book : tie.After-known-told → List ℤ
@@ -77,9 +80,10 @@ returns-2 : tie.Need-returns-2
 returns-2 c =
     let b = c .before in
     let t = b .before .before in
+    let k = t .before in
     let e = t .window-refusal .ensures in
     rw (c .refused-booking2 .ensures)
-    (lent-refused (refuses-window (window (t .before)) (book (t .before)) (sound (t .before)) (subst (λ (r : Refusal). r .number ≡ 0 → ⊥) e (b .if1 .taken)) ∙ sym e)
+    (lent-refused (refuses-window (window k) (book k) (sound k) (subst (λ (r : Refusal). r .number ≡ 0 → ⊥) e (b .if1 .taken)) ∙ sym e)
     (b .if1 .taken))
 
 -- ---- and a window
@@ -118,7 +122,8 @@ returns-3 c =
     (lent-refused (refuses-clash (window k) (book k) (sound k) (fine e) (sym (shared s) ∙ c .before .before .if2 .taken)) (λ e. omega arith))
 
 -- ---- and free
-clear : (c : tie.Else2) → let k = c .before .before .before .before .before .before in any (sharesArea (window k)) (stripsIn (slotsOf (book k))) ≡ false
+clear : (c : tie.Else2) → let k = c .before .before .before .before .before .before in
+    any (sharesArea (window k)) (stripsIn (slotsOf (book k))) ≡ false
 clear c = sym (shared (c .before)) ∙ c .if2 .left
 
 refused-requires-3 : tie.Need-refused-requires-3

@@ -44,7 +44,9 @@ returns c =
     let b = c .before .before .before in
     let a = b .before .before .before in
     rw (c .release-answer .ensures)
-    (lent-refused (refuses-release (a .args .slot) (now (a .args .book)) (found-faulty (c .before .enum-told .given .1) (b .test-book .ensures))) (λ e. omega arith))
+    (lent-refused
+    (refuses-release (a .args .slot) (now (a .args .book)) (found-faulty (c .before .enum-told .given .1) (b .test-book .ensures)))
+    (λ e. omega arith))
 
 -- ---- it is a book
 abbrev book : tie.After-known-told → List ℤ
@@ -93,7 +95,9 @@ cast-put : tie.Need-cast-put
 cast-put c = cast-unsigned w32 (fits (c .before .before .before .before)) (there (c .before) .0) w64 (omega (arith, there (c .before) .1))
 
 put-requires : tie.Need-put-requires
-put-requires c κs = omega (arith, there (c .before) .1, long (c .before .before .before .before), ap natAbs (toZ-ofZ (fits (c .before .before .before .before))))
+put-requires c κs =
+    let k = c .before .before .before .before in
+    omega (arith, there (c .before) .1, long k, ap natAbs (toZ-ofZ (fits k)))
 
 release-answer-requires-3 : tie.Need-release-answer-requires-3
 release-answer-requires-3 c κs = search needs

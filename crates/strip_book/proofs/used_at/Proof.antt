@@ -14,7 +14,9 @@ use Rattle.strip_book.proofs.used_at.Statement.{statement}
 use Rattle.strip_book.proofs.used_at.Tie as tie
 
 returns : tie.Need-returns
-returns c = let a = c .before in sym (none-below (slotsOf (now (a .args .book))) (a .args .slot) (lt-taken w32 (a .fits .slot) (sfits-lit {z = pos 0} tt) (c .if1 .taken)))
+returns c =
+    let a = c .before in
+    sym (none-below (slotsOf (now (a .args .book))) (a .args .slot) (lt-taken w32 (a .fits .slot) (sfits-lit {z = pos 0} tt) (c .if1 .taken)))
 
 returns-2 : tie.Need-returns-2
 returns-2 c =
