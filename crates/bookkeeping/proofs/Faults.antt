@@ -37,7 +37,8 @@ is-number n (negsuc m) e = absurd (ff-tt e)
 good-marked : (s : Slot) → goodMark s ≡ true → (s .mark ≡ pos 0 → ⊥) → (s .mark ≡ pos 1 → ⊥) → ⊥
 good-marked s = go (numberIs 0 (s .mark)) (numberIs 1 (s .mark)) refl refl
   where
-    go : (a b : Bool) → numberIs 0 (s .mark) ≡ a → numberIs 1 (s .mark) ≡ b → (a || b) ≡ true → (s .mark ≡ pos 0 → ⊥) → (s .mark ≡ pos 1 → ⊥) → ⊥
+    go : (a b : Bool) → numberIs 0 (s .mark) ≡ a → numberIs 1 (s .mark) ≡ b → (a || b) ≡ true
+        → (s .mark ≡ pos 0 → ⊥) → (s .mark ≡ pos 1 → ⊥) → ⊥
     go true b p q e f g = f (is-number 0 (s .mark) p)
     go false b p q e f g = g (is-number 1 (s .mark) (q ∙ e))
 

@@ -32,7 +32,8 @@ use Rattle.bookkeeping.proofs.Good.{Good, good-slots, slots-good, no-st
 
 -- ---- a call is done, or refuses
 pub lent-by : {A M G : Type 0} {blank : Refusal → A} {r : Refusal} {Done : A → M → M → Type 0} {a : A} {before after : M}
-    → Lent blank r Done a before after → (r .number ≡ 0 → Done a before after → G) → ((r .number ≡ 0 → ⊥) → Refused blank r a before after → G) → G
+    → Lent blank r Done a before after → (r .number ≡ 0 → Done a before after → G)
+    → ((r .number ≡ 0 → ⊥) → Refused blank r a before after → G) → G
 lent-by {G} {r} p f g = go (eqb (r .number) 0) refl
   where
     go : (t : Bool) → eqb (r .number) 0 ≡ t → G

@@ -63,8 +63,8 @@ struckOut z (e ∷ es) = if numberIs (e .number) z then es else e ∷ struckOut 
 unfoldable pub refusalToBook : Window → List Entry → Refusal
 refusalToBook w es =
     let shared = if any (sharesArea w) (strips es) then refuse stripTaken 0 else none in
-    let noneFree = if eqb (length es) 64 then refuse bookFull 0 else none in
-    first (windowRefusal w ∷ shared ∷ noneFree ∷ [])
+    let full = if eqb (length es) 64 then refuse bookFull 0 else none in
+    first (windowRefusal w ∷ shared ∷ full ∷ [])
 
 unfoldable pub answerBooking : Window → List Entry → BookingAnswer
 answerBooking w es = let r = refusalToBook w es in if eqb (r .number) 0 then bookedIn (firstMissing 0 es) else refusedBooking r
