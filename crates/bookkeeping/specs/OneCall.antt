@@ -1,33 +1,49 @@
 -- Laws of one call, whatever table it is made on: when exactly it answers each of the book's own refusals, told by the numbers of slots, and what it
--- does where it is done. NoBookExactly is proved in proofs/Faults.antt, the others in proofs/OneCall.antt.
+-- does where it is done. UnknownRenterExactly and NoBookExactly are proved in proofs/Faults.antt, the others in proofs/OneCall.antt.
+--   slotIs renter k zs    the slot k of the renter in a table
+--   UnknownRenterExactly  a call answers 19 exactly when the renter is neither 0 nor 1
 --   NotABook zs           the four faults of a table, in the words of the rules
---   NoBookExactly         a call answers 23 exactly when the table has one of them
---   SharingSlot w zs      a slot in use that holds a strip that shares area with w
---   StripTakenExactly     on a book, a booking that neither 2 nor 3 refuses answers 16 exactly when there is one
---   BookFullExactly       where there is none, it answers 17 exactly when all 64 slots are in use
---   SlotInUse z zs        a slot in use that has the number z
+--   NoBookExactly         a call of a renter answers 23 exactly when the table has one of them
+--   SharingSlot w zs      a slot in use, of either renter, that holds a strip that shares area with w
+--   HalfFullExactly       on a book, a booking that neither 2 nor 3 refuses answers 17 exactly when all 32 slots of the renter are in use
+--   StripTakenExactly     where one of them is free, it answers 16 exactly when there is a sharing slot
+--   SaysNoMore            16 is the whole answer: place and slot are 0, whichever strip it is that shares area
+--   SlotInUse renter z zs   a slot in use that has the number z among the renter's
 --   SlotNotInUseExactly   on a book, a release answers 18 exactly when there is none
---   TakesLowest w a before after   the booking got a slot that was free, all below being in use; its strip is there, the other slots are as they were
+--   NoRoomExactly         on a book, a listing answers 8 exactly when the output has less than five numbers for each of the renter's strips
+--   TakesLowest renter w a before after   the booking got a slot of the renter that was free, all his below being in use; its strip is there, the
+--                         other slots, also those of the other renter, are as they were
 --   LowestFreeSlot        so it is with each booking that is done
---   SlotFreed z before after       there was a slot in use with the number z; it holds five zeros, the other slots are as they were
+--   SlotFreed renter z before after       there was a slot in use with the number z among the renter's; it holds five zeros, the other slots are as
+--                         they were
 --   FreesTheSlot          so it is with each release that is done
 use mathlib.Core.Path.{_≡_}
 use mathlib.Core.Bool.{true, false}
 use mathlib.Core.List.{List}
 use mathlib.Core.Logic.{_↔_}
-use Prim.Native.Nat.{ℕ, _<_}
+use Prim.Native.Nat.{ℕ, _+_, _*_, _<_}
 use lib.IntN.{ℤ, pos}
 use lib.ListN.{length}
-use Rattle.grid.specs.Refusals.{windowRefusal}
+use Rattle.grid.specs.Refusals.{refuse, windowRefusal, noRoom}
+use Rattle.grid.specs.declared.Answer.{Answer}
 use Rattle.grid.specs.declared.Window.{Window}
 use Rattle.racks.specs.Areas.{sharesArea}
-use Rattle.slots.specs.Slots.{slotOf, freeSlot, slotAt, inUse, isBook}
-use Rattle.strip_book.specs.Books.{noBook, stripTaken, bookFull, slotNotInUse, bookedIn, BookStrip, ReleaseSlot}
+use Rattle.slots.specs.Slots.{Slot, slotOf, freeSlot, slotAt, inUse, stripsIn, isBook}
+use Rattle.strip_book.specs.Books.{unknownRenter, noBook, halfFull, stripTaken, slotNotInUse, refusedBooking, bookedIn, BookStrip, ReleaseSlot}
+use Rattle.strip_book.specs.Renters.{isRenter, firstSlot, half}
 use Rattle.strip_book.specs.declared.BookingAnswer.{BookingAnswer}
 use Rattle.strip_book.specs.declared.ReleaseAnswer.{ReleaseAnswer}
-use Rattle.bookkeeping.specs.Runs.{Event, numberAnswered, InBook}
+use Rattle.own_strips.specs.OwnStrips.{ListStrips}
+use Rattle.bookkeeping.specs.Runs.{Event, renterOf, numberAnswered, InBook}
 
--- ---- 23
+abbrev pub slotIs : ℤ → ℕ → List ℤ → Slot
+slotIs renter k zs = slotAt zs (firstSlot renter + k)
+
+-- ---- 19, then 23
+
+abbrev pub UnknownRenterExactly : Type 0
+UnknownRenterExactly = (e : Event) (before after : List ℤ) → InBook before e after
+    → (numberAnswered e ≡ unknownRenter) ↔ ((renterOf e ≡ pos 0 → ⊥) × (renterOf e ≡ pos 1 → ⊥))
 
 pub data NotABook (zs : List ℤ) : Type 0 where
   another-length : (length zs ≡ 320 → ⊥) → NotABook zs
@@ -37,9 +53,10 @@ pub data NotABook (zs : List ℤ) : Type 0 where
       → sharesArea (slotAt zs j .strip) (slotAt zs k .strip) ≡ true → NotABook zs
 
 abbrev pub NoBookExactly : Type 0
-NoBookExactly = (e : Event) (before after : List ℤ) → InBook before e after → (numberAnswered e ≡ noBook) ↔ NotABook before
+NoBookExactly = (e : Event) (before after : List ℤ) → InBook before e after → isRenter (renterOf e) ≡ true
+    → (numberAnswered e ≡ noBook) ↔ NotABook before
 
--- ---- 16, then 17
+-- ---- 17, then 16
 
 pub record SharingSlot (w : Window) (zs : List ℤ) : Type 0 where
   pub slot : ℕ
@@ -47,47 +64,61 @@ pub record SharingSlot (w : Window) (zs : List ℤ) : Type 0 where
   pub used : inUse (slotAt zs slot) ≡ true
   pub shares : sharesArea w (slotAt zs slot .strip) ≡ true
 
+abbrev pub HalfFullExactly : Type 0
+HalfFullExactly = (renter : ℤ) (w : Window) (a : BookingAnswer) (before after : List ℤ) → BookStrip renter w a before after
+    → isRenter renter ≡ true → isBook before ≡ true → windowRefusal w .number ≡ 0
+    → (a .number ≡ halfFull) ↔ ((k : ℕ) → k < 32 → inUse (slotIs renter k before) ≡ true)
+
 abbrev pub StripTakenExactly : Type 0
-StripTakenExactly = (w : Window) (a : BookingAnswer) (before after : List ℤ) → BookStrip w a before after
-    → isBook before ≡ true → windowRefusal w .number ≡ 0
+StripTakenExactly = (renter : ℤ) (w : Window) (a : BookingAnswer) (before after : List ℤ) → BookStrip renter w a before after
+    → isRenter renter ≡ true → isBook before ≡ true → windowRefusal w .number ≡ 0
+    → (k : ℕ) → k < 32 → inUse (slotIs renter k before) ≡ false
     → (a .number ≡ stripTaken) ↔ SharingSlot w before
 
-abbrev pub BookFullExactly : Type 0
-BookFullExactly = (w : Window) (a : BookingAnswer) (before after : List ℤ) → BookStrip w a before after
-    → isBook before ≡ true → windowRefusal w .number ≡ 0 → (SharingSlot w before → ⊥)
-    → (a .number ≡ bookFull) ↔ ((k : ℕ) → k < 64 → inUse (slotAt before k) ≡ true)
+abbrev pub SaysNoMore : Type 0
+SaysNoMore = (renter : ℤ) (w : Window) (a : BookingAnswer) (before after : List ℤ) → BookStrip renter w a before after
+    → a .number ≡ stripTaken → a ≡ refusedBooking (refuse stripTaken 0)
 
 -- ---- 18
 
-pub record SlotInUse (z : ℤ) (zs : List ℤ) : Type 0 where
+pub record SlotInUse (renter z : ℤ) (zs : List ℤ) : Type 0 where
   pub slot : ℕ
   pub number : z ≡ pos slot
-  pub among : slot < 64
-  pub used : inUse (slotAt zs slot) ≡ true
+  pub among : slot < 32
+  pub used : inUse (slotIs renter slot zs) ≡ true
 
 abbrev pub SlotNotInUseExactly : Type 0
-SlotNotInUseExactly = (z : ℤ) (a : ReleaseAnswer) (before after : List ℤ) → ReleaseSlot z a before after
-    → isBook before ≡ true
-    → (a .number ≡ slotNotInUse) ↔ (SlotInUse z before → ⊥)
+SlotNotInUseExactly = (renter z : ℤ) (a : ReleaseAnswer) (before after : List ℤ) → ReleaseSlot renter z a before after
+    → isRenter renter ≡ true → isBook before ≡ true
+    → (a .number ≡ slotNotInUse) ↔ (SlotInUse renter z before → ⊥)
+
+-- ---- 8
+
+abbrev pub NoRoomExactly : Type 0
+NoRoomExactly = (renter : ℤ) (zs : List ℤ) (a : Answer) (before after : List ℤ) → ListStrips renter zs a before after
+    → isRenter renter ≡ true → isBook zs ≡ true
+    → (a .number ≡ noRoom) ↔ (length before < 5 * length (stripsIn (half renter zs)))
 
 -- ---- what a call that is done does
 
-pub record TakesLowest (w : Window) (a : BookingAnswer) (before after : List ℤ) : Type 0 where
+pub record TakesLowest (renter : ℤ) (w : Window) (a : BookingAnswer) (before after : List ℤ) : Type 0 where
   pub slot : ℕ
   pub answer : a ≡ bookedIn slot
-  pub among : slot < 64
-  pub free : inUse (slotAt before slot) ≡ false
-  pub below : (j : ℕ) → j < slot → inUse (slotAt before j) ≡ true
-  pub holds : slotAt after slot ≡ slotOf 1 w
-  pub others : (j : ℕ) → (j ≡ slot → ⊥) → slotAt after j ≡ slotAt before j
+  pub among : slot < 32
+  pub free : inUse (slotIs renter slot before) ≡ false
+  pub below : (j : ℕ) → j < slot → inUse (slotIs renter j before) ≡ true
+  pub holds : slotIs renter slot after ≡ slotOf 1 w
+  pub others : (j : ℕ) → (j ≡ firstSlot renter + slot → ⊥) → slotAt after j ≡ slotAt before j
 
 abbrev pub LowestFreeSlot : Type 0
-LowestFreeSlot = (w : Window) (a : BookingAnswer) (before after : List ℤ) → BookStrip w a before after → a .number ≡ 0 → TakesLowest w a before after
+LowestFreeSlot = (renter : ℤ) (w : Window) (a : BookingAnswer) (before after : List ℤ) → BookStrip renter w a before after
+    → a .number ≡ 0 → TakesLowest renter w a before after
 
-pub record SlotFreed (z : ℤ) (before after : List ℤ) : Type 0 where
-  pub was : SlotInUse z before
-  pub holds : slotAt after (was .slot) ≡ freeSlot
-  pub others : (j : ℕ) → (j ≡ was .slot → ⊥) → slotAt after j ≡ slotAt before j
+pub record SlotFreed (renter z : ℤ) (before after : List ℤ) : Type 0 where
+  pub was : SlotInUse renter z before
+  pub holds : slotIs renter (was .slot) after ≡ freeSlot
+  pub others : (j : ℕ) → (j ≡ firstSlot renter + was .slot → ⊥) → slotAt after j ≡ slotAt before j
 
 abbrev pub FreesTheSlot : Type 0
-FreesTheSlot = (z : ℤ) (a : ReleaseAnswer) (before after : List ℤ) → ReleaseSlot z a before after → a .number ≡ 0 → SlotFreed z before after
+FreesTheSlot = (renter z : ℤ) (a : ReleaseAnswer) (before after : List ℤ) → ReleaseSlot renter z a before after
+    → a .number ≡ 0 → SlotFreed renter z before after

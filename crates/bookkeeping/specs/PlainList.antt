@@ -1,5 +1,5 @@
--- The book as it would be kept on paper: a list of strips, each with its number. A bookkeeper keeps it in the order of the numbers, since then the
--- first that is missing is seen where two neighbours do not follow each other.
+-- The book as it would be kept on paper: a sheet for each renter, and on it a list of strips, each with its number. A bookkeeper keeps it in the order
+-- of the numbers, since then the first that is missing is seen where two neighbours do not follow each other.
 --   Entry                 a strip and its number;  entry n w: the entry of the strip w with the number n
 --   strips es             the strips of the entries es
 --   RisingFrom n es       the entries es are in the order of their numbers: each is greater than the one before it, and the first is n or more
@@ -7,25 +7,30 @@
 --   entered n w es        es and the strip w with the number n, in the order of the numbers
 --   has z es              an entry has the number z
 --   struckOut z es        es without the entry of the number z; just es, where there is none
---   refusalToBook w es      why the strip w is not entered: 2, 3, 16 where a strip of the list shares area with w, 17 where there are 64
---   answerBooking w es      what one who books w is told: the first missing number, or the refusal
---   afterBooking w es       the list afterwards
---   refusalToRelease z es   why nothing is struck out: 18 where no entry has the number z
---   answerRelease z es      what one who releases z is told; the list afterwards is struckOut z es
+--   listed es             of each entry its number, then its strip's four numbers
+--   Paper                 the two sheets;  blankPaper: with nothing on them
+--   sheet renter p        the renter's own sheet; an empty list, where there is no such renter
+--   onSheet renter es p   the paper with es on the renter's sheet; just p, where there is no such renter
+--   refusalToBook renter w p   why the strip w is not entered: 19, 2, 3, 17 where the renter has 32, 16 where a strip on either sheet shares area with w
+--   answerBooking renter w p   what one who books w is told: the first missing number of the renter's sheet, or the refusal
+--   afterBooking renter w p    the paper afterwards
+--   refusalToRelease renter z p   why nothing is struck out: 19, then 18 where no entry of the renter's sheet has the number z
+--   answerRelease renter z p   what one who releases z is told;  afterRelease renter z p: the paper afterwards
 use mathlib.Core.Bool.{Bool}
-use mathlib.Core.List.{List, [], _∷_, map}
+use mathlib.Core.List.{List, [], _∷_, _++_, map}
 use Prim.Native.Nat.{ℕ, suc, _≤_}
 use lib.Dec.{eqb, ltb}
-use lib.IntN.{ℤ}
+use lib.IntN.{ℤ, pos}
 use lib.ListN.{length}
 use Rattle.whole.specs.Choice.{if_then_else_}
 use Rattle.grid.specs.Refusals.{first, none, refuse, windowRefusal}
+use Rattle.grid.specs.Table.{sides}
 use Rattle.grid.specs.declared.Refusal.{Refusal}
 use Rattle.grid.specs.declared.Window.{Window}
 use Rattle.racks.specs.Areas.{sharesArea}
 use Rattle.racks.specs.Members.{any}
 use Rattle.slots.specs.Slots.{numberIs}
-use Rattle.strip_book.specs.Books.{stripTaken, bookFull, slotNotInUse, refusedBooking, bookedIn, releaseAnswer}
+use Rattle.strip_book.specs.Books.{renterRefusal, halfFull, stripTaken, slotNotInUse, refusedBooking, bookedIn, releaseAnswer}
 use Rattle.strip_book.specs.declared.BookingAnswer.{BookingAnswer}
 use Rattle.strip_book.specs.declared.ReleaseAnswer.{ReleaseAnswer}
 
@@ -58,24 +63,52 @@ unfoldable pub struckOut : ℤ → List Entry → List Entry
 struckOut z [] = []
 struckOut z (e ∷ es) = if numberIs (e .number) z then es else e ∷ struckOut z es
 
+unfoldable pub listed : List Entry → List ℤ
+listed [] = []
+listed (e ∷ es) = pos (e .number) ∷ sides (e .strip) ++ listed es
+
+-- ---- the two sheets
+
+pub record Paper : Type 0 where
+  pub zero's : List Entry
+  pub one's : List Entry
+
+abbrev pub blankPaper : Paper
+blankPaper = record { zero's = []; one's = [] }
+
+unfoldable pub sheet : ℤ → Paper → List Entry
+sheet renter p = if numberIs 0 renter then p .zero's else if numberIs 1 renter then p .one's else []
+
+unfoldable pub onSheet : ℤ → List Entry → Paper → Paper
+onSheet renter es p =
+    if numberIs 0 renter then record { zero's = es; one's = p .one's }
+    else if numberIs 1 renter then record { zero's = p .zero's; one's = es } else p
+
 -- ---- one who books
 
-unfoldable pub refusalToBook : Window → List Entry → Refusal
-refusalToBook w es =
-    let shared = if any (sharesArea w) (strips es) then refuse stripTaken 0 else none in
-    let full = if eqb (length es) 64 then refuse bookFull 0 else none in
-    first (windowRefusal w ∷ shared ∷ full ∷ [])
+unfoldable pub refusalToBook : ℤ → Window → Paper → Refusal
+refusalToBook renter w p =
+    let full = if eqb (length (sheet renter p)) 32 then refuse halfFull 0 else none in
+    let shared = if any (sharesArea w) (strips (p .zero's ++ p .one's)) then refuse stripTaken 0 else none in
+    first (renterRefusal renter ∷ windowRefusal w ∷ full ∷ shared ∷ [])
 
-unfoldable pub answerBooking : Window → List Entry → BookingAnswer
-answerBooking w es = let r = refusalToBook w es in if eqb (r .number) 0 then bookedIn (firstMissing 0 es) else refusedBooking r
+unfoldable pub answerBooking : ℤ → Window → Paper → BookingAnswer
+answerBooking renter w p =
+    let r = refusalToBook renter w p in
+    if eqb (r .number) 0 then bookedIn (firstMissing 0 (sheet renter p)) else refusedBooking r
 
-unfoldable pub afterBooking : Window → List Entry → List Entry
-afterBooking w es = if eqb (refusalToBook w es .number) 0 then entered (firstMissing 0 es) w es else es
+unfoldable pub afterBooking : ℤ → Window → Paper → Paper
+afterBooking renter w p =
+    let own = sheet renter p in
+    if eqb (refusalToBook renter w p .number) 0 then onSheet renter (entered (firstMissing 0 own) w own) p else p
 
 -- ---- one who releases
 
-unfoldable pub refusalToRelease : ℤ → List Entry → Refusal
-refusalToRelease z es = if has z es then none else refuse slotNotInUse 0
+unfoldable pub refusalToRelease : ℤ → ℤ → Paper → Refusal
+refusalToRelease renter z p = first (renterRefusal renter ∷ (if has z (sheet renter p) then none else refuse slotNotInUse 0) ∷ [])
 
-unfoldable pub answerRelease : ℤ → List Entry → ReleaseAnswer
-answerRelease z es = releaseAnswer (refusalToRelease z es)
+unfoldable pub answerRelease : ℤ → ℤ → Paper → ReleaseAnswer
+answerRelease renter z p = releaseAnswer (refusalToRelease renter z p)
+
+unfoldable pub afterRelease : ℤ → ℤ → Paper → Paper
+afterRelease renter z p = onSheet renter (struckOut z (sheet renter p)) p

@@ -16,7 +16,7 @@ pub enum Tested {
 }
 
 // The strip of the slot whose mark stands at the place p.
-fn strip_at(book: &[i32], p: usize) -> Window
+pub fn strip_at(book: &[i32], p: usize) -> Window
     requires { ⌜ p + 5 ≤ length (now book) ⌝ }
     ensures { λ r. ⌜ r ≡ stripIn (now (book .entry)) p ⌝ }
 {

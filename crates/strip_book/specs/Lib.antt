@@ -1,2 +1,3 @@
+pub mod Renters
 pub mod Books
 pub mod Laws

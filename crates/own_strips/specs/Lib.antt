@@ -1,0 +1,2 @@
+pub mod OwnStrips
+pub mod Laws
