@@ -57,12 +57,16 @@ SameHalf = (renter : ℤ) (es es′ : List Event) (book book′ : List ℤ) → 
 
 pub record TakenMayDiffer : Type 0 where
   pub renter : ℤ
-  pub es es′ : List Event
-  pub book book′ : List ℤ
+  pub es : List Event
+  pub es′ : List Event
+  pub book : List ℤ
+  pub book′ : List ℤ
   pub runs : TwoRuns renter es es′ book book′
   pub strip : Window
-  pub a a′ : BookingAnswer
-  pub after after′ : List ℤ
+  pub a : BookingAnswer
+  pub a′ : BookingAnswer
+  pub after : List ℤ
+  pub after′ : List ℤ
   pub one : BookStrip renter strip a book after
   pub other : BookStrip renter strip a′ book′ after′
   pub taken : a .number ≡ stripTaken

@@ -4,7 +4,7 @@ use Rattle.grid.proofs.Calls.{lent-unique}
 use Rattle.strip_book.specs.Laws.{OneBooking, OneRelease}
 
 pub one-booking : OneBooking
-one-booking w a b before after after′ = lent-unique (λ _ p q. (p .answer ∙ sym (q .answer), p .book ∙ sym (q .book)))
+one-booking renter w a b before after after′ = lent-unique (λ _ p q. (p .answer ∙ sym (q .answer), p .book ∙ sym (q .book)))
 
 pub one-release : OneRelease
-one-release z a b before after after′ = lent-unique (λ _ p q. (p .answer ∙ sym (q .answer), p .book ∙ sym (q .book)))
+one-release renter z a b before after after′ = lent-unique (λ _ p q. (p .answer ∙ sym (q .answer), p .book ∙ sym (q .book)))

@@ -76,7 +76,10 @@ pub fn first_slot(renter: i32) -> usize
     requires { ⌜ isRenter renter ≡ true ⌝ }
     ensures { λ r. ⌜ r ≡ firstSlot renter ⌝ }
 {
-    32 * (renter as usize)
+    if renter == 0 {
+        return 0;
+    }
+    32
 }
 
 // Enters a strip in the lowest free slot of the renter's half, unless it shares area with one that is entered in either half.
@@ -97,8 +100,9 @@ pub fn book_strip(book: &mut [i32], renter: i32, w: Window) -> BookingAnswer
         return refused_booking(bad);
     }
     let from = first_slot(renter);
-    let k = slots::lowest_free(book, from, from + 32);
-    if k == from + 32 {
+    let to = from + 32;
+    let k = slots::lowest_free(book, from, to);
+    if k == to {
         return refused_booking(refused(HALF_FULL));
     }
     if racks::shares(&rack, n, w) {
@@ -144,12 +148,13 @@ pub fn release_slot(book: &mut [i32], renter: i32, slot: i32) -> ReleaseAnswer
     if !used_at(book, renter, slot) {
         return release_answer(SLOT_NOT_IN_USE);
     }
+    let k = first_slot(renter) + (slot as usize);
     let nothing = Window {
         left: 0,
         bottom: 0,
         right: 0,
         top: 0,
     };
-    slots::put(book, first_slot(renter) + (slot as usize), 0, nothing);
+    slots::put(book, k, 0, nothing);
     release_answer(0)
 }

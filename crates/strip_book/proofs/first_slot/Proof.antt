@@ -1,20 +1,13 @@
-use borrow.Author.Needs.{needs}
+-- `strip_book::first_slot` meets its contract: of the two renters one is 0, and the other is not. Assumes nothing.
+use Rattle.strip_book.proofs.Halves.{starts-low, starts-high}
 use Rattle.strip_book.proofs.first_slot.Statement.{statement}
 use Rattle.strip_book.proofs.first_slot.Tie as tie
-use Rattle.strip_book.proofs.first_slot.Reads as reads
-use Rattle.strip_book.proofs.first_slot.Lts as lts
 
--- src/lib.rt:79:11
-cast-result : tie.Need-cast-result
-cast-result c = ?
-
--- src/lib.rt:79:5
-mul-result : tie.Need-mul-result
-mul-result c = ?
-
--- src/lib.rt:75:1
 returns : tie.Need-returns
-returns c = search needs
+returns c = let a = c .before in starts-low (a .args .renter) (a .pre) (a .fits .renter) (c .if1 .taken)
+
+returns-2 : tie.Need-returns-2
+returns-2 c = let a = c .before in starts-high (a .args .renter) (a .pre) (a .fits .renter) (c .if1 .left)
 
 pub first-slot-spec : {M : Type 1} → statement M
-first-slot-spec = tie.close (tie.spec cast-result mul-result returns)
+first-slot-spec = tie.close (tie.spec returns returns-2)
