@@ -11,8 +11,9 @@ use Rattle.text.specs.Pages.{ascii, refusal}
 unfoldable pub sentenceFrom12 : ℕ → List ℕ
 sentenceFrom12 n =
     if eqb n 16 then ascii "the strip shares area with one in the book"
-    else if eqb n 17 then ascii "no slot is free for the strip"
-    else if eqb n 18 then ascii "the slot to release is not in use"
+    else if eqb n 17 then ascii "none of the renter's slots is free for the strip"
+    else if eqb n 18 then ascii "the slot to release is not one of the renter's slots in use"
+    else if eqb n 19 then ascii "there is no such renter: they are 0 and 1"
     else if eqb n 23 then ascii "not a strip book, or damaged"
     else ascii "unknown refusal"
 

@@ -50,8 +50,17 @@ fn put_meaning_from_12(page: &mut [u8], at: usize, number: u8) -> usize
 {
     match number {
         16 => text::put(page, at, b"the strip shares area with one in the book"),
-        17 => text::put(page, at, b"no slot is free for the strip"),
-        18 => text::put(page, at, b"the slot to release is not in use"),
+        17 => text::put(
+            page,
+            at,
+            b"none of the renter's slots is free for the strip",
+        ),
+        18 => text::put(
+            page,
+            at,
+            b"the slot to release is not one of the renter's slots in use",
+        ),
+        19 => text::put(page, at, b"there is no such renter: they are 0 and 1"),
         23 => text::put(page, at, b"not a strip book, or damaged"),
         _ => text::put(page, at, b"unknown refusal"),
     }

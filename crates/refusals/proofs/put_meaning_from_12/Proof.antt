@@ -36,6 +36,12 @@ slice-aggregate-put-5 c = search needs
 put-requires-5 : tie.Need-put-requires-5
 put-requires-5 c κs = search needs
 
+slice-aggregate-put-6 : tie.Need-slice-aggregate-put-6
+slice-aggregate-put-6 c = search needs
+
+put-requires-6 : tie.Need-put-requires-6
+put-requires-6 c κs = search needs
+
 same-length : tie.Need-same-length
 same-length c = search needs
 
@@ -69,14 +75,22 @@ same-length-5 c = search needs
 
 returns-5 : tie.Need-returns-5
 unfolding sentenceFrom12
-returns-5 c =
-    let p = c .before .before .put5 .ensures in
+returns-5 c = let p = c .before .before .put5 .ensures in (rw (c .before .before .before .before .before .match .keys5) p, omega (arith, p .ends))
+
+same-length-6 : tie.Need-same-length-6
+same-length-6 c = search needs
+
+returns-6 : tie.Need-returns-6
+unfolding sentenceFrom12
+returns-6 c =
+    let p = c .before .before .put6 .ensures in
     let l = c .before .before .before .before .before .before .before .args .number in
     let n = c .before .before .before .before .before .match .rest in (
       rw (
-        ne-eqb l 16 (n .0 .0 .0 .1),
-        ne-eqb l 17 (n .0 .0 .1),
-        ne-eqb l 18 (n .0 .1),
+        ne-eqb l 16 (n .0 .0 .0 .0 .1),
+        ne-eqb l 17 (n .0 .0 .0 .1),
+        ne-eqb l 18 (n .0 .0 .1),
+        ne-eqb l 19 (n .0 .1),
         ne-eqb l 23 (n .1),
       ) p,
       omega (arith, p .ends),
@@ -96,6 +110,8 @@ put-meaning-from-12-spec =
     put-requires-4
     slice-aggregate-put-5
     put-requires-5
+    slice-aggregate-put-6
+    put-requires-6
     same-length
     returns
     same-length-2
@@ -105,4 +121,6 @@ put-meaning-from-12-spec =
     same-length-4
     returns-4
     same-length-5
-    returns-5)
+    returns-5
+    same-length-6
+    returns-6)
