@@ -81,10 +81,12 @@ enum {
     R(GERLYANTU_BAD_DRAWING, 11, "not a drawing file, or damaged") \
     /* an entered strip shares area with the new one; 0 */ \
     R(GERLYANTU_STRIP_TAKEN, 16, "the strip shares area with one in the book") \
-    /* all 64 slots are in use; 0 */ \
-    R(GERLYANTU_BOOK_FULL, 17, "no slot is free for the strip") \
-    /* the slot to release is not in use, or not in 0 to 63; 0 */ \
-    R(GERLYANTU_SLOT_NOT_IN_USE, 18, "the slot to release is not in use") \
+    /* all 32 slots of the renter are in use; 0 */ \
+    R(GERLYANTU_HALF_FULL, 17, "none of the renter's slots is free for the strip") \
+    /* the renter's slot to release is not in use, or not in 0 to 31; 0 */ \
+    R(GERLYANTU_SLOT_NOT_IN_USE, 18, "the slot to release is not one of the renter's slots in use") \
+    /* the renter is neither 0 nor 1; 0 */ \
+    R(GERLYANTU_UNKNOWN_RENTER, 19, "there is no such renter: they are 0 and 1") \
     /* a book has not 320 numbers, a mark is neither 0 nor 1, a slot in use has numbers that 2 or 3 would refuse, or two such slots share area; 0 */ \
     R(GERLYANTU_NO_BOOK, 23, "not a strip book, or damaged")
 

@@ -14,8 +14,9 @@ static const char *const words[] = {
     [10] = "a number of millimetres is infinite or off the table",
     [11] = "not a drawing file, or damaged",
     [16] = "the strip shares area with one in the book",
-    [17] = "no slot is free for the strip",
-    [18] = "the slot to release is not in use",
+    [17] = "none of the renter's slots is free for the strip",
+    [18] = "the slot to release is not one of the renter's slots in use",
+    [19] = "there is no such renter: they are 0 and 1",
     [23] = "not a strip book, or damaged",
 };
 
