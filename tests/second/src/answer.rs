@@ -28,8 +28,9 @@ fn numbers(call: Call) -> Vec<i128> {
             lent(room, outline::write(order, window, &list, room))
         }
         Call::Draw(room, bytes) => drawn(room, drawing::write(&bytes, room)),
-        Call::Enter(book, strip) => entered(&book, strip),
-        Call::Release(book, slot) => released(&book, slot),
+        Call::Enter(book, renter, strip) => entered(&book, renter, strip),
+        Call::Release(book, renter, slot) => released(&book, renter, slot),
+        Call::Strips(room, book, renter) => listed(room, &book, renter),
     }
 }
 
@@ -110,8 +111,8 @@ fn drawn(room: usize, result: Result<drawing::Drawing, Refusal>) -> Vec<i128> {
 }
 
 /// The slot, 0 where refused, and the whole book, which a refusal leaves as it was.
-fn entered(book: &[i32], strip: [i32; 4]) -> Vec<i128> {
-    let result = strip_book::enter(book, strip);
+fn entered(book: &[i32], renter: i32, strip: [i32; 4]) -> Vec<i128> {
+    let result = strip_book::enter(book, renter, strip);
     let mut answer = head(&result).to_vec();
     let (slot, after) = result.unwrap_or((0, book.to_vec()));
     answer.push(slot as i128);
@@ -119,12 +120,21 @@ fn entered(book: &[i32], strip: [i32; 4]) -> Vec<i128> {
     answer
 }
 
-fn released(book: &[i32], slot: i32) -> Vec<i128> {
-    let result = strip_book::release(book, slot);
+fn released(book: &[i32], renter: i32, slot: i32) -> Vec<i128> {
+    let result = strip_book::release(book, renter, slot);
     let mut answer = head(&result).to_vec();
     let after = result.unwrap_or(book.to_vec());
     answer.extend(after.into_iter().map(i128::from));
     answer
+}
+
+/// A listing changes nothing in the book, so the answer does not give it back.
+fn listed(room: usize, book: &[i32], renter: i32) -> Vec<i128> {
+    let list = strip_book::listing(book, renter, room);
+    lent(
+        room,
+        list.map(|list| list.into_iter().map(i128::from).collect()),
+    )
 }
 
 /// What was written from the front, then what the desk had put there.

@@ -20,8 +20,10 @@ pub enum Call {
     Batch(usize, [i32; 4], Vec<i32>),
     Outline(u32, usize, [i32; 4], Vec<i32>),
     Draw(usize, Vec<u8>),
-    Enter(Vec<i32>, [i32; 4]),
-    Release(Vec<i32>, i32),
+    /// A strip book and the renter who calls; before them the room, behind them the strip or the slot.
+    Enter(Vec<i32>, i32, [i32; 4]),
+    Release(Vec<i32>, i32, i32),
+    Strips(usize, Vec<i32>, i32),
 }
 
 pub fn read(line: &[u8]) -> Option<Call> {
@@ -52,8 +54,9 @@ impl Words<'_> {
                 Call::Outline(order, self.room()?, self.four()?, self.list(MOST_OUTLINE)?)
             }
             b"draw" => Call::Draw(self.room()?, file(self.0.pop()?)?),
-            b"enter" => Call::Enter(self.list(MOST_LIST)?, self.four()?),
-            b"release" => Call::Release(self.list(MOST_LIST)?, self.grid()?),
+            b"enter" => Call::Enter(self.list(MOST_LIST)?, self.grid()?, self.four()?),
+            b"release" => Call::Release(self.list(MOST_LIST)?, self.grid()?, self.grid()?),
+            b"strips" => Call::Strips(self.room()?, self.list(MOST_LIST)?, self.grid()?),
             _ => return None,
         })
     }

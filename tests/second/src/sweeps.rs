@@ -21,10 +21,16 @@ pub fn grid() -> impl Iterator<Item = String> {
     back.chain(all.map(|g| format!("mm2 {:08x} {:08x}", bits_of(g), bits_of(-g))))
 }
 
-/// Runs, then the most and the longest numbers that a book can be lent as.
+/// Runs, then the most and the longest numbers that a book can be lent as, under either refusal that comes first.
 pub fn books(seed: u64, count: usize) -> impl Iterator<Item = Vec<u8>> {
     let runs = book_runs::lines(&mut Random::new(seed), count);
     let longest = Book(vec![i32::MIN; 20_000]);
-    runs.into_iter()
-        .chain([longest.enter([i32::MIN; 4]), longest.release(i32::MIN)])
+    let last = [0, i32::MIN].map(|renter| {
+        [
+            longest.enter(renter, [i32::MIN; 4]),
+            longest.release(renter, i32::MIN),
+            longest.strips(40_960, renter),
+        ]
+    });
+    runs.into_iter().chain(last.concat())
 }

@@ -1,66 +1,96 @@
 //! Runs of a strip book from an empty one, and lines with a book of their own.
 
+use super::book_asked::{any_renter, Asked};
 use super::book_flaws::{flawed, littered};
-use super::books::Book;
+use super::books::{slots, Book};
 use super::grounds::Ground;
-use super::windows::{self, Window};
 use crate::random::Random;
 use crate::refusal::Refusal;
-use crate::strip_book::{self, FREED, SLOTS};
+use crate::strip_book::{enter, release};
 
 /// A run: each line lends the book that the answer before it gave.
 struct Run {
     book: Book,
     ground: Ground,
-    /// One line in this many is a release, more once the book is full.
+    /// One line in this many is a release, more once the half is full.
     releases: usize,
+    /// Who calls, each as likely as it stands here.
+    renters: &'static [i32],
+    /// One line in this many lends a damaged copy; the run goes on from the answer before. 0 for none.
+    damaged: usize,
 }
 
-/// One run after another: long enough to fill the book, then on little ground, then anywhere on the table.
+/// What the workshop sees, then the same with damaged books between, as often as it takes.
 pub fn lines(random: &mut Random, count: usize) -> Vec<Vec<u8>> {
     let mut lines = Vec::new();
     while lines.len() < count {
-        let roomy = Ground::roomy(random);
-        lines.extend(Run::on(roomy, 30).lines(random, 125));
-        let crowded = Ground::crowded(random);
-        lines.extend(Run::on(crowded, 3).lines(random, 25));
-        lines.extend(Run::on(Ground::Anywhere, 3).lines(random, 25));
+        lines.extend(workshop(random));
+        for ground in [Ground::crowded(random), Ground::Anywhere] {
+            lines.extend(Run::on(ground, 3).damaged(6).lines(random, 20));
+        }
     }
     lines.truncate(count);
     lines
 }
 
+/// Long enough to fill both halves, then to fill one while the other has room, then on little ground and anywhere on the table.
+pub fn workshop(random: &mut Random) -> Vec<Vec<u8>> {
+    let [roomy, again] = [(); 2].map(|_| Ground::roomy(random));
+    let often: &[i32] = random.pick(&[&[0, 0, 0, 0, 0, 1], &[1, 1, 1, 1, 1, 0]]);
+    let crowded = Ground::crowded(random);
+    [
+        Run::on(roomy, 30).lines(random, 140),
+        Run::on(again, 30).renters(often).lines(random, 80),
+        Run::on(crowded, 3).lines(random, 30),
+        Run::on(Ground::Anywhere, 3).lines(random, 20),
+    ]
+    .concat()
+}
+
 /// One call with a book that need not have come from a run.
 pub fn line(random: &mut Random) -> Vec<u8> {
     let ground = Ground::any(random);
-    let mut book = Book::empty();
-    for _ in 0..random.pick(&[3, 40, 400]) {
-        let (slot, strip) = (random.below(SLOTS), ground.strip(random));
-        if book.five(slot) == FREED && strip_book::enter(&book.0, strip).is_ok() {
-            book = book.with(slot, strip);
-        }
-    }
+    let mut book = half_full(random, ground);
     if random.one_in(2) {
         book = littered(random, &book);
     }
-    if random.one_in(3) {
+    if random.one_in(4) {
         book = flawed(random, &book);
     }
-    if random.one_in(3) {
-        book.release(slot(random, &book))
-    } else {
-        book.enter(strip(random, &book, ground))
-    }
+    let renter = any_renter(random, &[0, 1]);
+    Asked::any(random, &book, renter, ground, 3).line(&book, renter)
+}
+
+/// Each half empty, full as far as there is place, or something between.
+fn half_full(random: &mut Random, ground: Ground) -> Book {
+    let tenths = [(); 2].map(|_| random.pick(&[0, 1, 5, 9, 10, 10]));
+    slots().fold(Book::empty(), |book, at| {
+        if random.below(10) >= tenths[at[0]] {
+            return book;
+        }
+        let strip = ground.vacant(random, &book, 30);
+        let place = enter(&book.0, at[0] as i32, strip);
+        place.map_or(book.clone(), |_| book.with(at, strip))
+    })
 }
 
 impl Run {
     fn on(ground: Ground, releases: usize) -> Run {
-        let book = Book::empty();
         Run {
-            book,
+            book: Book::empty(),
             ground,
             releases,
+            renters: &[0, 1],
+            damaged: 0,
         }
+    }
+
+    fn renters(self, renters: &'static [i32]) -> Run {
+        Run { renters, ..self }
+    }
+
+    fn damaged(self, damaged: usize) -> Run {
+        Run { damaged, ..self }
     }
 
     fn lines(mut self, random: &mut Random, count: usize) -> Vec<Vec<u8>> {
@@ -68,61 +98,26 @@ impl Run {
     }
 
     fn line(&mut self, random: &mut Random) -> Vec<u8> {
-        let mut lent = self.book.clone();
-        if random.one_in(12) {
-            lent = flawed(random, &lent);
+        let renter = any_renter(random, self.renters);
+        let asked = Asked::any(random, &self.book, renter, self.ground, self.releases);
+        if self.damaged > 0 && random.one_in(self.damaged) {
+            return asked.line(&flawed(random, &self.book), renter);
         }
-        let full = in_use(&lent).len() == SLOTS;
-        if random.one_in(if full { 3 } else { self.releases }) {
-            let slot = slot(random, &lent);
-            self.go_on(&lent, strip_book::release(&lent.0, slot));
-            lent.release(slot)
-        } else {
-            let strip = strip(random, &lent, self.ground);
-            let entered = strip_book::enter(&lent.0, strip);
-            self.go_on(&lent, entered.map(|(_, after)| after));
-            lent.enter(strip)
-        }
+        let line = asked.line(&self.book, renter);
+        self.go_on(asked, renter);
+        line
     }
 
-    /// A book that was lent damaged is dropped: the run goes on from the one before.
-    fn go_on(&mut self, lent: &Book, result: Result<Vec<i32>, Refusal>) {
-        match result {
-            Ok(after) => self.book = Book(after),
-            Err(refusal) if refusal.number == 23 => {}
-            Err(_) => self.book = lent.clone(),
+    /// A refused call and a listing leave the book as it was.
+    fn go_on(&mut self, asked: Asked, renter: i32) {
+        let book = &self.book.0;
+        let after: Result<Vec<i32>, Refusal> = match asked {
+            Asked::Enter(strip) => enter(book, renter, strip).map(|(_, after)| after),
+            Asked::Release(slot) => release(book, renter, slot),
+            Asked::Strips(_) => return,
+        };
+        if let Ok(after) = after {
+            self.book = Book(after);
         }
     }
-}
-
-/// Mostly a strip that there is place for.
-fn strip(random: &mut Random, book: &Book, ground: Ground) -> Window {
-    if random.one_in(16) {
-        return windows::faulty(random);
-    }
-    let shared = |strip: Window| {
-        strip_book::entered(&book.0).any(|other| strip_book::share_area(strip, other))
-    };
-    let mut strip = ground.strip(random);
-    for _ in 0..random.pick(&[0, 30, 30, 30, 30]) {
-        if shared(strip) {
-            strip = ground.strip(random);
-        }
-    }
-    strip
-}
-
-/// Mostly a slot in use.
-fn slot(random: &mut Random, book: &Book) -> i32 {
-    let in_use = in_use(book);
-    match random.below(8) {
-        0 => random.pick(&[-1, 64, 65, i32::MIN, i32::MAX]),
-        1..=5 if !in_use.is_empty() => random.pick(&in_use) as i32,
-        _ => random.between(0, SLOTS as i32 - 1),
-    }
-}
-
-fn in_use(book: &Book) -> Vec<usize> {
-    let marks: Vec<i32> = book.0.chunks(5).map(|five| five[0]).collect();
-    (0..marks.len()).filter(|slot| marks[*slot] == 1).collect()
 }

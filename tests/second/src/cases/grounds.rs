@@ -1,7 +1,9 @@
 //! Where the strips of a book lie: on a coarse board, so that they touch, share area and fill the book, or anywhere.
 
+use super::books::Book;
 use super::windows::{self, Window};
 use crate::random::Random;
+use crate::strip_book::{share_area, strips};
 
 #[derive(Clone, Copy)]
 pub enum Ground {
@@ -41,6 +43,18 @@ impl Ground {
             1 => Ground::crowded(random),
             _ => Ground::Anywhere,
         }
+    }
+
+    /// A strip that shares no area with one of the book, if so many further tries find one.
+    pub fn vacant(self, random: &mut Random, book: &Book, tries: usize) -> Window {
+        let shared = |strip: Window| strips(&book.0).any(|other| share_area(strip, other));
+        let mut strip = self.strip(random);
+        for _ in 0..tries {
+            if shared(strip) {
+                strip = self.strip(random);
+            }
+        }
+        strip
     }
 
     pub fn strip(self, random: &mut Random) -> Window {

@@ -87,14 +87,18 @@ fn sized(bytes: usize) -> Vec<u8> {
     counted(&[&start[4..], &closes].concat())
 }
 
-/// As many numbers as the desk takes for a book, and one more.
+/// As many numbers as the desk takes for a book or as room, and one more.
 fn long_books() -> Vec<Vec<u8>> {
     let [most, more] = [20_000, 20_001].map(|length| Book::full().cut_to(length));
     vec![
-        most.enter(WINDOW),
-        most.release(0),
-        more.enter(WINDOW),
-        more.release(0),
+        most.enter(0, WINDOW),
+        most.release(1, 0),
+        most.strips(9, 0),
+        more.enter(0, WINDOW),
+        more.release(1, 0),
+        more.strips(9, 0),
+        Book::full().strips(40_960, 1),
+        Book::full().strips(40_961, 1),
     ]
 }
 
@@ -103,12 +107,13 @@ fn long_lines(random: &mut Random) -> Vec<Vec<u8>> {
     let batch = batches::of(5 * MOST_STROKES, WINDOW, &list);
     let lb = strokes::of("lb", WINDOW, [-5, 5, 15, 5]);
     let cs = strokes::of("cs", WINDOW, [-5, 5, 15, 5]);
-    let book = Book::full().without(63);
+    let book = Book::full().without([1, 31]);
     vec![
         padded(&batch, LONGEST_LINE),
         padded(&lb, 20_000),
-        padded(&book.enter([8, 8, 9, 9]), 20_000),
-        padded(&book.release(62), 20_000),
+        padded(&book.enter(1, [8, 8, 9, 9]), 20_000),
+        padded(&book.release(1, 30), 20_000),
+        padded(&book.strips(155, 1), 20_000),
         padded(&lb, LONGEST_LINE + 1),
         cs,
     ]

@@ -42,10 +42,14 @@ fn words() -> Vec<Vec<u8>> {
         "-",
         "draws 0 -",
         "bat 0 0 0 1 1 0",
-        "Enter 0 1 2 3 4",
-        "enters 0 1 2 3 4",
-        "releas 0 1",
-        "RELEASE 0 1",
+        "Enter 0 0 1 2 3 4",
+        "enters 0 0 1 2 3 4",
+        "releas 0 0 1",
+        "RELEASE 0 0 1",
+        "Strips 0 0 0",
+        "strip 0 0 0",
+        "stripss 0 0 0",
+        "listing 0 0 0",
     ]);
     let right = [
         "mm2 00000000 00000000",
@@ -57,8 +61,9 @@ fn words() -> Vec<Vec<u8>> {
         "batch 5 0 0 10 10 4 1 2 3 4",
         "outline 0 12 0 0 10 10 6 1 1 5 1 1 5",
         "draw 2 -",
-        "enter 5 1 0 0 10 10 1 2 3 4",
-        "release 5 0 0 0 0 0 7",
+        "enter 5 1 0 0 10 10 0 1 2 3 4",
+        "release 5 0 0 0 0 0 1 7",
+        "strips 2 5 0 0 0 0 0 1",
     ];
     for line in right {
         let last = line.rfind(' ').unwrap_or(0);
@@ -132,6 +137,15 @@ fn rooms_and_counts() -> Vec<Vec<u8>> {
         "draw -1 -",
         "draw -0 -",
         "draw 003 -",
+        "strips 40961 0 0",
+        "strips -1 0 0",
+        "strips -0 -0 -0",
+        "strips 003 0 0",
+        "strips 18446744073709551616 0 0",
+        "strips 3 -1 0",
+        "strips 3 +1 0 0",
+        "strips 3 20001 0",
+        "strips 3 18446744073709551617 0 0",
         "batch -1 0 0 10 10 4 1 2 3 4",
         "batch -0 0 0 10 10 4 1 2 30 40",
         "batch 05 0 0 10 10 4 1 2 3 4",
@@ -183,20 +197,27 @@ fn orders() -> Vec<Vec<u8>> {
         .collect()
 }
 
-/// Words for a number in the book, in the window and as the slot; then whole books with a count that is one off.
+/// Words for a number in the book, as the renter, in the window, as the slot and as the room; then whole books with a count
+/// that is one off, which is also how a line without its renter reads.
 fn books() -> Vec<Vec<u8>> {
     let mut lines = Vec::new();
     let words = "2147483647 2147483648 -2147483648 -2147483649 4294967296 +1 1.0 x";
     for word in words.split(' ') {
-        lines.push(format!("enter 5 0 {word} 0 0 0 1 2 3 4"));
-        lines.push(format!("enter 1 0 1 2 {word} 4"));
-        lines.push(format!("release 5 {word} 0 0 0 0 0"));
-        lines.push(format!("release 1 0 {word}"));
+        lines.push(format!("enter 5 0 {word} 0 0 0 0 1 2 3 4"));
+        lines.push(format!("enter 1 0 {word} 1 2 3 4"));
+        lines.push(format!("enter 1 0 0 1 2 {word} 4"));
+        lines.push(format!("release 5 {word} 0 0 0 0 0 0"));
+        lines.push(format!("release 1 0 {word} 0"));
+        lines.push(format!("release 1 0 0 {word}"));
+        lines.push(format!("strips 1 1 {word} 0"));
+        lines.push(format!("strips 1 1 0 {word}"));
+        lines.push(format!("strips {word} 1 0 0"));
     }
     for (count, numbers) in [(320, 319), (320, 321), (319, 320), (321, 320)] {
         let zeros = " 0".repeat(numbers);
-        lines.push(format!("enter {count}{zeros} 1 2 3 4"));
-        lines.push(format!("release {count}{zeros} 0"));
+        lines.push(format!("enter {count}{zeros} 0 1 2 3 4"));
+        lines.push(format!("release {count}{zeros} 0 0"));
+        lines.push(format!("strips 2 {count}{zeros} 0"));
     }
     lines.into_iter().map(String::into_bytes).collect()
 }

@@ -3,8 +3,13 @@
 
 mod batches;
 mod book_answers;
+pub mod book_asked;
 pub mod book_by_hand;
 mod book_flaws;
+mod book_halves;
+mod book_listings;
+mod book_morning;
+mod book_refusals;
 pub mod book_runs;
 pub mod books;
 pub mod by_hand;
@@ -32,8 +37,8 @@ mod windows;
 
 use crate::random::Random;
 
-/// Lines in runs of a strip book: one run that fills its book, and two short ones.
-const IN_RUNS: usize = 175;
+/// Lines in runs of a strip book: one run that fills both halves, one that fills a half, and four short ones.
+const IN_RUNS: usize = 310;
 
 /// At least the fixed lists, the long lines and the runs, else exactly `count` lines.
 pub fn lot(seed: u64, count: usize) -> Vec<Vec<u8>> {
@@ -76,7 +81,7 @@ fn any(random: &mut Random) -> Vec<u8> {
 }
 
 fn well_formed(random: &mut Random) -> Vec<u8> {
-    match random.below(104) {
+    match random.below(108) {
         0..=13 => floats::line(random),
         14..=45 => strokes::line(random),
         46..=59 => corner_windows::line(random),

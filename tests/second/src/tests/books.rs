@@ -1,15 +1,16 @@
 //! The strip book against answers worked out by hand, against a plain list of strips, and against the squares of the grid.
 
 use super::expect;
-use super::plain_list::{apart, PlainList};
+use super::heard::{asked, number, of_book};
+use super::plain_list::{apart, of_list, PlainList};
 use crate::answer::answer;
-use crate::call::{read, Call};
+use crate::call::read;
+use crate::cases::book_asked::Asked;
 use crate::cases::books::Book;
 use crate::cases::{book_by_hand, book_runs, by_hand, lot};
 use crate::random::Random;
-use crate::refusal::Refusal;
-use crate::strip_book::{enter, release, share_area, Strip};
-use std::collections::BTreeSet;
+use crate::strip_book::{share_area, Strip};
+use std::collections::{BTreeMap, BTreeSet};
 
 #[test]
 fn as_worked_out_by_hand() {
@@ -23,85 +24,134 @@ fn as_worked_out_by_hand() {
 fn the_longest_book() {
     let zeros = |count: usize| Book::empty().cut_to(count);
     for (line, head) in [
-        (zeros(20_000).enter([0, 0, 10, 10]), "23 0 0"),
-        (zeros(20_000).release(0), "23 0"),
+        (zeros(20_000).enter(0, [0, 0, 10, 10]), "23 0 0"),
+        (zeros(20_000).enter(2, [0, 0, 10, 10]), "19 0 0"),
+        (zeros(20_000).release(1, 0), "23 0"),
+        (zeros(20_000).release(-1, 0), "19 0"),
     ] {
         assert_eq!(answer(&line), format!("{head}{}", " 0".repeat(20_000)));
     }
-    assert_eq!(answer(&zeros(20_001).enter([0, 0, 10, 10])), "?");
-    assert_eq!(answer(&zeros(20_001).release(0)), "?");
+    assert_eq!(answer(&zeros(20_000).strips(0, 1)), "23 0 0");
+    assert_eq!(answer(&zeros(20_000).strips(0, 2)), "19 0 0");
+    assert_eq!(answer(&zeros(20_001).enter(0, [0, 0, 10, 10])), "?");
+    assert_eq!(answer(&zeros(20_001).release(0, 0)), "?");
+    assert_eq!(answer(&zeros(20_001).strips(0, 0)), "?");
+    let room = answer(&Book::empty().strips(40_960, 0));
+    assert_eq!(room.split(' ').count(), 3 + 40_960);
+    assert!(room.starts_with("0 0 0 7000000 ") && room.ends_with(" 7040959"));
+    assert_eq!(answer(&Book::empty().strips(40_961, 0)), "?");
 }
 
-/// From an empty book, what is asked for in lines of a run; the book goes on by itself.
+/// What is asked for in a workshop, of the book that goes on by itself and of the list.
 #[test]
 fn a_run_answers_as_a_plain_list_does() {
-    let (mut book, mut list) = (vec![0; 320], PlainList::default());
-    let mut ends = BTreeSet::new();
-    for call in calls(book_runs::lines(&mut Random::new(11), 12_000)) {
-        let (end, after) = of_book(&call, &book);
-        ends.insert(number(&end));
-        assert_eq!(end, of_list(&call, &mut list), "{call:?}");
-        assert_eq!(after, list.numbers(), "{call:?}");
-        book = after;
+    let mut seen = Seen::default();
+    let mut random = Random::new(11);
+    for _ in 0..60 {
+        let (mut book, mut list) = (vec![0; 320], PlainList::default());
+        for line in book_runs::workshop(&mut random) {
+            let (lent, renter, asked) = read(&line).and_then(asked).expect("a call on a book");
+            if lent == [0; 320] {
+                (book, list) = (vec![0; 320], PlainList::default());
+            }
+            assert_eq!(lent, book, "each line lends the book as it is");
+            let heard = of_book(&mut book, renter, asked);
+            assert_eq!(heard, of_list(Some(&mut list), renter, asked), "{asked:?}");
+            assert_eq!(book, list.numbers(), "{renter} {asked:?}");
+            assert!(PlainList::of(&book).is_some(), "no two share area");
+            seen.note(renter, asked, number(&heard));
+        }
     }
-    assert_eq!(ends, BTreeSet::from([0, 2, 3, 16, 17, 18]));
+    seen.holds("enter", &[0, 2, 3, 16, 17], 100);
+    seen.holds("release", &[0, 18], 40);
+    seen.holds("strips", &[0, 8], 80);
+}
+
+/// Each line's book is the one that stands in the answer before it; a listing's answer has none, and changes none.
+#[test]
+fn a_workshop_sends_what_it_was_answered() {
+    let mut before = None;
+    for line in book_runs::workshop(&mut Random::new(5)) {
+        let (lent, _, asked) = read(&line).and_then(asked).expect("a call on a book");
+        let lent = lent.iter().map(i32::to_string).collect::<Vec<_>>();
+        // A new run begins with an empty book.
+        let empty = lent.iter().all(|word| word == "0");
+        assert!(empty || Some(&lent) == before.as_ref(), "{asked:?}");
+        let answer = answer(&line);
+        let words: Vec<String> = answer.split(' ').map(str::to_string).collect();
+        before = match asked {
+            Asked::Enter(_) => Some(words[3..].to_vec()),
+            Asked::Release(_) => Some(words[2..].to_vec()),
+            Asked::Strips(_) => Some(lent),
+        };
+    }
 }
 
 /// Whatever is lent: the list is made of it anew for each call, and only the slot that the call names changes.
 #[test]
 fn every_lent_book_answers_as_its_plain_list_does() {
-    let mut ends = BTreeSet::new();
-    for call in calls(lot(7, 8_000)) {
-        let (lent, five, command) = match &call {
-            Call::Enter(lent, [l, b, r, t]) => (lent, [1, *l, *b, *r, *t], "enter"),
-            Call::Release(lent, _) => (lent, [0; 5], "release"),
-            _ => unreachable!("only these two are asked for"),
+    let mut seen = Seen::default();
+    let mut random = Random::new(7);
+    let more = (0..6_000).map(|_| book_runs::line(&mut random));
+    for line in lot(7, 4_000).into_iter().chain(more) {
+        let Some((lent, renter, asked)) = read(&line).and_then(asked) else {
+            continue;
         };
-        let (end, after) = of_book(&call, lent);
-        let (number, place) = (23, 0);
-        let no_book = Err(Refusal { number, place });
-        let of_list = PlainList::of(lent).map_or(no_book, |mut list| of_list(&call, &mut list));
-        assert_eq!(end, of_list, "{call:?}");
+        let mut after = lent.clone();
+        let heard = of_book(&mut after, renter, asked);
+        let mut list = PlainList::of(&lent);
+        assert_eq!(heard, of_list(list.as_mut(), renter, asked), "{asked:?}");
         let mut expected = lent.clone();
-        if let Ok(slot) = end {
-            expected[5 * slot..5 * slot + 5].copy_from_slice(&five);
+        let change = match (asked, &heard) {
+            (Asked::Enter([l, b, r, t]), Ok(slot)) => Some((slot[0], [1, l, b, r, t])),
+            (Asked::Release(slot), Ok(_)) => Some((slot, [0; 5])),
+            _ => None,
+        };
+        if let Some((slot, five)) = change {
+            let start = 5 * (32 * renter + slot) as usize;
+            expected[start..start + 5].copy_from_slice(&five);
         }
-        assert_eq!(after, expected, "{call:?}");
-        ends.insert((command, self::number(&end)));
+        assert_eq!(after, expected, "{renter} {asked:?}");
+        seen.note(renter, asked, number(&heard));
     }
-    let bookings = [0, 2, 3, 16, 17, 23].map(|number| ("enter", number));
-    let releases = [0, 18, 23].map(|number| ("release", number));
-    assert_eq!(ends, bookings.into_iter().chain(releases).collect());
+    seen.holds("enter", &[0, 2, 3, 16, 17, 23], 40);
+    seen.holds("release", &[0, 18, 23], 80);
+    seen.holds("strips", &[0, 8, 23], 40);
 }
 
-fn calls(lines: Vec<Vec<u8>>) -> impl Iterator<Item = Call> {
-    let calls = lines.into_iter().filter_map(|line| read(&line));
-    calls.filter(|call| matches!(call, Call::Enter(..) | Call::Release(..)))
-}
+/// How often each call ended in each way, for each renter.
+#[derive(Default)]
+struct Seen(BTreeMap<(&'static str, i32, u8), usize>);
 
-/// The slot that was booked or released, and the book after that.
-fn of_book(call: &Call, book: &[i32]) -> (Result<usize, Refusal>, Vec<i32>) {
-    let result = match call {
-        Call::Enter(_, strip) => enter(book, *strip),
-        Call::Release(_, slot) => release(book, *slot).map(|after| (*slot as usize, after)),
-        _ => unreachable!("only these two are asked for"),
-    };
-    match result {
-        Ok((slot, after)) => (Ok(slot), after),
-        Err(refusal) => (Err(refusal), book.to_vec()),
+impl Seen {
+    fn note(&mut self, renter: i32, asked: Asked, number: u8) {
+        let command = match asked {
+            Asked::Enter(_) => "enter",
+            Asked::Release(_) => "release",
+            Asked::Strips(_) => "strips",
+        };
+        // All that there are not count as one.
+        let renter = if renter == 0 || renter == 1 {
+            renter
+        } else {
+            -1
+        };
+        *self.0.entry((command, renter, number)).or_default() += 1;
     }
-}
 
-fn of_list(call: &Call, list: &mut PlainList) -> Result<usize, Refusal> {
-    match call {
-        Call::Enter(_, strip) => list.enter(*strip),
-        Call::Release(_, slot) => list.release(*slot).map(|_| *slot as usize),
-        _ => unreachable!("only these two are asked for"),
+    /// The call ended in exactly these ways for either renter, by 19 for any other, and in each of them so often.
+    fn holds(&self, command: &str, numbers: &[u8], least: usize) {
+        let known = numbers
+            .iter()
+            .flat_map(|number| [(0, *number), (1, *number)]);
+        let expected: BTreeSet<(i32, u8)> = known.chain([(-1, 19)]).collect();
+        let of_command = self.0.iter().filter(|(end, _)| end.0 == command);
+        let ends: BTreeSet<(i32, u8)> = of_command.clone().map(|(end, _)| (end.1, end.2)).collect();
+        assert_eq!(ends, expected, "{command}");
+        for (end, count) in of_command {
+            assert!(*count >= least, "{count} times {end:?}");
+        }
     }
-}
-
-fn number(end: &Result<usize, Refusal>) -> u8 {
-    end.map_or_else(|refusal| refusal.number, |_| 0)
 }
 
 /// All strips on a board of four by four: two share area exactly when a square lies in both.

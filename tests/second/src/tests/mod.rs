@@ -3,6 +3,7 @@
 mod agreement;
 mod books;
 mod desk;
+mod heard;
 mod passes;
 mod plain_list;
 mod worked;
