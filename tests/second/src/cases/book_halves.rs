@@ -105,14 +105,14 @@ fn last_free() -> Vec<Answered> {
     let mut cases = Vec::new();
     for (own, other) in [(0, 1), (1, 0)] {
         let book = Book::full().without([own, 31]);
-        let (mine, others) = ([0, 4 * own as i32], [0, 4 * other as i32]);
+        let (mine, others) = ([0, 4 * own as i32], [0, 4 * other]);
         for [left, bottom] in [mine, others] {
             let strip = [left, bottom, left + 1, bottom + 1];
             cases.push(not_entered(&book, own as i32, strip, 16, 0));
-            cases.push(not_entered(&book, other as i32, strip, 17, 0));
+            cases.push(not_entered(&book, other, strip, 17, 0));
         }
         cases.push(entered(&book, [own, 31], ELSEWHERE));
-        cases.push(not_entered(&book, other as i32, ELSEWHERE, 17, 0));
+        cases.push(not_entered(&book, other, ELSEWHERE, 17, 0));
         let taken = book.with([own, 31], ELSEWHERE);
         cases.push(not_entered(&taken, own as i32, ELSEWHERE, 17, 0));
     }

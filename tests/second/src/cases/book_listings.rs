@@ -11,8 +11,7 @@ pub fn answered() -> Vec<Answered> {
 /// A half without strips needs nothing: it is listed in any room, and never refused by 8.
 fn empty() -> Vec<Answered> {
     let mut cases = Vec::new();
-    for (own, other) in [(0, 1), (1, 0)] {
-        let renter = own as i32;
+    for (renter, other) in [(0, 1), (1, 0)] {
         for spare in [0, 1, 5] {
             cases.push(listed(&Book::empty(), renter, &[], spare));
         }

@@ -86,17 +86,21 @@ fn unknown_and_more() -> Vec<Answered> {
     cases
 }
 
-/// 23 comes before 2, 3, 17, 16, 18 and 8, for either renter.
+/// 23 comes before 2, 3, 17, 16, 18 and 8, whoever calls.
 fn no_book_and_more() -> Vec<Answered> {
     let mut cases = Vec::new();
-    for no_book in no_books() {
-        for renter in [0, 1] {
-            let strips = [OFF, FLAT, STRIP, [8, 0, 9, 8]];
-            cases.extend(strips.map(|strip| not_entered(&no_book, renter, strip, 23, 0)));
-            let slots = [-1, 5, 32];
-            cases.extend(slots.map(|slot| not_released(&no_book, renter, slot, 23)));
-            cases.push(not_listed(&no_book, renter, 4, 23, 0));
-        }
+    for (no_book, one) in no_books().into_iter().zip([0, 1, 0, 1, 0]) {
+        let other = 1 - one;
+        cases.extend([
+            not_entered(&no_book, one, OFF, 23, 0),
+            not_entered(&no_book, other, FLAT, 23, 0),
+            not_entered(&no_book, one, STRIP, 23, 0),
+            not_entered(&no_book, other, [8, 0, 9, 8], 23, 0),
+            not_released(&no_book, one, -1, 23),
+            not_released(&no_book, other, 5, 23),
+            not_released(&no_book, one, 32, 23),
+            not_listed(&no_book, other, 4, 23, 0),
+        ]);
     }
     cases
 }

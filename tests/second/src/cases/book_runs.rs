@@ -69,8 +69,11 @@ fn half_full(random: &mut Random, ground: Ground) -> Book {
             return book;
         }
         let strip = ground.vacant(random, &book, 30);
-        let place = enter(&book.0, at[0] as i32, strip);
-        place.map_or(book.clone(), |_| book.with(at, strip))
+        if enter(&book.0, at[0] as i32, strip).is_ok() {
+            book.with(at, strip)
+        } else {
+            book
+        }
     })
 }
 

@@ -19,7 +19,7 @@ mod drawings;
 mod examples;
 mod flaws;
 mod floats;
-mod grounds;
+pub mod grounds;
 mod line;
 mod long;
 mod malformed;

@@ -6,6 +6,7 @@ mod desk;
 mod heard;
 mod passes;
 mod plain_list;
+mod two_runs;
 mod worked;
 
 use crate::answer::answer;
