@@ -1,10 +1,5 @@
 pub mod Tests
 pub mod Good
 pub mod Areas
-pub mod Entries
+pub mod Answers
 pub mod Steps
-pub mod Paper
-pub mod Faults
-pub mod OneCall
-pub mod Theorems
-pub mod Morning
