@@ -3,3 +3,5 @@ pub mod Good
 pub mod Areas
 pub mod Answers
 pub mod Steps
+pub mod Entries
+pub mod Sheets
