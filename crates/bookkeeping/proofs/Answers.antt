@@ -80,7 +80,7 @@ pub answered-by : (e : Event) (before after : List ℤ) {r : Refusal} → InBook
 answered-by e before after p q = number-refused e before after p ∙ ap (λ (r : Refusal). r .number) q
 
 -- ---- what is known where nothing is refused
-passed : (b : Bool) (n : ℕ) → (n ≡ 0 → ⊥) → (if b then none else refuse n 0) .number ≡ 0 → b ≡ true
+pub passed : (b : Bool) (n : ℕ) → (n ≡ 0 → ⊥) → (if b then none else refuse n 0) .number ≡ 0 → b ≡ true
 passed true n h e = refl
 passed false n h e = absurd (h e)
 

@@ -5,3 +5,4 @@ pub mod Answers
 pub mod Steps
 pub mod Entries
 pub mod Sheets
+pub mod Paper
