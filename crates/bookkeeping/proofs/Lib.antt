@@ -6,3 +6,6 @@ pub mod Steps
 pub mod Entries
 pub mod Sheets
 pub mod Paper
+pub mod Numbers
+pub mod Faults
+pub mod Theorems
