@@ -8,4 +8,5 @@ pub mod Sheets
 pub mod Paper
 pub mod Numbers
 pub mod Faults
+pub mod OneCall
 pub mod Theorems

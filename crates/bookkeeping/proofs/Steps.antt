@@ -86,7 +86,7 @@ pub slots-released : {renter z : ℤ} {a : ReleaseAnswer} {before after : List �
     → slotsOf after ≡ set (slotsOf before) (firstSlot renter + natAbs z) freeSlot
 slots-released {renter} {z} {a} {before} h = ap slotsOf (h .book) ∙ slots-put freeSlot before (firstSlot renter + natAbs z)
 
-among-all : (renter : ℤ) (zs : List ℤ) {k : ℕ} → isRenter renter ≡ true → isBook zs ≡ true → k < 32 → firstSlot renter + k < length (slotsOf zs)
+pub among-all : (renter : ℤ) (zs : List ℤ) {k : ℕ} → isRenter renter ≡ true → isBook zs ≡ true → k < 32 → firstSlot renter + k < length (slotsOf zs)
 among-all renter zs known b h = omega (arith, at-most-one renter known, book-slots zs b)
 
 pub room-among : {renter : ℤ} {w : Window} {zs : List ℤ} → Bookable renter w zs → lowestFree (half renter zs) < 32

@@ -1,0 +1,202 @@
+-- One call, by its tests in their order: each test is told by slots, and no two refusals have one number. A call that is done changes one slot.
+use mathlib.Core.Path.{_≡_, refl, sym, ap, _∙_}
+use mathlib.Core.Bool.{Bool, true, false, not-eq-not}
+use mathlib.Core.List.{List, [], _∷_}
+use mathlib.Core.Logic.{_↔_}
+use Prim.Native.Nat.{ℕ, _+_, _*_, _<_}
+use native.Mathlib.Omega.{arith}
+use borrow.Author.Tests.{leb-true, leb-false}
+use lib.Dec.{leb}
+use lib.IntN.{ℤ, pos, negsuc, natAbs}
+use lib.ListN.{length, set}
+use lib.Seq.{getD-set-same, getD-set-other}
+use Rattle.whole.specs.Choice.{if_then_else_}
+use Rattle.whole.proofs.Comparisons.{ff-tt, tt-ff}
+use Rattle.grid.specs.Refusals.{noRoom, none, refuse, first, windowRefusal, roomRefusal}
+use Rattle.grid.specs.declared.Window.{Window}
+use Rattle.racks.specs.Areas.{sharesArea}
+use Rattle.racks.specs.Members.{any, all}
+use Rattle.slots.specs.Slots.{Slot, slotsOf, inUse, stripsIn, isBook, lowestFree, freeSlot}
+use Rattle.slots.proofs.Lowest.{lowest-free, used-below, lowest-none}
+use Rattle.strip_book.specs.Books.{halfFull, stripTaken, slotNotInUse, renterRefusal, tableRefusal, usedAt, refusedBooking, BookStrip, Booked, Released}
+use Rattle.strip_book.specs.Renters.{isRenter, firstSlot, half}
+use Rattle.strip_book.specs.declared.BookingAnswer.{BookingAnswer}
+use Rattle.strip_book.specs.declared.ReleaseAnswer.{ReleaseAnswer}
+use Rattle.strip_book.proofs.Halves.{half-long, half-at}
+use Rattle.strip_book.proofs.Refusing.{book-long, refuses-full, refuses-clash, books, refuses-slot, releases, used-there}
+use Rattle.own_strips.specs.OwnStrips.{listedFrom, listingRefusal}
+use Rattle.bookkeeping.specs.OneCall.{slotIs, SharingSlot, HalfFullExactly, StripTakenExactly, SaysNoMore, SlotInUse, SlotNotInUseExactly}
+use Rattle.bookkeeping.specs.OneCall.{NoRoomExactly, TakesLowest, LowestFreeSlot, SlotFreed, FreesTheSlot}
+use Rattle.bookkeeping.specs.Runs.{booking, release, listing}
+use Rattle.bookkeeping.proofs.Answers.{lent-by, number-refused, answered-by, Bookable, bookable, Releasable, releasable, refusalOf}
+use Rattle.bookkeeping.proofs.Entries.{listed-long}
+use Rattle.bookkeeping.proofs.Good.{strip-of, no-strip}
+use Rattle.bookkeeping.proofs.Numbers.{of-renter, answers-unknown, answers-no-book}
+use Rattle.bookkeeping.proofs.Steps.{book-slots, slots-booked, slots-released, among-all, room-among}
+use Rattle.bookkeeping.proofs.Tests.{not-all}
+
+-- ---- a slot in use, of either renter, that shares area
+module _ (w : Window) (zs : List ℤ) where
+  abbrev shared : Bool
+  shared = any (sharesArea w) (stripsIn (slotsOf zs))
+
+  sharing-slot : isBook zs ≡ true → shared ≡ true → SharingSlot w zs
+  sharing-slot b e =
+      let k = strip-of (sharesArea w) (slotsOf zs) e in
+      record { slot = k .0; among = omega (arith, book-slots zs b); used = k .2; shares = k .3 }
+
+  no-sharing-slot : shared ≡ false → SharingSlot w zs → ⊥
+  no-sharing-slot e h = tt-ff (sym (h .shares) ∙ no-strip (sharesArea w) (slotsOf zs) e (h .slot) (h .used))
+
+-- ---- all slots of a renter in use
+module _ (renter : ℤ) (zs : List ℤ) (known : isRenter renter ≡ true) (b : isBook zs ≡ true) where
+  abbrev hs : List Slot
+  hs = half renter zs
+
+  long : length hs ≡ 32
+  long = half-long renter known zs (book-long zs b)
+
+  each-used : all inUse hs ≡ true → (k : ℕ) → k < 32 → inUse (slotIs renter k zs) ≡ true
+  each-used e k l = sym (ap inUse (half-at renter k zs l)) ∙ used-below hs k (omega (arith, lowest-none hs e, long))
+
+  not-each-used : all inUse hs ≡ false → ((k : ℕ) → k < 32 → inUse (slotIs renter k zs) ≡ true) → ⊥
+  not-each-used e h =
+      let k = not-all inUse freeSlot hs e in
+      let l : k .0 < 32 = omega (arith, k .1, long) in
+      tt-ff (sym (ap inUse (half-at renter (k .0) zs l) ∙ h (k .0) l) ∙ k .2)
+
+  one-free : (k : ℕ) → k < 32 → inUse (slotIs renter k zs) ≡ false → all inUse hs ≡ false
+  one-free k l f = not-eq-not .0 (λ e. tt-ff (sym (each-used e k l) ∙ f))
+
+-- ---- the number that a booking answers, where none of 19, 23, 2 and 3 is one
+module _ {renter : ℤ} {w : Window} {a : BookingAnswer} {before after : List ℤ} (p : BookStrip renter w a before after)
+    (known : isRenter renter ≡ true) (b : isBook before ≡ true) (f : windowRefusal w .number ≡ 0) where
+  filled : all inUse (half renter before) ≡ true → a .number ≡ halfFull
+  filled u = answered-by (booking renter w a) before after p (refuses-full renter w before known b f u)
+
+  module _ (u : all inUse (half renter before) ≡ false) where
+    taken : shared w before ≡ true → a .number ≡ stripTaken
+    taken s = answered-by (booking renter w a) before after p (refuses-clash renter w before known b f u s)
+
+    free : shared w before ≡ false → a .number ≡ 0
+    free s = number-refused (booking renter w a) before after p ∙ books renter w before known b f u s
+
+    not-filled : a .number ≡ halfFull → ⊥
+    not-filled n = go (shared w before) refl
+      where
+        go : (s : Bool) → shared w before ≡ s → ⊥
+        go true s = omega (arith, n, taken s)
+        go false s = omega (arith, n, free s)
+
+pub half-full-exactly : HalfFullExactly
+half-full-exactly renter w a before after p known b f = go (all inUse (half renter before)) refl
+  where
+    go : (t : Bool) → all inUse (half renter before) ≡ t → (a .number ≡ halfFull) ↔ ((k : ℕ) → k < 32 → inUse (slotIs renter k before) ≡ true)
+    go true u = (λ n. each-used renter before known b u, λ h. filled p known b f u)
+    go false u = (λ n. absurd (not-filled p known b f u n), λ h. absurd (not-each-used renter before known b u h))
+
+pub strip-taken-exactly : StripTakenExactly
+strip-taken-exactly renter w a before after p known b f k l v = go (shared w before) refl
+  where
+    u : all inUse (half renter before) ≡ false
+    u = one-free renter before known b k l v
+
+    go : (t : Bool) → shared w before ≡ t → (a .number ≡ stripTaken) ↔ SharingSlot w before
+    go true s = (λ n. sharing-slot w before b s, λ h. taken p known b f u s)
+    go false s = (λ n. absurd (omega (arith, n, free p known b f u s)), λ h. absurd (no-sharing-slot w before s h))
+
+-- 16 is the whole answer
+pub says-no-more : SaysNoMore
+says-no-more renter w a before after p n = go (isRenter renter) (isBook before) refl refl
+  where
+    go : (t u : Bool) → isRenter renter ≡ t → isBook before ≡ u → a ≡ refusedBooking (refuse stripTaken 0)
+    go true true known b = lent-by p
+        (λ z d. absurd (omega (arith, n, ap (λ (x : BookingAnswer). x .number) (d .answer))))
+        (λ m r. r .answer ∙ ap refusedBooking (of-renter (booking renter w a) before known b .taken (sym (number-refused (booking renter w a) before after p) ∙ n)))
+    go true false known b = absurd (omega (arith, n, answers-no-book (booking renter w a) before after p known b))
+    go false u h b = absurd (omega (arith, n, answers-unknown (booking renter w a) before after p h))
+
+-- ---- a slot in use that has a number
+slot-in-use : (renter z : ℤ) (zs : List ℤ) → isRenter renter ≡ true → isBook zs ≡ true → usedAt (half renter zs) z ≡ true → SlotInUse renter z zs
+slot-in-use renter (pos k) zs known b u =
+    let l = used-there (half renter zs) (pos k) (long renter zs known b) u .1 in
+    record { slot = k; number = refl; among = l; used = sym (ap inUse (half-at renter k zs l)) ∙ u }
+slot-in-use renter (negsuc k) zs known b u = absurd (ff-tt u)
+
+number-in-use : (renter z : ℤ) (zs : List ℤ) → SlotInUse renter z zs → usedAt (half renter zs) z ≡ true
+number-in-use renter z zs h = ap (usedAt (half renter zs)) (h .number) ∙ ap inUse (half-at renter (h .slot) zs (h .among)) ∙ h .used
+
+pub slot-not-in-use-exactly : SlotNotInUseExactly
+slot-not-in-use-exactly renter z a before after p known b = go (usedAt (half renter before) z) refl
+  where
+    go : (t : Bool) → usedAt (half renter before) z ≡ t → (a .number ≡ slotNotInUse) ↔ (SlotInUse renter z before → ⊥)
+    go true u = (
+      λ n. absurd (omega (arith, sym n ∙ number-refused (release renter z a) before after p ∙ releases renter z before known b u)),
+      λ h. absurd (h (slot-in-use renter z before known b u)),
+    )
+    go false u = (
+      λ n h. tt-ff (sym (number-in-use renter z before h) ∙ u),
+      λ h. answered-by (release renter z a) before after p (refuses-slot renter z before known b u),
+    )
+
+-- ---- room for a listing
+pub no-room-exactly : NoRoomExactly
+unfolding listingRefusal renterRefusal tableRefusal first roomRefusal
+no-room-exactly renter zs a before after p known b = go (leb need (length before)) refl
+  where
+    need : ℕ
+    need = length (listedFrom 0 (half renter zs))
+
+    answered : a .number ≡ first ((if leb need (length before) then none else refuse noRoom need) ∷ []) .number
+    answered = number-refused (listing renter before a after) zs zs (p, refl) ∙ rw (known, b)
+
+    go : (t : Bool) → leb need (length before) ≡ t → (a .number ≡ noRoom) ↔ (length before < 5 * length (stripsIn (half renter zs)))
+    go true t = (
+      λ n. absurd (omega (arith, n, rw t at answered)),
+      λ h. absurd (omega (arith, h, listed-long 0 (half renter zs), leb-true need (length before) t)),
+    )
+    go false t = (
+      λ n. omega (arith, listed-long 0 (half renter zs), leb-false need (length before) t),
+      λ h. rw t at answered,
+    )
+
+-- ---- a done booking takes the lowest free slot
+takes-lowest : {renter : ℤ} {w : Window} {a : BookingAnswer} {before after : List ℤ} → Bookable renter w before → Booked renter w a before after
+    → TakesLowest renter w a before after
+takes-lowest {renter} {w} {a} {before} {after} b d =
+    let own = half renter before in
+    let k = lowestFree own in
+    let l = room-among b in
+    record {
+      slot = k;
+      answer = d .answer;
+      among = l;
+      free = sym (ap inUse (half-at renter k before l)) ∙ lowest-free own;
+      below = λ j h. sym (ap inUse (half-at renter j before (omega (arith, h, l)))) ∙ used-below own j h;
+      holds = rw (slots-booked d) (getD-set-same (slotsOf before) (firstSlot renter + k) _ freeSlot (among-all renter before (b .known) (b .book) l));
+      others = λ j n. rw (slots-booked d) (getD-set-other (slotsOf before) (firstSlot renter + k) j _ freeSlot n);
+    }
+
+pub lowest-free-slot : LowestFreeSlot
+lowest-free-slot renter w a before after p z =
+    let done = sym (number-refused (booking renter w a) before after p) ∙ z in
+    takes-lowest (bookable renter w before done) (p .done done)
+
+-- ---- a done release frees the slot of its number
+slot-freed : {renter z : ℤ} {a : ReleaseAnswer} {before after : List ℤ} → Releasable renter z before → Released renter z a before after
+    → SlotFreed renter z before after
+slot-freed {renter} {z} {a} {before} {after} r d =
+    let ss = slotsOf before in
+    let h = slot-in-use renter z before (r .known) (r .book) (r .used) in
+    let slots : slotsOf after ≡ set ss (firstSlot renter + h .slot) freeSlot =
+        slots-released d ∙ ap (λ (y : ℤ). set ss (firstSlot renter + natAbs y) freeSlot) (h .number) in
+    record {
+      was = h;
+      holds = rw slots (getD-set-same ss (firstSlot renter + h .slot) freeSlot freeSlot (among-all renter before (r .known) (r .book) (h .among)));
+      others = λ j n. rw slots (getD-set-other ss (firstSlot renter + h .slot) j freeSlot freeSlot n);
+    }
+
+pub frees-the-slot : FreesTheSlot
+frees-the-slot renter z a before after p e =
+    let done = sym (number-refused (release renter z a) before after p) ∙ e in
+    slot-freed (releasable renter z before done) (p .done done)
