@@ -1,4 +1,5 @@
--- A call answers 19 exactly when there is no such renter, and a renter's call 23 exactly when his table has a fault: the tests find the slots at fault.
+-- A call answers 19 exactly when there is no such renter, and a renter's call 23 exactly when the table has a fault: the tests find the slots at
+-- fault.
 use mathlib.Core.Path.{_≡_, refl, sym, ap, _∙_}
 use mathlib.Core.Bool.{Bool, true, false, _&&_, _||_}
 use mathlib.Core.List.{List}

@@ -10,3 +10,4 @@ pub mod Numbers
 pub mod Faults
 pub mod OneCall
 pub mod Theorems
+pub mod Morning

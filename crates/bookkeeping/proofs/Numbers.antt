@@ -1,8 +1,8 @@
 -- The number that a call answers: 19 to one who is no renter, 23 to a renter whose table is no book, and a lesser one to each other, since all other
 -- refusals have lesser numbers. And 16 always has the place 0.
-use mathlib.Core.Path.{_≡_, refl, sym, ap, _∙_}
+use mathlib.Core.Path.{_≡_, refl}
 use mathlib.Core.Bool.{Bool, true, false, _&&_}
-use mathlib.Core.List.{List, [], _∷_}
+use mathlib.Core.List.{List}
 use Prim.Native.Nat.{ℕ, _<_}
 use native.Mathlib.Omega.{arith}
 use lib.Dec.{eqb, leb, ltb}
@@ -35,6 +35,9 @@ pub record Lesser (r : Refusal) : Type 0 where
 lesser : (n k : ℕ) → n < unknownRenter → (n ≡ stripTaken → ⊥) → Lesser (refuse n k)
 lesser n k l h = record { below = l; taken = λ e. absurd (h e) }
 
+lesser-taken : Lesser (refuse stripTaken 0)
+lesser-taken = record { below = omega arith; taken = λ _. refl }
+
 nothing : Lesser none
 nothing = lesser 0 0 (omega arith) (omega arith)
 
@@ -60,8 +63,7 @@ refusal-lesser : (e : Event) (zs : List ℤ) → Lesser (renterRefusal (renterOf
 unfolding bookingRefusal noneFree clash releaseRefusal slotRefusal listingRefusal roomRefusal
 refusal-lesser (booking renter w a) zs h t =
     let filled : Lesser (noneFree renter zs) = by-either (all inUse (half renter zs)) (lesser halfFull 0 (omega arith) (omega arith)) nothing in
-    let taken : Lesser (clash w zs) =
-        by-either (any (sharesArea w) (stripsIn (slotsOf zs))) (record { below = omega arith; taken = λ _. refl }) nothing in
+    let taken : Lesser (clash w zs) = by-either (any (sharesArea w) (stripsIn (slotsOf zs))) lesser-taken nothing in
     first-lesser (h ◂ t ◂ window-lesser w ◂ filled ◂ taken ◂ ∅)
 refusal-lesser (release renter z a) zs h t =
     let free : Lesser (slotRefusal renter z zs) = by-either (usedAt (half renter zs) z) nothing (lesser slotNotInUse 0 (omega arith) (omega arith)) in

@@ -18,7 +18,8 @@ use Rattle.racks.specs.Areas.{sharesArea}
 use Rattle.racks.specs.Members.{any, all}
 use Rattle.slots.specs.Slots.{Slot, slotsOf, inUse, stripsIn, isBook, lowestFree, freeSlot}
 use Rattle.slots.proofs.Lowest.{lowest-free, used-below, lowest-none}
-use Rattle.strip_book.specs.Books.{halfFull, stripTaken, slotNotInUse, renterRefusal, tableRefusal, usedAt, refusedBooking, BookStrip, Booked, Released}
+use Rattle.strip_book.specs.Books.{halfFull, stripTaken, slotNotInUse, renterRefusal, tableRefusal, usedAt}
+use Rattle.strip_book.specs.Books.{refusedBooking, BookStrip, Booked, Released}
 use Rattle.strip_book.specs.Renters.{isRenter, firstSlot, half}
 use Rattle.strip_book.specs.declared.BookingAnswer.{BookingAnswer}
 use Rattle.strip_book.specs.declared.ReleaseAnswer.{ReleaseAnswer}
@@ -27,8 +28,8 @@ use Rattle.strip_book.proofs.Refusing.{book-long, refuses-full, refuses-clash, 
 use Rattle.own_strips.specs.OwnStrips.{listedFrom, listingRefusal}
 use Rattle.bookkeeping.specs.OneCall.{slotIs, SharingSlot, HalfFullExactly, StripTakenExactly, SaysNoMore, SlotInUse, SlotNotInUseExactly}
 use Rattle.bookkeeping.specs.OneCall.{NoRoomExactly, TakesLowest, LowestFreeSlot, SlotFreed, FreesTheSlot}
-use Rattle.bookkeeping.specs.Runs.{booking, release, listing}
-use Rattle.bookkeeping.proofs.Answers.{lent-by, number-refused, answered-by, Bookable, bookable, Releasable, releasable, refusalOf}
+use Rattle.bookkeeping.specs.Runs.{Event, booking, release, listing}
+use Rattle.bookkeeping.proofs.Answers.{lent-by, number-refused, answered-by, Bookable, bookable, Releasable, releasable}
 use Rattle.bookkeeping.proofs.Entries.{listed-long}
 use Rattle.bookkeeping.proofs.Good.{strip-of, no-strip}
 use Rattle.bookkeeping.proofs.Numbers.{of-renter, answers-unknown, answers-no-book}
@@ -109,12 +110,15 @@ strip-taken-exactly renter w a before after p known b f k l v = go (shared w bef
 pub says-no-more : SaysNoMore
 says-no-more renter w a before after p n = go (isRenter renter) (isBook before) refl refl
   where
+    e : Event
+    e = booking renter w a
+
     go : (t u : Bool) → isRenter renter ≡ t → isBook before ≡ u → a ≡ refusedBooking (refuse stripTaken 0)
     go true true known b = lent-by p
         (λ z d. absurd (omega (arith, n, ap (λ (x : BookingAnswer). x .number) (d .answer))))
-        (λ m r. r .answer ∙ ap refusedBooking (of-renter (booking renter w a) before known b .taken (sym (number-refused (booking renter w a) before after p) ∙ n)))
-    go true false known b = absurd (omega (arith, n, answers-no-book (booking renter w a) before after p known b))
-    go false u h b = absurd (omega (arith, n, answers-unknown (booking renter w a) before after p h))
+        (λ m r. r .answer ∙ ap refusedBooking (of-renter e before known b .taken (sym (number-refused e before after p) ∙ n)))
+    go true false known b = absurd (omega (arith, n, answers-no-book e before after p known b))
+    go false u h b = absurd (omega (arith, n, answers-unknown e before after p h))
 
 -- ---- a slot in use that has a number
 slot-in-use : (renter z : ℤ) (zs : List ℤ) → isRenter renter ≡ true → isBook zs ≡ true → usedAt (half renter zs) z ≡ true → SlotInUse renter z zs
@@ -188,8 +192,7 @@ slot-freed : {renter z : ℤ} {a : ReleaseAnswer} {before after : List ℤ} → 
 slot-freed {renter} {z} {a} {before} {after} r d =
     let ss = slotsOf before in
     let h = slot-in-use renter z before (r .known) (r .book) (r .used) in
-    let slots : slotsOf after ≡ set ss (firstSlot renter + h .slot) freeSlot =
-        slots-released d ∙ ap (λ (y : ℤ). set ss (firstSlot renter + natAbs y) freeSlot) (h .number) in
+    let slots = slots-released d ∙ ap (λ (y : ℤ). set ss (firstSlot renter + natAbs y) freeSlot) (h .number) in
     record {
       was = h;
       holds = rw slots (getD-set-same ss (firstSlot renter + h .slot) freeSlot freeSlot (among-all renter before (r .known) (r .book) (h .among)));

@@ -1,9 +1,9 @@
--- A call on a book is the same call on paper: it is refused there by the same refusal, and where it is not, the same number is given and freed, or the
--- same strips are listed. The other way round, a call on paper is one on the book, since there each call has a result.
+-- A call on a book is the same call on paper: it is refused there by the same refusal, and where it is not, the same number is given or freed, or
+-- the same strips are listed. The other way round, a call on paper is one on the book, since there each call has a result.
 use mathlib.Core.Path.{_≡_, refl, sym, ap, _∙_, subst}
 use mathlib.Core.Bool.{Bool, true, false}
 use mathlib.Core.List.{List, [], _∷_}
-use Prim.Native.Nat.{ℕ}
+use Prim.Native.Nat.{_+_}
 use native.Mathlib.Nat.{zero-add}
 use native.Mathlib.Omega.{arith}
 use borrow.Author.Tests.{eq-eqb, ne-eqb, eqb-true, eqb-false}
@@ -21,13 +21,13 @@ use Rattle.grid.proofs.Calls.{lent-refused, lent-done}
 use Rattle.racks.specs.Members.{all}
 use Rattle.slots.specs.Slots.{Slot, inUse, isBook, lowestFree, slotOf, freeSlot}
 use Rattle.slots.proofs.Lowest.{lowest-free, free-among}
-use Rattle.strip_book.specs.Books.{unknownRenter, slotNotInUse, renterRefusal, tableRefusal, noneFree, clash, usedAt, slotRefusal}
+use Rattle.strip_book.specs.Books.{unknownRenter, renterRefusal, tableRefusal, noneFree, clash, usedAt, slotRefusal}
 use Rattle.strip_book.specs.Books.{bookingRefusal, BookStrip, bookedIn, refusedBooking, Booked, releaseRefusal, ReleaseSlot, releaseAnswer, Released}
 use Rattle.strip_book.specs.Renters.{isRenter, half}
 use Rattle.strip_book.specs.declared.BookingAnswer.{BookingAnswer}
 use Rattle.strip_book.specs.declared.ReleaseAnswer.{ReleaseAnswer}
 use Rattle.strip_book.proofs.Halves.{half-long}
-use Rattle.strip_book.proofs.Refusing.{book-long, refuses-renter, refuses-releaser}
+use Rattle.strip_book.proofs.Refusing.{book-long}
 use Rattle.own_strips.specs.OwnStrips.{listedFrom, listingRefusal}
 use Rattle.bookkeeping.specs.PlainList.{Entry, Paper, sheet, onSheet, firstMissing, entered, has, struckOut, listed}
 use Rattle.bookkeeping.specs.PlainList.{refusalToBook, answerBooking, afterBooking, refusalToRelease, answerRelease, afterRelease}
@@ -78,12 +78,12 @@ booking-on-paper renter w a before after b c = lent-by c done refused
         let k = bookable renter w before z in
         let q = paper-done renter w p (subst (λ (r : Refusal). r .number ≡ 0) same z) in
         let own = sheet-is renter before (k .known) in
-        let lowest : firstMissing 0 (sheet renter p) ≡ lowestFree hs = ap (firstMissing 0) own ∙ first-missing 0 hs ∙ zero-add (lowestFree hs) in
-        let put : entered (lowestFree hs) w (entriesFrom 0 hs) ≡ entriesFrom 0 (set hs (lowestFree hs) (slotOf 1 w)) =
-            rw zero-add at (enters 0 (lowestFree hs) w hs (free-among hs (k .room)) (lowest-free hs)) in (
-          d .answer ∙ ap bookedIn (sym lowest) ∙ sym (q .0),
-          ap paperOf (d .book) ∙ paper-put renter (lowestFree hs) (slotOf 1 w) before (k .known) (room-among k)
-          ∙ ap (λ (es : List Entry). onSheet renter es p) (sym put ∙ (λ i. entered (sym lowest i) w (sym own i))) ∙ sym (q .1),
+        let lowest : firstMissing 0 (sheet renter p) ≡ 0 + lowestFree hs = ap (firstMissing 0) own ∙ first-missing 0 hs in
+        let put = enters 0 (lowestFree hs) w hs (free-among hs (k .room)) (lowest-free hs) in
+        let same-entries = sym put ∙ (λ i. entered (sym lowest i) w (sym own i)) in
+        let same-sheets = paper-put renter (lowestFree hs) (slotOf 1 w) before (k .known) (room-among k) in (
+          d .answer ∙ ap bookedIn (sym (lowest ∙ zero-add (lowestFree hs))) ∙ sym (q .0),
+          ap paperOf (d .book) ∙ same-sheets ∙ ap (λ (es : List Entry). onSheet renter es p) same-entries ∙ sym (q .1),
         )
 
     refused : (bookingRefusal renter w before .number ≡ 0 → ⊥) → Refused refusedBooking (bookingRefusal renter w before) a before after
@@ -147,10 +147,10 @@ release-on-paper renter z a before after b c = lent-by c done refused
     done : releaseRefusal renter z before .number ≡ 0 → Released renter z a before after → OnPaper p (release renter z a) (paperOf after)
     done e d =
         let k = releasable renter z before e in
-        let own = sheet-is renter before (k .known) in (
+        let same-entries = sym (freed z hs (k .used)) ∙ ap (struckOut z) (sym (sheet-is renter before (k .known))) in
+        let same-sheets = paper-put renter (natAbs z) freeSlot before (k .known) (used-among-own k) in (
           d .answer ∙ ap releaseAnswer (sym (none-refuses _ e) ∙ same),
-          ap paperOf (d .book) ∙ paper-put renter (natAbs z) freeSlot before (k .known) (used-among-own k)
-          ∙ ap (λ (es : List Entry). onSheet renter es p) (sym (freed z hs (k .used)) ∙ ap (struckOut z) (sym own)),
+          ap paperOf (d .book) ∙ same-sheets ∙ ap (λ (es : List Entry). onSheet renter es p) same-entries,
         )
 
     refused : (releaseRefusal renter z before .number ≡ 0 → ⊥) → Refused releaseAnswer (releaseRefusal renter z before) a before after
@@ -175,6 +175,9 @@ module _ (renter : ℤ) (zs : List ℤ) (b : isBook zs ≡ true) where
   same-list z =
       let known = passed (isRenter renter) unknownRenter (omega arith) z in
       sym (ap listed (sheet-is renter zs known) ∙ lists 0 (half renter zs))
+
+  list-same : listingRefusal renter zs .number ≡ 0 → listed (sheet renter (paperOf zs)) ≡ listedFrom 0 (half renter zs)
+  list-same z = sym (same-list (ap (λ (r : Refusal). r .number) (sym same-listing) ∙ z))
 
 call-like : {r q : Refusal} {xs ys : List ℤ} {a : Answer} {before after : List ℤ} → r ≡ q → (q .number ≡ 0 → xs ≡ ys)
     → Call r (λ l. l ≡ xs) a before after → Call q (λ l. l ≡ ys) a before after
@@ -213,7 +216,4 @@ call-in-book (release renter z a) before p c b =
     let q = release-on-paper renter z (r .0) before (r .1) b (r .2) in
     (r .1, subst (λ x. ReleaseSlot renter z x before (r .1)) (q .0 ∙ sym (c .0)) (r .2), q .1 ∙ sym (c .1))
 call-in-book (listing renter out a out′) before p c b =
-    let e = sym (same-listing renter before b) in
-    let l : listingRefusal renter before .number ≡ 0 → listed (sheet renter (paperOf before)) ≡ listedFrom 0 (half renter before) =
-        λ z. sym (same-list renter before b (ap (λ (r : Refusal). r .number) e ∙ z)) in
-    (before, (call-like e l (c .0), refl), sym (c .1))
+    (before, (call-like (sym (same-listing renter before b)) (list-same renter before b) (c .0), refl), sym (c .1))

@@ -30,7 +30,7 @@ strips-both (s ∷ ss) ts = go (inUse s) (strips-both ss ts)
     go true e = ap (λ (ws : List Window). s .strip ∷ ws) e
     go false e = e
 
-pub both-halves : (zs : List ℤ) → isBook zs ≡ true → half (pos 0) zs ++ half (pos 1) zs ≡ slotsOf zs
+both-halves : (zs : List ℤ) → isBook zs ≡ true → half (pos 0) zs ++ half (pos 1) zs ≡ slotsOf zs
 both-halves zs b =
     let all : take 64 (slotsOf zs) ≡ slotsOf zs = take-all 64 (slotsOf zs) (omega (arith, book-slots zs b)) in
     rw all (take-append-drop 32 (slotsOf zs))

@@ -1,5 +1,5 @@
--- The book as it would be kept on paper: a sheet for each renter, and on it a list of strips, each with its number. A bookkeeper keeps it in the order
--- of the numbers, since then the first that is missing is seen where two neighbours do not follow each other.
+-- The book as it would be kept on paper: a sheet for each renter, and on it a list of strips, each with its number. A bookkeeper keeps it in the
+-- order of the numbers, since then the first that is missing is seen where two neighbours do not follow each other.
 --   Entry                 a strip and its number;  entry n w: the entry of the strip w with the number n
 --   strips es             the strips of the entries es
 --   RisingFrom n es       the entries es are in the order of their numbers: each is greater than the one before it, and the first is n or more
@@ -11,7 +11,7 @@
 --   Paper                 the two sheets;  blankPaper: with nothing on them
 --   sheet renter p        the renter's own sheet; an empty list, where there is no such renter
 --   onSheet renter es p   the paper with es on the renter's sheet; just p, where there is no such renter
---   refusalToBook renter w p   why the strip w is not entered: 19, 2, 3, 17 where the renter has 32, 16 where a strip on either sheet shares area with w
+--   refusalToBook renter w p   why the strip w is not entered: 19, 2, 3, 17 where the renter has 32, 16 where one on either sheet shares area with w
 --   answerBooking renter w p   what one who books w is told: the first missing number of the renter's sheet, or the refusal
 --   afterBooking renter w p    the paper afterwards
 --   refusalToRelease renter z p   why nothing is struck out: 19, then 18 where no entry of the renter's sheet has the number z
