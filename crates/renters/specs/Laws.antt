@@ -1,5 +1,5 @@
--- The laws that keep the renters apart, proved in proofs/Theorems.antt: they are about two runs that differ only in the others' calls, and in which the
--- renter got the same answers to his bookings before the call under judgement.
+-- The laws that keep the renters apart, proved in proofs/Theorems.antt and, the last, in proofs/Pair.antt: they are about two runs that differ only
+-- in the others' calls, and in which the renter got the same answers to his bookings before the call under judgement.
 --   SameAnswers          each listing of his, with its whole output, and each release is answered alike in both
 --   SameNextListing      so is each that he may make next, with its whole output
 --   SameNextRelease      and each release that he may make next

@@ -4,8 +4,9 @@
 --   Asked                  what a call asks, and of a booking also what was answered
 --   asks e                 what the call of the event e asks
 --   asked renter es        what the renter asked in the events es, one call after the other, with the answers to his bookings
---   TwoRuns renter es es′ book book′   two runs from the empty book, in which the renter made the same calls and got the same answers to his bookings;
---                          the calls of others may be any, as many and between which of his calls they like, also of renters that there are not
+--   TwoRuns renter es es′ book book′   two runs from the empty book, in which the renter made the same calls and got the same answers to his
+--                          bookings; the calls of others may be any, as many and between which of his calls they like, also of renters that there
+--                          are not
 use mathlib.Core.Path.{_≡_}
 use mathlib.Core.Bool.{Bool, false}
 use mathlib.Core.List.{List, [], _∷_, map}

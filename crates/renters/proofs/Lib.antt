@@ -1,0 +1,4 @@
+pub mod Told
+pub mod Replay
+pub mod Theorems
+pub mod Pair
