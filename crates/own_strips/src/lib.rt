@@ -1,23 +1,22 @@
 // A renter's own strips: for each, in slot order, its slot and its four numbers, into a lent output.
 ghost use mathlib.Core.Path.{_≡_};
-ghost use mathlib.Core.Bool.{true};
-ghost use Prim.Native.Nat.{_≤_};
+ghost use Prim.Native.Nat.{_+_, _≤_};
 ghost use lib.ListN.{length};
-ghost use Rattle.strip_book.specs.Renters.{isRenter, half};
-ghost use Rattle.grid.specs.Calls.{GaveNumbers, refusedBy};
+ghost use lib.Seq.{slice};
+ghost use Rattle.grid.specs.Calls.{written, refusedBy};
 ghost use Rattle.grid.specs.Refusals.{refuse};
+ghost use Rattle.slots.specs.Slots.{slotsOf};
 ghost use Rattle.own_strips.specs.OwnStrips.{listedFrom, ListStrips};
 use grid::Answer;
 use grid::Refusal;
 use slots::Tested;
 
-// How many numbers the listing has.
-fn count_listed(book: &[i32], renter: i32) -> usize
-    requires { ⌜ isRenter renter ≡ true ⌝ }
+// How many numbers the listing of the 32 slots from one on has.
+fn count_listed(book: &[i32], from: usize) -> usize
+    requires { ⌜ from ≤ 32 ⌝ }
     requires { ⌜ length (now book) ≡ 320 ⌝ }
-    ensures { λ r. ⌜ r ≡ length (listedFrom 0 (half renter (now (book .entry)))) ⌝ }
+    ensures { λ r. ⌜ r ≡ length (listedFrom 0 (slice from (from + 32) (slotsOf (now (book .entry))))) ⌝ }
 {
-    let from = strip_book::first_slot(renter);
     let mut needed = 0;
     let mut k = 0;
     while k < 32 {
@@ -29,15 +28,13 @@ fn count_listed(book: &[i32], renter: i32) -> usize
     needed
 }
 
-// Writes the listing, for which there is room, and says how many numbers it has. A row is put as a slot is: its number where the mark stands, then
-// the strip.
-fn write_listed(book: &[i32], renter: i32, out: &mut [i32]) -> usize
-    requires { ⌜ isRenter renter ≡ true ⌝ }
+// Writes that listing, for which there is room. A row is put as a slot is: its number where the mark stands, then the strip.
+fn write_listed(book: &[i32], from: usize, out: &mut [i32])
+    requires { ⌜ from ≤ 32 ⌝ }
     requires { ⌜ length (now book) ≡ 320 ⌝ }
-    requires { ⌜ length (listedFrom 0 (half renter (now book))) ≤ length (now out) ⌝ }
-    ensures { λ r. ⌜ GaveNumbers (λ xs. xs ≡ listedFrom 0 (half renter (now (book .entry)))) r (now (out .entry)) (now (out .exit)) ⌝ }
+    requires { ⌜ length (listedFrom 0 (slice from (from + 32) (slotsOf (now book)))) ≤ length (now out) ⌝ }
+    ensures { λ _. ⌜ now (out .exit) ≡ written (listedFrom 0 (slice from (from + 32) (slotsOf (now (book .entry))))) (now (out .entry)) ⌝ }
 {
-    let from = strip_book::first_slot(renter);
     let mut rows = 0;
     let mut k = 0;
     while k < 32 {
@@ -47,7 +44,6 @@ fn write_listed(book: &[i32], renter: i32, out: &mut [i32]) -> usize
         }
         k += 1;
     }
-    5 * rows
 }
 
 // The answer of a listing that refuses by a number whose place is 0.
@@ -70,10 +66,11 @@ pub fn list_strips(book: &[i32], renter: i32, out: &mut [i32]) -> Answer
     let Tested::Good(n) = tested else {
         return refused(strip_book::NO_BOOK);
     };
+    let from = strip_book::first_slot(renter);
     let room = out.len();
-    let needed = count_listed(book, renter);
+    let needed = count_listed(book, from);
     if needed <= room {
-        return grid::given(write_listed(book, renter, out), room);
+        write_listed(book, from, out);
     }
     grid::given(needed, room)
 }
