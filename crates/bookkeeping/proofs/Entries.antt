@@ -16,7 +16,7 @@ use Rattle.grid.specs.declared.Window.{Window}
 use Rattle.racks.specs.Members.{any, all}
 use Rattle.slots.specs.Slots.{Slot, numberIs, inUse, stripsIn, lowestFree, slotOf, freeSlot}
 use Rattle.own_strips.specs.OwnStrips.{listedFrom}
-use Rattle.bookkeeping.specs.PlainList.{Entry, entry, strips, RisingFrom, no-entry, an-entry, firstMissing, entered, has, struckOut, listed}
+use Rattle.bookkeeping.specs.PlainList.{Entry, entry, strips, RisingFrom, no-entry, an-entry, firstMissing, entered, has, struckOut, entriesListed}
 use Rattle.bookkeeping.specs.Runs.{entriesFrom}
 
 -- the entries of a slot and of those after it, by whether it is in use
@@ -157,25 +157,15 @@ leaves k (suc j) (s ∷ ss) = go (inUse s) (leaves (suc k) j ss)
     go true e = simp (ne-eqb (k + suc j) k (omega arith)) (rw (next-number k j, e))
     go false e = rw (next-number k j, e)
 
--- ---- the entries listed, five numbers for each
+-- ---- the entries listed
 abbrev listedIf : Bool → ℕ → Slot → List Slot → List ℤ
 listedIf b k s ss = if b then pos k ∷ sides (s .strip) ++ listedFrom (suc k) ss else listedFrom (suc k) ss
 
-pub lists : (k : ℕ) (ss : List Slot) → listed (entriesFrom k ss) ≡ listedFrom k ss
-unfolding entriesFrom listed listedFrom
+pub lists : (k : ℕ) (ss : List Slot) → entriesListed (entriesFrom k ss) ≡ listedFrom k ss
+unfolding entriesFrom entriesListed listedFrom
 lists k [] = refl
 lists k (s ∷ ss) = go (inUse s) (lists (suc k) ss)
   where
-    go : (b : Bool) → listed (entriesFrom (suc k) ss) ≡ listedFrom (suc k) ss → listed (entriesIf b k s ss) ≡ listedIf b k s ss
+    go : (b : Bool) → entriesListed (entriesFrom (suc k) ss) ≡ listedFrom (suc k) ss → entriesListed (entriesIf b k s ss) ≡ listedIf b k s ss
     go true e = ap (λ (zs : List ℤ). pos k ∷ sides (s .strip) ++ zs) e
-    go false e = e
-
-pub listed-long : (k : ℕ) (ss : List Slot) → length (listedFrom k ss) ≡ 5 * length (stripsIn ss)
-unfolding listedFrom stripsIn
-listed-long k [] = refl
-listed-long k (s ∷ ss) = go (inUse s) (listed-long (suc k) ss)
-  where
-    go : (b : Bool) → length (listedFrom (suc k) ss) ≡ 5 * length (stripsIn ss)
-        → length (listedIf b k s ss) ≡ 5 * length (if b then s .strip ∷ stripsIn ss else stripsIn ss)
-    go true e = omega arith
     go false e = e

@@ -4,10 +4,11 @@ pub mod Areas
 pub mod Answers
 pub mod Steps
 pub mod Entries
-pub mod Sheets
+pub mod TwoLeaves
 pub mod Paper
 pub mod Numbers
 pub mod Faults
 pub mod OneCall
+pub mod Done
 pub mod Theorems
 pub mod Morning

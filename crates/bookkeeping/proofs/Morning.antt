@@ -16,7 +16,7 @@ use Rattle.strip_book.specs.Books.{renterRefusal}
 use Rattle.strip_book.specs.declared.BookingAnswer.{BookingAnswer}
 use Rattle.strip_book.specs.declared.ReleaseAnswer.{ReleaseAnswer}
 use Rattle.bookkeeping.specs.Morning.{Morning}
-use Rattle.bookkeeping.specs.PlainList.{Paper, sheet, onSheet, listed, firstMissing, entered, struckOut}
+use Rattle.bookkeeping.specs.PlainList.{Paper, leaf, onLeaf, entriesListed, firstMissing, entered, struckOut}
 use Rattle.bookkeeping.specs.PlainList.{refusalToBook, answerBooking, afterBooking, refusalToRelease, answerRelease, afterRelease}
 use Rattle.bookkeeping.specs.Runs.{Event, booking, release, listing, OnPaper, RunOfCalls, a-call}
 use Rattle.bookkeeping.proofs.Theorems.{as-a-plain-list}
@@ -34,7 +34,7 @@ first-release {after} {events} (a-call c r) = (c .0, subst (λ p. RunOfCalls OnP
 
 first-listing : {renter : ℤ} {out : List ℤ} {a : Answer} {out′ : List ℤ} {before after : Paper} {events : List Event}
     → RunOfCalls OnPaper before (listing renter out a out′ ∷ events) after
-    → Call (renterRefusal renter) (λ xs. xs ≡ listed (sheet renter before)) a out out′
+    → Call (renterRefusal renter) (λ xs. xs ≡ entriesListed (leaf renter before)) a out out′
 first-listing (a-call c r) = c .0
 
 -- a listing that nothing refuses and that has room
@@ -48,7 +48,7 @@ all-listed {xs} {out} c h =
     )
 
 pub morning : Morning
-unfolding answerBooking afterBooking answerRelease afterRelease refusalToBook refusalToRelease renterRefusal sheet onSheet listed
+unfolding answerBooking afterBooking answerRelease afterRelease refusalToBook refusalToRelease renterRefusal leaf onLeaf entriesListed
     firstMissing entered struckOut any sharesArea first windowRefusal offTable noArea firstOff onTable
 morning a b c d e out f out′ book room r =
     let p = first-booking (as-a-plain-list _ book r) in

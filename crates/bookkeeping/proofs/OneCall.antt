@@ -1,9 +1,10 @@
--- One call, by its tests in their order: each test is told by slots, and no two refusals have one number. A call that is done changes one slot.
+-- One call, by its tests in their order: each test is told by slots, and no two refusals have one number.
 use mathlib.Core.Path.{_≡_, refl, sym, ap, _∙_}
 use mathlib.Core.Bool.{Bool, true, false, not-eq-not}
 use mathlib.Core.List.{List, [], _∷_}
-use mathlib.Core.Logic.{_↔_}
+use mathlib.Core.Logic.{_↔_, ⊎-elim}
 use Prim.Native.Nat.{ℕ, _+_, _*_, _<_}
+use native.Mathlib.Nat.{zero-add}
 use native.Mathlib.Omega.{arith}
 use borrow.Author.Tests.{leb-true, leb-false}
 use lib.Dec.{leb}
@@ -12,29 +13,45 @@ use lib.ListN.{length, set}
 use lib.Seq.{getD-set-same, getD-set-other}
 use Rattle.whole.specs.Choice.{if_then_else_}
 use Rattle.whole.proofs.Comparisons.{ff-tt, tt-ff}
+use Rattle.grid.specs.Calls.{refusedBy, answeredBy, written, Given}
 use Rattle.grid.specs.Refusals.{noRoom, none, refuse, first, windowRefusal, roomRefusal}
+use Rattle.grid.specs.declared.Answer.{Answer}
+use Rattle.grid.specs.declared.Refusal.{Refusal}
 use Rattle.grid.specs.declared.Window.{Window}
+use Rattle.grid.proofs.Calls.{given-cases}
 use Rattle.racks.specs.Areas.{sharesArea}
 use Rattle.racks.specs.Members.{any, all}
-use Rattle.slots.specs.Slots.{Slot, slotsOf, inUse, stripsIn, isBook, lowestFree, freeSlot}
+use Rattle.slots.specs.Slots.{Slot, slotsOf, slotAt, inUse, stripsIn, isBook, freeSlot}
 use Rattle.slots.proofs.Lowest.{lowest-free, used-below, lowest-none}
-use Rattle.strip_book.specs.Books.{halfFull, stripTaken, slotNotInUse, renterRefusal, tableRefusal, usedAt}
-use Rattle.strip_book.specs.Books.{refusedBooking, BookStrip, Booked, Released}
+use Rattle.strip_book.specs.Books.{halfFull, stripTaken, slotNotInUse, renterRefusal, tableRefusal, usedAt, bookingRefusal}
+use Rattle.strip_book.specs.Books.{refusedBooking, BookStrip}
 use Rattle.strip_book.specs.Renters.{isRenter, firstSlot, half}
 use Rattle.strip_book.specs.declared.BookingAnswer.{BookingAnswer}
 use Rattle.strip_book.specs.declared.ReleaseAnswer.{ReleaseAnswer}
 use Rattle.strip_book.proofs.Halves.{half-long, half-at}
-use Rattle.strip_book.proofs.Refusing.{book-long, refuses-full, refuses-clash, books, refuses-slot, releases, used-there}
+use Rattle.strip_book.proofs.Refusing.{book-long, refuses-window, refuses-full, refuses-clash, books, refuses-slot, releases, used-there}
 use Rattle.own_strips.specs.OwnStrips.{listedFrom, listingRefusal}
+use Rattle.own_strips.proofs.Listed.{listed-length}
+use Rattle.own_strips.proofs.Refusing.{lists}
 use Rattle.bookkeeping.specs.OneCall.{slotIs, SharingSlot, HalfFullExactly, StripTakenExactly, SaysNoMore, SlotInUse, SlotNotInUseExactly}
-use Rattle.bookkeeping.specs.OneCall.{NoRoomExactly, TakesLowest, LowestFreeSlot, SlotFreed, FreesTheSlot}
+use Rattle.bookkeeping.specs.OneCall.{HalvesOfTheTable, BadWindowNext, NoRoomExactly, RefusedKeeps}
 use Rattle.bookkeeping.specs.Runs.{Event, booking, release, listing}
-use Rattle.bookkeeping.proofs.Answers.{lent-by, number-refused, answered-by, Bookable, bookable, Releasable, releasable}
-use Rattle.bookkeeping.proofs.Entries.{listed-long}
+use Rattle.bookkeeping.proofs.Answers.{lent-by, number-refused, answered-by}
 use Rattle.bookkeeping.proofs.Good.{strip-of, no-strip}
 use Rattle.bookkeeping.proofs.Numbers.{of-renter, answers-unknown, answers-no-book}
-use Rattle.bookkeeping.proofs.Steps.{book-slots, slots-booked, slots-released, among-all, room-among}
+use Rattle.bookkeeping.proofs.Steps.{book-slots}
 use Rattle.bookkeeping.proofs.Tests.{not-all}
+
+-- ---- where the halves are
+pub halves-of-the-table : HalvesOfTheTable
+halves-of-the-table k zs = (ap (λ (n : ℕ). slotAt zs n) (zero-add k), refl)
+
+-- ---- a strip that 2 or 3 refuses
+pub bad-window-next : BadWindowNext
+bad-window-next renter w a before after p known b n =
+    let r = refuses-window renter w before known b n in
+    let m : bookingRefusal renter w before .number ≡ 0 → ⊥ = λ z. n (ap (λ (r : Refusal). r .number) (sym r) ∙ z) in
+    p .refused m .answer ∙ ap refusedBooking r
 
 -- ---- a slot in use, of either renter, that shares area
 module _ (w : Window) (zs : List ℤ) where
@@ -44,10 +61,10 @@ module _ (w : Window) (zs : List ℤ) where
   sharing-slot : isBook zs ≡ true → shared ≡ true → SharingSlot w zs
   sharing-slot b e =
       let k = strip-of (sharesArea w) (slotsOf zs) e in
-      record { slot = k .0; among = omega (arith, book-slots zs b); used = k .2; shares = k .3 }
+      record { place = k .0; among = omega (arith, book-slots zs b); used = k .2; shares = k .3 }
 
   no-sharing-slot : shared ≡ false → SharingSlot w zs → ⊥
-  no-sharing-slot e h = tt-ff (sym (h .shares) ∙ no-strip (sharesArea w) (slotsOf zs) e (h .slot) (h .used))
+  no-sharing-slot e h = tt-ff (sym (h .shares) ∙ no-strip (sharesArea w) (slotsOf zs) e (h .place) (h .used))
 
 -- ---- all slots of a renter in use
 module _ (renter : ℤ) (zs : List ℤ) (known : isRenter renter ≡ true) (b : isBook zs ≡ true) where
@@ -121,7 +138,7 @@ says-no-more renter w a before after p n = go (isRenter renter) (isBook before) 
     go false u h b = absurd (omega (arith, n, answers-unknown e before after p h))
 
 -- ---- a slot in use that has a number
-slot-in-use : (renter z : ℤ) (zs : List ℤ) → isRenter renter ≡ true → isBook zs ≡ true → usedAt (half renter zs) z ≡ true → SlotInUse renter z zs
+pub slot-in-use : (renter z : ℤ) (zs : List ℤ) → isRenter renter ≡ true → isBook zs ≡ true → usedAt (half renter zs) z ≡ true → SlotInUse renter z zs
 slot-in-use renter (pos k) zs known b u =
     let l = used-there (half renter zs) (pos k) (long renter zs known b) u .1 in
     record { slot = k; number = refl; among = l; used = sym (ap inUse (half-at renter k zs l)) ∙ u }
@@ -154,52 +171,47 @@ no-room-exactly renter zs a before after p known b = go (leb need (length before
     answered : a .number ≡ first ((if leb need (length before) then none else refuse noRoom need) ∷ []) .number
     answered = number-refused (listing renter before a after) zs zs (p, refl) ∙ rw (known, b)
 
-    go : (t : Bool) → leb need (length before) ≡ t → (a .number ≡ noRoom) ↔ (length before < 5 * length (stripsIn (half renter zs)))
+    full : ℕ
+    full = 5 * length (stripsIn (half renter zs))
+
+    all-said : a .number ≡ noRoom → a ≡ refusedBy (refuse noRoom full)
+    all-said n =
+        let g = p .done (lists renter zs known b) in
+        ⊎-elim (λ e. e ∙ ap (λ (k : ℕ). refusedBy (refuse noRoom k)) (ap length (g .gives) ∙ listed-length 0 (half renter zs)))
+        (λ q. absurd (omega (arith, n, ap (λ (x : Answer). x .number) (q .0)))) (given-cases g)
+
+    go : (t : Bool) → leb need (length before) ≡ t
+        → ((a .number ≡ noRoom) ↔ (length before < full)) × (a .number ≡ noRoom → a ≡ refusedBy (refuse noRoom full))
     go true t = (
+      (
+        λ n. absurd (omega (arith, n, rw t at answered)),
+        λ h. absurd (omega (arith, h, listed-length 0 (half renter zs), leb-true need (length before) t)),
+      ),
       λ n. absurd (omega (arith, n, rw t at answered)),
-      λ h. absurd (omega (arith, h, listed-long 0 (half renter zs), leb-true need (length before) t)),
     )
     go false t = (
-      λ n. omega (arith, listed-long 0 (half renter zs), leb-false need (length before) t),
-      λ h. rw t at answered,
+      (
+        λ n. omega (arith, listed-length 0 (half renter zs), leb-false need (length before) t),
+        λ h. rw t at answered,
+      ),
+      λ n. all-said n,
     )
 
--- ---- a done booking takes the lowest free slot
-takes-lowest : {renter : ℤ} {w : Window} {a : BookingAnswer} {before after : List ℤ} → Bookable renter w before → Booked renter w a before after
-    → TakesLowest renter w a before after
-takes-lowest {renter} {w} {a} {before} {after} b d =
-    let own = half renter before in
-    let k = lowestFree own in
-    let l = room-among b in
-    record {
-      slot = k;
-      answer = d .answer;
-      among = l;
-      free = sym (ap inUse (half-at renter k before l)) ∙ lowest-free own;
-      below = λ j h. sym (ap inUse (half-at renter j before (omega (arith, h, l)))) ∙ used-below own j h;
-      holds = rw (slots-booked d) (getD-set-same (slotsOf before) (firstSlot renter + k) _ freeSlot (among-all renter before (b .known) (b .book) l));
-      others = λ j n. rw (slots-booked d) (getD-set-other (slotsOf before) (firstSlot renter + k) j _ freeSlot n);
-    }
+-- ---- a refused call keeps all
+given-keeps : {Gives : List ℤ → Type 0} {a : Answer} {out out′ : List ℤ} → Given Gives a out out′ → (a .number ≡ 0 → ⊥) → out′ ≡ out
+unfolding answeredBy roomRefusal written
+given-keeps {a = a} {out = out} {out′ = out′} g n = go (leb (length (g .numbers)) (length out)) refl
+  where
+    xs : List ℤ
+    xs = g .numbers
 
-pub lowest-free-slot : LowestFreeSlot
-lowest-free-slot renter w a before after p z =
-    let done = sym (number-refused (booking renter w a) before after p) ∙ z in
-    takes-lowest (bookable renter w before done) (p .done done)
+    go : (t : Bool) → leb (length xs) (length out) ≡ t → out′ ≡ out
+    go true t = absurd (n (ap (λ (x : Answer). x .number) (g .answer) ∙ rw t))
+    go false t = g .output ∙ rw t
 
--- ---- a done release frees the slot of its number
-slot-freed : {renter z : ℤ} {a : ReleaseAnswer} {before after : List ℤ} → Releasable renter z before → Released renter z a before after
-    → SlotFreed renter z before after
-slot-freed {renter} {z} {a} {before} {after} r d =
-    let ss = slotsOf before in
-    let h = slot-in-use renter z before (r .known) (r .book) (r .used) in
-    let slots = slots-released d ∙ ap (λ (y : ℤ). set ss (firstSlot renter + natAbs y) freeSlot) (h .number) in
-    record {
-      was = h;
-      holds = rw slots (getD-set-same ss (firstSlot renter + h .slot) freeSlot freeSlot (among-all renter before (r .known) (r .book) (h .among)));
-      others = λ j n. rw slots (getD-set-other ss (firstSlot renter + h .slot) j freeSlot freeSlot n);
-    }
-
-pub frees-the-slot : FreesTheSlot
-frees-the-slot renter z a before after p e =
-    let done = sym (number-refused (release renter z a) before after p) ∙ e in
-    slot-freed (releasable renter z before done) (p .done done)
+pub refused-keeps : RefusedKeeps
+refused-keeps (booking renter w a) before after p n =
+    lent-by p (λ z d. absurd (n (ap (λ (x : BookingAnswer). x .number) (d .answer)))) (λ m r. (r .untouched, refl))
+refused-keeps (release renter z a) before after p n =
+    lent-by p (λ z d. absurd (n (ap (λ (x : ReleaseAnswer). x .number) (d .answer)))) (λ m r. (r .untouched, refl))
+refused-keeps (listing renter out a out′) before after p n = (p .1, lent-by (p .0) (λ z d. given-keeps d n) (λ m r. r .untouched))

@@ -29,12 +29,12 @@ use Rattle.strip_book.specs.declared.ReleaseAnswer.{ReleaseAnswer}
 use Rattle.strip_book.proofs.Halves.{half-long}
 use Rattle.strip_book.proofs.Refusing.{book-long}
 use Rattle.own_strips.specs.OwnStrips.{listedFrom, listingRefusal}
-use Rattle.bookkeeping.specs.PlainList.{Entry, Paper, sheet, onSheet, firstMissing, entered, has, struckOut, listed}
+use Rattle.bookkeeping.specs.PlainList.{Entry, Paper, leaf, onLeaf, firstMissing, entered, has, struckOut, entriesListed}
 use Rattle.bookkeeping.specs.PlainList.{refusalToBook, answerBooking, afterBooking, refusalToRelease, answerRelease, afterRelease}
 use Rattle.bookkeeping.specs.Runs.{Event, booking, release, listing, InBook, OnPaper, entriesFrom, entriesOf, paperOf}
 use Rattle.bookkeeping.proofs.Answers.{lent-by, passed, bookable, releasable}
 use Rattle.bookkeeping.proofs.Entries.{entries-full, first-missing, enters, has-slot, has-negative, struck-absent, leaves, lists}
-use Rattle.bookkeeping.proofs.Sheets.{paper-strips, sheet-is, same-sheet, on-no-sheet, paper-put}
+use Rattle.bookkeeping.proofs.TwoLeaves.{paper-strips, leaf-is, same-leaf, on-no-leaf, paper-put}
 use Rattle.bookkeeping.proofs.Steps.{room-among, used-among-own}
 
 -- ---- a booking: its refusal, and what is answered and entered on paper
@@ -46,12 +46,12 @@ same-refusal renter w zs b = go (isRenter renter) refl
     go true known =
         let hs = half renter zs in
         let filled : eqb (length (entriesOf renter zs)) 32 ≡ all inUse hs = rw (half-long renter known zs (book-long zs b)) at (entries-full 0 hs) in
-        rw (known, b, sheet-is renter zs known, filled, paper-strips zs b)
+        rw (known, b, leaf-is renter zs known, filled, paper-strips zs b)
     go false known = rw known
 
 module _ (renter : ℤ) (w : Window) (p : Paper) where
-  paper-done : refusalToBook renter w p .number ≡ 0 → let own = sheet renter p in
-      (answerBooking renter w p ≡ bookedIn (firstMissing 0 own)) × (afterBooking renter w p ≡ onSheet renter (entered (firstMissing 0 own) w own) p)
+  paper-done : refusalToBook renter w p .number ≡ 0 → let own = leaf renter p in
+      (answerBooking renter w p ≡ bookedIn (firstMissing 0 own)) × (afterBooking renter w p ≡ onLeaf renter (entered (firstMissing 0 own) w own) p)
   unfolding answerBooking afterBooking
   paper-done h = (simp (eq-eqb _ _ h), simp (eq-eqb _ _ h))
 
@@ -77,13 +77,13 @@ booking-on-paper renter w a before after b c = lent-by c done refused
     done z d =
         let k = bookable renter w before z in
         let q = paper-done renter w p (subst (λ (r : Refusal). r .number ≡ 0) same z) in
-        let own = sheet-is renter before (k .known) in
-        let lowest : firstMissing 0 (sheet renter p) ≡ 0 + lowestFree hs = ap (firstMissing 0) own ∙ first-missing 0 hs in
+        let own = leaf-is renter before (k .known) in
+        let lowest : firstMissing 0 (leaf renter p) ≡ 0 + lowestFree hs = ap (firstMissing 0) own ∙ first-missing 0 hs in
         let put = enters 0 (lowestFree hs) w hs (free-among hs (k .room)) (lowest-free hs) in
         let same-entries = sym put ∙ (λ i. entered (sym lowest i) w (sym own i)) in
-        let same-sheets = paper-put renter (lowestFree hs) (slotOf 1 w) before (k .known) (room-among k) in (
+        let same-leaves = paper-put renter (lowestFree hs) (slotOf 1 w) before (k .known) (room-among k) in (
           d .answer ∙ ap bookedIn (sym (lowest ∙ zero-add (lowestFree hs))) ∙ sym (q .0),
-          ap paperOf (d .book) ∙ same-sheets ∙ ap (λ (es : List Entry). onSheet renter es p) same-entries ∙ sym (q .1),
+          ap paperOf (d .book) ∙ same-leaves ∙ ap (λ (es : List Entry). onLeaf renter es p) same-entries ∙ sym (q .1),
         )
 
     refused : (bookingRefusal renter w before .number ≡ 0 → ⊥) → Refused refusedBooking (bookingRefusal renter w before) a before after
@@ -102,7 +102,7 @@ unfolding releaseRefusal renterRefusal tableRefusal slotRefusal refusalToRelease
 same-release renter z zs b = go (isRenter renter) refl
   where
     go : (t : Bool) → isRenter renter ≡ t → releaseRefusal renter z zs ≡ refusalToRelease renter z (paperOf zs)
-    go true known = rw (known, b, sheet-is renter zs known, used-has (half renter zs) z)
+    go true known = rw (known, b, leaf-is renter zs known, used-has (half renter zs) z)
     go false known = rw known
 
 freed : (z : ℤ) (ss : List Slot) → usedAt ss z ≡ true → struckOut z (entriesFrom 0 ss) ≡ entriesFrom 0 (set ss (natAbs z) freeSlot)
@@ -123,12 +123,12 @@ none-refuses (r ∷ rs) z = go (eqb (r .number) 0) refl z (none-refuses rs)
 -- on paper nothing is struck out where a release is refused
 nothing-struck : (renter z : ℤ) (p : Paper) → (refusalToRelease renter z p .number ≡ 0 → ⊥) → afterRelease renter z p ≡ p
 unfolding refusalToRelease renterRefusal afterRelease first
-nothing-struck renter z p n = go (isRenter renter) (has z (sheet renter p)) refl refl
+nothing-struck renter z p n = go (isRenter renter) (has z (leaf renter p)) refl refl
   where
-    go : (t u : Bool) → isRenter renter ≡ t → has z (sheet renter p) ≡ u → onSheet renter (struckOut z (sheet renter p)) p ≡ p
+    go : (t u : Bool) → isRenter renter ≡ t → has z (leaf renter p) ≡ u → onLeaf renter (struckOut z (leaf renter p)) p ≡ p
     go true true known h = absurd (n (rw (known, h)))
-    go true false known h = ap (λ (es : List Entry). onSheet renter es p) (struck-absent z (sheet renter p) h) ∙ same-sheet renter p
-    go false u known h = on-no-sheet renter (struckOut z (sheet renter p)) p known
+    go true false known h = ap (λ (es : List Entry). onLeaf renter es p) (struck-absent z (leaf renter p) h) ∙ same-leaf renter p
+    go false u known h = on-no-leaf renter (struckOut z (leaf renter p)) p known
 
 release-on-paper : (renter z : ℤ) (a : ReleaseAnswer) (before after : List ℤ) → isBook before ≡ true → ReleaseSlot renter z a before after
     → OnPaper (paperOf before) (release renter z a) (paperOf after)
@@ -147,10 +147,10 @@ release-on-paper renter z a before after b c = lent-by c done refused
     done : releaseRefusal renter z before .number ≡ 0 → Released renter z a before after → OnPaper p (release renter z a) (paperOf after)
     done e d =
         let k = releasable renter z before e in
-        let same-entries = sym (freed z hs (k .used)) ∙ ap (struckOut z) (sym (sheet-is renter before (k .known))) in
-        let same-sheets = paper-put renter (natAbs z) freeSlot before (k .known) (used-among-own k) in (
+        let same-entries = sym (freed z hs (k .used)) ∙ ap (struckOut z) (sym (leaf-is renter before (k .known))) in
+        let same-leaves = paper-put renter (natAbs z) freeSlot before (k .known) (used-among-own k) in (
           d .answer ∙ ap releaseAnswer (sym (none-refuses _ e) ∙ same),
-          ap paperOf (d .book) ∙ same-sheets ∙ ap (λ (es : List Entry). onSheet renter es p) same-entries,
+          ap paperOf (d .book) ∙ same-leaves ∙ ap (λ (es : List Entry). onLeaf renter es p) same-entries,
         )
 
     refused : (releaseRefusal renter z before .number ≡ 0 → ⊥) → Refused releaseAnswer (releaseRefusal renter z before) a before after
@@ -170,13 +170,13 @@ module _ (renter : ℤ) (zs : List ℤ) (b : isBook zs ≡ true) where
       go true = refl
       go false = refl
 
-  same-list : renterRefusal renter .number ≡ 0 → listedFrom 0 (half renter zs) ≡ listed (sheet renter (paperOf zs))
+  same-list : renterRefusal renter .number ≡ 0 → listedFrom 0 (half renter zs) ≡ entriesListed (leaf renter (paperOf zs))
   unfolding renterRefusal
   same-list z =
       let known = passed (isRenter renter) unknownRenter (omega arith) z in
-      sym (ap listed (sheet-is renter zs known) ∙ lists 0 (half renter zs))
+      sym (ap entriesListed (leaf-is renter zs known) ∙ lists 0 (half renter zs))
 
-  list-same : listingRefusal renter zs .number ≡ 0 → listed (sheet renter (paperOf zs)) ≡ listedFrom 0 (half renter zs)
+  list-same : listingRefusal renter zs .number ≡ 0 → entriesListed (leaf renter (paperOf zs)) ≡ listedFrom 0 (half renter zs)
   list-same z = sym (same-list (ap (λ (r : Refusal). r .number) (sym same-listing) ∙ z))
 
 call-like : {r q : Refusal} {xs ys : List ℤ} {a : Answer} {before after : List ℤ} → r ≡ q → (q .number ≡ 0 → xs ≡ ys)

@@ -19,13 +19,13 @@ use Rattle.strip_book.specs.Books.{noBook}
 use Rattle.strip_book.specs.Renters.{isRenter, half}
 use Rattle.bookkeeping.specs.Laws.{AsAPlainList, EachRunOnPaper, FromAnyBook, PaperInOrder, LeastMissing}
 use Rattle.bookkeeping.specs.Laws.{StaysABook, NeverNoBook, NoTwoShareArea}
-use Rattle.bookkeeping.specs.PlainList.{RisingFrom, firstMissing, has, Paper, blankPaper, sheet}
+use Rattle.bookkeeping.specs.PlainList.{RisingFrom, firstMissing, has, Paper, blankPaper, leaf}
 use Rattle.bookkeeping.specs.Runs.{Event, numberAnswered, InBook, OnPaper, RunOfCalls, no-call, a-call, emptyBook, entriesFrom, paperOf}
 use Rattle.bookkeeping.proofs.Areas.{shares-turned, shares-a-point}
 use Rattle.bookkeeping.proofs.Entries.{entries-rise, first-missing, has-slot}
 use Rattle.bookkeeping.proofs.Faults.{call-never}
 use Rattle.bookkeeping.proofs.Paper.{call-on-paper, call-in-book}
-use Rattle.bookkeeping.proofs.Sheets.{sheet-is, no-sheet}
+use Rattle.bookkeeping.proofs.TwoLeaves.{leaf-is, no-leaf}
 use Rattle.bookkeeping.proofs.Steps.{book-good, call-stays}
 
 -- ---- where they begin
@@ -78,17 +78,17 @@ stays-a-book events book r = run-stays r empty-is-a-book
 pub never-no-book : NeverNoBook
 never-no-book events book r = run-never r empty-is-a-book
 
--- ---- a sheet, which has the entries of some slots: those of the renter's half, or of none where there is no such renter
-slots-of-sheet : (events : List Event) (p : Paper) → RunOfCalls OnPaper blankPaper events p → (renter : ℤ)
-    → (ss : List Slot) × (entriesFrom 0 ss ≡ sheet renter p)
+-- ---- a leaf, which has the entries of some slots: those of the renter's half, or of none where there is no such renter
+slots-of-leaf : (events : List Event) (p : Paper) → RunOfCalls OnPaper blankPaper events p → (renter : ℤ)
+    → (ss : List Slot) × (entriesFrom 0 ss ≡ leaf renter p)
 unfolding entriesFrom
-slots-of-sheet events p r renter = go (isRenter renter) refl
+slots-of-leaf events p r renter = go (isRenter renter) refl
   where
-    go : (t : Bool) → isRenter renter ≡ t → (ss : List Slot) × (entriesFrom 0 ss ≡ sheet renter p)
+    go : (t : Bool) → isRenter renter ≡ t → (ss : List Slot) × (entriesFrom 0 ss ≡ leaf renter p)
     go true known =
         let c = each-run-on-paper events p r in
-        (half renter (c .0), sym (sheet-is renter (c .0) known) ∙ ap (sheet renter) (c .2))
-    go false known = ([], sym (no-sheet renter p known))
+        (half renter (c .0), sym (leaf-is renter (c .0) known) ∙ ap (leaf renter) (c .2))
+    go false known = ([], sym (no-leaf renter p known))
 
 least-missing-entry : (ss : List Slot) → let es = entriesFrom 0 ss in
     (has (pos (firstMissing 0 es)) es ≡ false) × ((n : ℕ) → n < firstMissing 0 es → has (pos n) es ≡ true)
@@ -101,12 +101,12 @@ least-missing-entry ss =
 
 pub paper-in-order : PaperInOrder
 paper-in-order events p r renter =
-    let s = slots-of-sheet events p r renter in
+    let s = slots-of-leaf events p r renter in
     subst (RisingFrom 0) (s .1) (entries-rise 0 (s .0))
 
 pub least-missing : LeastMissing
 least-missing events p r renter =
-    let s = slots-of-sheet events p r renter in
+    let s = slots-of-leaf events p r renter in
     subst (λ es. (has (pos (firstMissing 0 es)) es ≡ false) × ((n : ℕ) → n < firstMissing 0 es → has (pos n) es ≡ true)) (s .1)
     (least-missing-entry (s .0))
 

@@ -16,7 +16,7 @@ use Rattle.rings.specs.Lists.{All}
 use Rattle.slots.specs.Slots.{slotAt, inUse, isBook}
 use Rattle.strip_book.specs.Books.{noBook}
 use Rattle.bookkeeping.specs.Areas.{InBoth}
-use Rattle.bookkeeping.specs.PlainList.{RisingFrom, firstMissing, has, Paper, blankPaper, sheet}
+use Rattle.bookkeeping.specs.PlainList.{RisingFrom, firstMissing, has, Paper, blankPaper, leaf}
 use Rattle.bookkeeping.specs.Runs.{Event, numberAnswered, RunOfCalls, InBook, OnPaper, FromEmpty, paperOf}
 
 -- ---- the book and the paper
@@ -35,10 +35,10 @@ FromAnyBook = (before after : List ℤ) (events : List Event) → isBook before 
 -- ---- the paper
 
 abbrev pub PaperInOrder : Type 0
-PaperInOrder = (events : List Event) (p : Paper) → RunOfCalls OnPaper blankPaper events p → (renter : ℤ) → RisingFrom 0 (sheet renter p)
+PaperInOrder = (events : List Event) (p : Paper) → RunOfCalls OnPaper blankPaper events p → (renter : ℤ) → RisingFrom 0 (leaf renter p)
 
 abbrev pub LeastMissing : Type 0
-LeastMissing = (events : List Event) (p : Paper) → RunOfCalls OnPaper blankPaper events p → (renter : ℤ) → let es = sheet renter p in
+LeastMissing = (events : List Event) (p : Paper) → RunOfCalls OnPaper blankPaper events p → (renter : ℤ) → let es = leaf renter p in
     (has (pos (firstMissing 0 es)) es ≡ false) × ((n : ℕ) → n < firstMissing 0 es → has (pos n) es ≡ true)
 
 -- ---- the book

@@ -1,43 +1,47 @@
--- Laws of one call, whatever table it is made on: when exactly it answers each of the book's own refusals, told by the numbers of slots, and what it
--- does where it is done. UnknownRenterExactly and NoBookExactly are proved in proofs/Faults.antt, the others in proofs/OneCall.antt.
+-- Laws of one call, whatever table it is made on: when exactly it answers each refusal, told by the numbers of slots, and that it then leaves all as it
+-- was. UnknownRenterExactly and NoBookExactly are proved in proofs/Faults.antt, the others in proofs/OneCall.antt. From 17 on they are about a renter
+-- that there is and a table that is a book, since the others are refused before.
 --   slotIs renter k zs    the slot k of the renter in a table
+--   HalvesOfTheTable      renter 0's slot k is the table's slot k, and renter 1's is the table's slot 32 + k
 --   UnknownRenterExactly  a call answers 19 exactly when the renter is neither 0 nor 1
 --   NotABook zs           the four faults of a table, in the words of the rules
 --   NoBookExactly         a call of a renter answers 23 exactly when the table has one of them
---   SharingSlot w zs      a slot in use, of either renter, that holds a strip that shares area with w
+--   BadWindowNext         on a book, a booking of a strip that 2 or 3 refuses is answered by that refusal, whatever is free or taken
+--   SharingSlot w zs      a slot of the table in use, of either renter, that holds a strip that shares area with w
 --   HalfFullExactly       on a book, a booking that neither 2 nor 3 refuses answers 17 exactly when all 32 slots of the renter are in use
 --   StripTakenExactly     where one of them is free, it answers 16 exactly when there is a sharing slot
 --   SaysNoMore            16 is the whole answer: place and slot are 0, whichever strip it is that shares area
 --   SlotInUse renter z zs   a slot in use that has the number z among the renter's
 --   SlotNotInUseExactly   on a book, a release answers 18 exactly when there is none
---   NoRoomExactly         on a book, a listing answers 8 exactly when the output has less than five numbers for each of the renter's strips
---   TakesLowest renter w a before after   the booking got a slot of the renter that was free, all his below being in use; its strip is there, the
---                         other slots, also those of the other renter, are as they were
---   LowestFreeSlot        so it is with each booking that is done
---   SlotFreed renter z before after       there was a slot in use with the number z among the renter's; it holds five zeros, the other slots are as
---                         they were
---   FreesTheSlot          so it is with each release that is done
+--   NoRoomExactly         on a book, a listing answers 8 exactly when the output has less than five numbers for each of the renter's strips, and then
+--                         says how many that is
+--   lentBefore, lentAfter e   what the output of an event's listing held before and after; of other calls nothing
+--   RefusedKeeps          a call that answers a refusal, whichever it is, leaves the table and the output as they were
 use mathlib.Core.Path.{_≡_}
 use mathlib.Core.Bool.{true, false}
-use mathlib.Core.List.{List}
+use mathlib.Core.List.{List, []}
 use mathlib.Core.Logic.{_↔_}
 use Prim.Native.Nat.{ℕ, _+_, _*_, _<_}
 use lib.IntN.{ℤ, pos}
 use lib.ListN.{length}
+use Rattle.grid.specs.Calls.{refusedBy}
 use Rattle.grid.specs.Refusals.{refuse, windowRefusal, noRoom}
 use Rattle.grid.specs.declared.Answer.{Answer}
 use Rattle.grid.specs.declared.Window.{Window}
 use Rattle.racks.specs.Areas.{sharesArea}
-use Rattle.slots.specs.Slots.{Slot, slotOf, freeSlot, slotAt, inUse, stripsIn, isBook}
-use Rattle.strip_book.specs.Books.{unknownRenter, noBook, halfFull, stripTaken, slotNotInUse, refusedBooking, bookedIn, BookStrip, ReleaseSlot}
+use Rattle.slots.specs.Slots.{Slot, slotAt, inUse, stripsIn, isBook}
+use Rattle.strip_book.specs.Books.{unknownRenter, noBook, halfFull, stripTaken, slotNotInUse, refusedBooking, BookStrip, ReleaseSlot}
 use Rattle.strip_book.specs.Renters.{isRenter, firstSlot, half}
 use Rattle.strip_book.specs.declared.BookingAnswer.{BookingAnswer}
 use Rattle.strip_book.specs.declared.ReleaseAnswer.{ReleaseAnswer}
 use Rattle.own_strips.specs.OwnStrips.{ListStrips}
-use Rattle.bookkeeping.specs.Runs.{Event, renterOf, numberAnswered, InBook}
+use Rattle.bookkeeping.specs.Runs.{Event, booking, release, listing, renterOf, numberAnswered, InBook}
 
 abbrev pub slotIs : ℤ → ℕ → List ℤ → Slot
 slotIs renter k zs = slotAt zs (firstSlot renter + k)
+
+abbrev pub HalvesOfTheTable : Type 0
+HalvesOfTheTable = (k : ℕ) (zs : List ℤ) → (slotIs (pos 0) k zs ≡ slotAt zs k) × (slotIs (pos 1) k zs ≡ slotAt zs (32 + k))
 
 -- ---- 19, then 23
 
@@ -56,13 +60,18 @@ abbrev pub NoBookExactly : Type 0
 NoBookExactly = (e : Event) (before after : List ℤ) → InBook before e after → isRenter (renterOf e) ≡ true
     → (numberAnswered e ≡ noBook) ↔ NotABook before
 
--- ---- 17, then 16
+-- ---- 2 and 3, 17, then 16
+
+abbrev pub BadWindowNext : Type 0
+BadWindowNext = (renter : ℤ) (w : Window) (a : BookingAnswer) (before after : List ℤ) → BookStrip renter w a before after
+    → isRenter renter ≡ true → isBook before ≡ true → (windowRefusal w .number ≡ 0 → ⊥)
+    → a ≡ refusedBooking (windowRefusal w)
 
 pub record SharingSlot (w : Window) (zs : List ℤ) : Type 0 where
-  pub slot : ℕ
-  pub among : slot < 64
-  pub used : inUse (slotAt zs slot) ≡ true
-  pub shares : sharesArea w (slotAt zs slot .strip) ≡ true
+  pub place : ℕ
+  pub among : place < 64
+  pub used : inUse (slotAt zs place) ≡ true
+  pub shares : sharesArea w (slotAt zs place .strip) ≡ true
 
 abbrev pub HalfFullExactly : Type 0
 HalfFullExactly = (renter : ℤ) (w : Window) (a : BookingAnswer) (before after : List ℤ) → BookStrip renter w a before after
@@ -97,28 +106,21 @@ SlotNotInUseExactly = (renter z : ℤ) (a : ReleaseAnswer) (before after : List 
 abbrev pub NoRoomExactly : Type 0
 NoRoomExactly = (renter : ℤ) (zs : List ℤ) (a : Answer) (before after : List ℤ) → ListStrips renter zs a before after
     → isRenter renter ≡ true → isBook zs ≡ true
-    → (a .number ≡ noRoom) ↔ (length before < 5 * length (stripsIn (half renter zs)))
+    → let need = 5 * length (stripsIn (half renter zs)) in
+    ((a .number ≡ noRoom) ↔ (length before < need)) × (a .number ≡ noRoom → a ≡ refusedBy (refuse noRoom need))
 
--- ---- what a call that is done does
+-- ---- any refusal
 
-pub record TakesLowest (renter : ℤ) (w : Window) (a : BookingAnswer) (before after : List ℤ) : Type 0 where
-  pub slot : ℕ
-  pub answer : a ≡ bookedIn slot
-  pub among : slot < 32
-  pub free : inUse (slotIs renter slot before) ≡ false
-  pub below : (j : ℕ) → j < slot → inUse (slotIs renter j before) ≡ true
-  pub holds : slotIs renter slot after ≡ slotOf 1 w
-  pub others : (j : ℕ) → (j ≡ firstSlot renter + slot → ⊥) → slotAt after j ≡ slotAt before j
+abbrev pub lentBefore : Event → List ℤ
+lentBefore (booking renter w a) = []
+lentBefore (release renter z a) = []
+lentBefore (listing renter out a out′) = out
 
-abbrev pub LowestFreeSlot : Type 0
-LowestFreeSlot = (renter : ℤ) (w : Window) (a : BookingAnswer) (before after : List ℤ) → BookStrip renter w a before after
-    → a .number ≡ 0 → TakesLowest renter w a before after
+abbrev pub lentAfter : Event → List ℤ
+lentAfter (booking renter w a) = []
+lentAfter (release renter z a) = []
+lentAfter (listing renter out a out′) = out′
 
-pub record SlotFreed (renter z : ℤ) (before after : List ℤ) : Type 0 where
-  pub was : SlotInUse renter z before
-  pub holds : slotIs renter (was .slot) after ≡ freeSlot
-  pub others : (j : ℕ) → (j ≡ firstSlot renter + was .slot → ⊥) → slotAt after j ≡ slotAt before j
-
-abbrev pub FreesTheSlot : Type 0
-FreesTheSlot = (renter z : ℤ) (a : ReleaseAnswer) (before after : List ℤ) → ReleaseSlot renter z a before after
-    → a .number ≡ 0 → SlotFreed renter z before after
+abbrev pub RefusedKeeps : Type 0
+RefusedKeeps = (e : Event) (before after : List ℤ) → InBook before e after → (numberAnswered e ≡ 0 → ⊥)
+    → (after ≡ before) × (lentAfter e ≡ lentBefore e)

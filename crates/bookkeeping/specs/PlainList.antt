@@ -1,4 +1,4 @@
--- The book as it would be kept on paper: a sheet for each renter, and on it a list of strips, each with its number. A bookkeeper keeps it in the
+-- The book as it would be kept on paper: a leaf for each renter, and on it a list of strips, each with its number. A bookkeeper keeps it in the
 -- order of the numbers, since then the first that is missing is seen where two neighbours do not follow each other.
 --   Entry                 a strip and its number;  entry n w: the entry of the strip w with the number n
 --   strips es             the strips of the entries es
@@ -7,14 +7,14 @@
 --   entered n w es        es and the strip w with the number n, in the order of the numbers
 --   has z es              an entry has the number z
 --   struckOut z es        es without the entry of the number z; just es, where there is none
---   listed es             of each entry its number, then its strip's four numbers
---   Paper                 the two sheets;  blankPaper: with nothing on them
---   sheet renter p        the renter's own sheet; an empty list, where there is no such renter
---   onSheet renter es p   the paper with es on the renter's sheet; just p, where there is no such renter
---   refusalToBook renter w p   why the strip w is not entered: 19, 2, 3, 17 where the renter has 32, 16 where one on either sheet shares area with w
---   answerBooking renter w p   what one who books w is told: the first missing number of the renter's sheet, or the refusal
+--   entriesListed es             of each entry its number, then its strip's four numbers
+--   Paper                 the two leaves;  blankPaper: with nothing on them
+--   leaf renter p        the renter's own leaf; an empty list, where there is no such renter
+--   onLeaf renter es p   the paper with es on the renter's leaf; just p, where there is no such renter
+--   refusalToBook renter w p   why the strip w is not entered: 19, 2, 3, 17 where the renter has 32, 16 where one on either leaf shares area with w
+--   answerBooking renter w p   what one who books w is told: the first missing number of the renter's leaf, or the refusal
 --   afterBooking renter w p    the paper afterwards
---   refusalToRelease renter z p   why nothing is struck out: 19, then 18 where no entry of the renter's sheet has the number z
+--   refusalToRelease renter z p   why nothing is struck out: 19, then 18 where no entry of the renter's leaf has the number z
 --   answerRelease renter z p   what one who releases z is told;  afterRelease renter z p: the paper afterwards
 use mathlib.Core.Bool.{Bool}
 use mathlib.Core.List.{List, [], _∷_, _++_, map}
@@ -63,11 +63,11 @@ unfoldable pub struckOut : ℤ → List Entry → List Entry
 struckOut z [] = []
 struckOut z (e ∷ es) = if numberIs (e .number) z then es else e ∷ struckOut z es
 
-unfoldable pub listed : List Entry → List ℤ
-listed [] = []
-listed (e ∷ es) = pos (e .number) ∷ sides (e .strip) ++ listed es
+unfoldable pub entriesListed : List Entry → List ℤ
+entriesListed [] = []
+entriesListed (e ∷ es) = pos (e .number) ∷ sides (e .strip) ++ entriesListed es
 
--- ---- the two sheets
+-- ---- the two leaves
 
 pub record Paper : Type 0 where
   pub zero's : List Entry
@@ -76,11 +76,11 @@ pub record Paper : Type 0 where
 abbrev pub blankPaper : Paper
 blankPaper = record { zero's = []; one's = [] }
 
-unfoldable pub sheet : ℤ → Paper → List Entry
-sheet renter p = if numberIs 0 renter then p .zero's else if numberIs 1 renter then p .one's else []
+unfoldable pub leaf : ℤ → Paper → List Entry
+leaf renter p = if numberIs 0 renter then p .zero's else if numberIs 1 renter then p .one's else []
 
-unfoldable pub onSheet : ℤ → List Entry → Paper → Paper
-onSheet renter es p =
+unfoldable pub onLeaf : ℤ → List Entry → Paper → Paper
+onLeaf renter es p =
     if numberIs 0 renter then record { zero's = es; one's = p .one's }
     else if numberIs 1 renter then record { zero's = p .zero's; one's = es } else p
 
@@ -88,27 +88,27 @@ onSheet renter es p =
 
 unfoldable pub refusalToBook : ℤ → Window → Paper → Refusal
 refusalToBook renter w p =
-    let full = if eqb (length (sheet renter p)) 32 then refuse halfFull 0 else none in
+    let full = if eqb (length (leaf renter p)) 32 then refuse halfFull 0 else none in
     let shared = if any (sharesArea w) (strips (p .zero's ++ p .one's)) then refuse stripTaken 0 else none in
     first (renterRefusal renter ∷ windowRefusal w ∷ full ∷ shared ∷ [])
 
 unfoldable pub answerBooking : ℤ → Window → Paper → BookingAnswer
 answerBooking renter w p =
     let r = refusalToBook renter w p in
-    if eqb (r .number) 0 then bookedIn (firstMissing 0 (sheet renter p)) else refusedBooking r
+    if eqb (r .number) 0 then bookedIn (firstMissing 0 (leaf renter p)) else refusedBooking r
 
 unfoldable pub afterBooking : ℤ → Window → Paper → Paper
 afterBooking renter w p =
-    let own = sheet renter p in
-    if eqb (refusalToBook renter w p .number) 0 then onSheet renter (entered (firstMissing 0 own) w own) p else p
+    let own = leaf renter p in
+    if eqb (refusalToBook renter w p .number) 0 then onLeaf renter (entered (firstMissing 0 own) w own) p else p
 
 -- ---- one who releases
 
 unfoldable pub refusalToRelease : ℤ → ℤ → Paper → Refusal
-refusalToRelease renter z p = first (renterRefusal renter ∷ (if has z (sheet renter p) then none else refuse slotNotInUse 0) ∷ [])
+refusalToRelease renter z p = first (renterRefusal renter ∷ (if has z (leaf renter p) then none else refuse slotNotInUse 0) ∷ [])
 
 unfoldable pub answerRelease : ℤ → ℤ → Paper → ReleaseAnswer
 answerRelease renter z p = releaseAnswer (refusalToRelease renter z p)
 
 unfoldable pub afterRelease : ℤ → ℤ → Paper → Paper
-afterRelease renter z p = onSheet renter (struckOut z (sheet renter p)) p
+afterRelease renter z p = onLeaf renter (struckOut z (leaf renter p)) p

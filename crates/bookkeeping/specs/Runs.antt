@@ -1,9 +1,9 @@
 -- Runs of calls, with the strip book and on paper.
---   Event                    a call with its answer: a strip is booked, a slot released, or a renter's strips are listed into an output
+--   Event                    a call with its answer: a strip is booked, a slot released, or a renter's strips are entriesListed into an output
 --   renterOf e               the renter who makes the call
 --   numberAnswered e         the number of the refusal in an event's answer; 0 where the call is done
 --   InBook before e after    the call of e, made on the table before, is answered as e says and leaves the table after
---   OnPaper before e after   the same of the list on paper
+--   OnPaper before e after   the same of the paper
 --   RunOfCalls Step before events after   the events one after another, each a step from what the one before it has left
 --   emptyBook                the table of an empty book: 320 zeros
 --   FromEmpty events book    the book is what the events leave of the empty book
@@ -24,7 +24,7 @@ use Rattle.strip_book.specs.Renters.{half}
 use Rattle.strip_book.specs.declared.BookingAnswer.{BookingAnswer}
 use Rattle.strip_book.specs.declared.ReleaseAnswer.{ReleaseAnswer}
 use Rattle.own_strips.specs.OwnStrips.{ListStrips}
-use Rattle.bookkeeping.specs.PlainList.{Entry, entry, Paper, sheet, listed, answerBooking, afterBooking, answerRelease, afterRelease}
+use Rattle.bookkeeping.specs.PlainList.{Entry, entry, Paper, leaf, entriesListed, answerBooking, afterBooking, answerRelease, afterRelease}
 
 -- each begins with the renter, and ends with what is answered; a listing has its output before and after the call
 pub data Event : Type 0 where
@@ -51,7 +51,7 @@ abbrev pub OnPaper : Paper → Event → Paper → Type 0
 OnPaper before (booking renter w a) after = (a ≡ answerBooking renter w before) × (after ≡ afterBooking renter w before)
 OnPaper before (release renter z a) after = (a ≡ answerRelease renter z before) × (after ≡ afterRelease renter z before)
 OnPaper before (listing renter out a out′) after =
-    Call (renterRefusal renter) (λ xs. xs ≡ listed (sheet renter before)) a out out′ × (after ≡ before)
+    Call (renterRefusal renter) (λ xs. xs ≡ entriesListed (leaf renter before)) a out out′ × (after ≡ before)
 
 pub data RunOfCalls {Book : Type 0} (Step : Book → Event → Book → Type 0) : Book → List Event → Book → Type 0 where
   no-call : {book : Book} → RunOfCalls Step book [] book

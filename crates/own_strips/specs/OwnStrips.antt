@@ -1,4 +1,5 @@
--- What listing a renter's own strips promises: for each, in slot order, its slot and its four numbers.
+-- What listing a renter's own strips promises: for each, in slot order, its slot and its four numbers. The table is lent for reading alone, as the
+-- type of the function says.
 --   listedFrom k ss      the slots in use among ss, the first of ss being slot k: of each its slot, then left bottom right top
 --   listingRefusal renter zs   what listing refuses: 19, then 23
 --   ListStrips renter zs a before after   what `own_strips::list_strips` promises of the table zs, its answer, and its output before and after

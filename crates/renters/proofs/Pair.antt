@@ -54,8 +54,8 @@ taken-may-differ = record {
   a′ = bookedIn 0;
   after = holding 32 (square 0);
   after′ = holding 0 (square 5);
-  one = refused;
-  other = booked;
+  call = refused;
+  call′ = booked;
   taken = refl;
   booked = refl;
 }

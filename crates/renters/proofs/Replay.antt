@@ -23,8 +23,8 @@ use Rattle.strip_book.proofs.Refusing.{refuses-releaser, refuses-slot, releases
 use Rattle.bookkeeping.specs.Runs.{Event, booking, release, listing, renterOf, InBook, RunOfCalls, no-call, a-call}
 use Rattle.bookkeeping.proofs.Answers.{lent-by, bookable, releasable}
 use Rattle.bookkeeping.proofs.Steps.{room-among, used-among-own, call-stays}
-use Rattle.renters.specs.TwoRuns.{same, ownEvents, Asked, to-book, to-release, to-list, asks, asked}
-use Rattle.renters.proofs.Told.{shown, lent-refuses, releaseTold, release-told, listingTold, outputTold, listing-told, same-number}
+use Rattle.renters.specs.TwoRuns.{sameNumber, ownEvents, Asked, to-book, to-release, to-list, asks, asked}
+use Rattle.renters.proofs.Told.{shown, lent-refuses, releaseTold, release-told, listingTold, outputTold, listing-told, number-told}
 
 -- ---- a call of his, told by what he is shown and what he asks: the event, and what he is shown next
 abbrev told : ℤ → List Slot → Asked → Event
@@ -67,12 +67,12 @@ module _ {renter : ℤ} {w : Window} {a : BookingAnswer} {before after : List �
       done : bookingRefusal renter w before .number ≡ 0 → Booked renter w a before after → Moves renter (to-book w a) before after
       done z d =
           let q = bookable renter w before z in
-          let zero = eq-eqb (a .number) 0 (same-number (d .answer)) in
+          let zero = eq-eqb (a .number) 0 (number-told (d .answer)) in
           put (q .known) (lowestFree (half renter before)) (slotOf 1 w) (room-among q) (d .book) (rw zero)
 
       refused : (bookingRefusal renter w before .number ≡ 0 → ⊥) → Refused refusedBooking (bookingRefusal renter w before) a before after
           → Moves renter (to-book w a) before after
-      refused n r = kept (r .untouched) (rw (ne-eqb (a .number) 0 (λ z. n (sym (same-number (r .answer)) ∙ z))))
+      refused n r = kept (r .untouched) (rw (ne-eqb (a .number) 0 (λ z. n (sym (number-told (r .answer)) ∙ z))))
 
 module _ {renter z : ℤ} {a : ReleaseAnswer} {before after : List ℤ} where
   release-moves : ReleaseSlot renter z a before after → isBook before ≡ true → Moves renter (to-release z) before after
@@ -109,16 +109,16 @@ others-leave {renter} {other} {before} {after} n (put there k s l e f) = go (isR
     go false unknown = rw unknown
 
 -- ---- whose call it is
-same-yes : (x y : ℤ) → same x y ≡ true → x ≡ y
+same-yes : (x y : ℤ) → sameNumber x y ≡ true → x ≡ y
 same-yes (pos m) (pos n) e = ap pos (eqb-true m n e)
 same-yes (negsuc m) (negsuc n) e = ap negsuc (eqb-true m n e)
 same-yes (pos m) (negsuc n) e = absurd (ff-tt e)
 same-yes (negsuc m) (pos n) e = absurd (ff-tt e)
 
-same-no : (x y : ℤ) → same x y ≡ false → x ≡ y → ⊥
-same-no x y e p = tt-ff (sym (ap (λ (z : ℤ). same x z) (sym p) ∙ itself x) ∙ e)
+same-no : (x y : ℤ) → sameNumber x y ≡ false → x ≡ y → ⊥
+same-no x y e p = tt-ff (sym (ap (λ (z : ℤ). sameNumber x z) (sym p) ∙ itself x) ∙ e)
   where
-    itself : (z : ℤ) → same z z ≡ true
+    itself : (z : ℤ) → sameNumber z z ≡ true
     itself (pos n) = eq-eqb n n refl
     itself (negsuc n) = eq-eqb n n refl
 
@@ -129,7 +129,7 @@ pub record Replayed (renter : ℤ) (before : List ℤ) (es : List Event) (after 
 
 module _ (renter : ℤ) (e : Event) {before between after : List ℤ} {es : List Event} (p : InBook before e between) (b : isBook before ≡ true)
     (h : Replayed renter between es after) where
-  own-first : renterOf e ≡ renter → same (renterOf e) renter ≡ true → Replayed renter before (e ∷ es) after
+  own-first : renterOf e ≡ renter → sameNumber (renterOf e) renter ≡ true → Replayed renter before (e ∷ es) after
   unfolding ownEvents tells replay
   own-first q t = record {
     events = rw t (λ i. event i ∷ (h .events ∙ ap (λ (ss : List Slot). tells renter ss (asked renter es)) moves) i);
@@ -142,7 +142,7 @@ module _ (renter : ℤ) (e : Event) {before between after : List ℤ} {es : List
       moves : shown renter between ≡ moved (shown renter before) (asks e)
       moves = subst (λ r. shown r between ≡ moved (shown r before) (asks e)) q (own-moves (call-moves e before between p b))
 
-  other-first : (renterOf e ≡ renter → ⊥) → same (renterOf e) renter ≡ false → Replayed renter before (e ∷ es) after
+  other-first : (renterOf e ≡ renter → ⊥) → sameNumber (renterOf e) renter ≡ false → Replayed renter before (e ∷ es) after
   unfolding ownEvents
   other-first n t =
       let left = others-leave n (call-moves e before between p b) in
@@ -156,8 +156,8 @@ pub replayed : (renter : ℤ) {before after : List ℤ} {es : List Event} → Ru
 unfolding ownEvents tells replay
 replayed renter no-call b = record { events = refl; slots = refl }
 replayed renter (a-call {before} {between} {after} {e} {events = es} p r) b =
-    go (same (renterOf e) renter) refl (replayed renter r (call-stays e before between p b))
+    go (sameNumber (renterOf e) renter) refl (replayed renter r (call-stays e before between p b))
   where
-    go : (t : Bool) → same (renterOf e) renter ≡ t → Replayed renter between es after → Replayed renter before (e ∷ es) after
+    go : (t : Bool) → sameNumber (renterOf e) renter ≡ t → Replayed renter between es after → Replayed renter before (e ∷ es) after
     go true t h = own-first renter e p b h (same-yes (renterOf e) renter t) t
     go false t h = other-first renter e p b h (same-no (renterOf e) renter t) t

@@ -2,6 +2,7 @@
 use mathlib.Core.Path.{_≡_, sym, ap, subst, _∙_}
 use mathlib.Core.Bool.{true}
 use mathlib.Core.List.{List, []}
+use mathlib.Core.Logic.{inl, inr}
 use native.Mathlib.Omega.{arith}
 use lib.IntN.{ℤ}
 use Rattle.slots.specs.Slots.{Slot, isBook}
@@ -11,26 +12,34 @@ use Rattle.bookkeeping.proofs.Theorems.{stays-a-book}
 use Rattle.renters.specs.TwoRuns.{ownEvents, Asked, TwoRuns}
 use Rattle.renters.specs.Laws.{SameAnswers, SameNextListing, SameNextRelease, AlikeButTaken, SameNextBooking, SameHalf}
 use Rattle.renters.proofs.Told.{shown, releaseTold, release-told, listingTold, outputTold, listing-told}
-use Rattle.renters.proofs.Told.{bookingTold, same-number, UnlessTaken, as-told, taken, booking-told}
+use Rattle.renters.proofs.Told.{bookingTold, number-told, UnlessTaken, as-told, taken, booking-told}
 use Rattle.renters.proofs.Replay.{tells, replay, replayed}
 
 -- ---- two answers to a booking, both as told unless they are 16
 alike-but-taken : {b a a′ : BookingAnswer} → UnlessTaken b a → UnlessTaken b a′ → AlikeButTaken a a′
 alike-but-taken (as-told p) (as-told q) = record {
-  full = (λ n. same-number (q ∙ sym p) ∙ n, λ n. same-number (p ∙ sym q) ∙ n);
+  full = (λ n. number-told (q ∙ sym p) ∙ n, λ n. number-told (p ∙ sym q) ∙ n);
   equal = λ n m. p ∙ sym q;
+  one-taken = λ n. inl (number-told (q ∙ sym p) ∙ n);
+  other-taken = λ n. inl (number-told (p ∙ sym q) ∙ n);
 }
 alike-but-taken (as-told p) (taken n z) = record {
-  full = (λ m. absurd (omega (arith, same-number p)), λ m. absurd (omega arith));
+  full = (λ m. absurd (omega (arith, number-told p)), λ m. absurd (omega arith));
   equal = λ _ m. absurd (m n);
+  one-taken = λ _. inl n;
+  other-taken = λ _. inr (number-told p ∙ z);
 }
 alike-but-taken (taken n z) (as-told q) = record {
-  full = (λ m. absurd (omega arith), λ m. absurd (omega (arith, same-number q)));
+  full = (λ m. absurd (omega arith), λ m. absurd (omega (arith, number-told q)));
   equal = λ m _. absurd (m n);
+  one-taken = λ _. inr (number-told q ∙ z);
+  other-taken = λ _. inl n;
 }
 alike-but-taken (taken n z) (taken n′ z′) = record {
   full = (λ m. absurd (omega arith), λ m. absurd (omega arith));
   equal = λ m _. absurd (m n);
+  one-taken = λ _. inl n′;
+  other-taken = λ _. inl n;
 }
 
 -- ---- two runs: both are books, and he was and is shown the same

@@ -73,8 +73,8 @@ bookingTold renter w ss =
     let known : BookingAnswer = if eqb (windowRefusal w .number) 0 then free else refusedBooking (windowRefusal w) in
     if isRenter renter then known else refusedBooking (refuse unknownRenter 0)
 
-pub same-number : {a b : BookingAnswer} → a ≡ b → a .number ≡ b .number
-same-number e = ap (λ (x : BookingAnswer). x .number) e
+pub number-told : {a b : BookingAnswer} → a ≡ b → a .number ≡ b .number
+number-told e = ap (λ (x : BookingAnswer). x .number) e
 
 pub data UnlessTaken (b a : BookingAnswer) : Type 0 where
   as-told : a ≡ b → UnlessTaken b a
@@ -90,7 +90,7 @@ module _ {renter : ℤ} {w : Window} {a : BookingAnswer} {book after : List ℤ}
       go true k true f true u s c =
           as-told (rw (k, f, u) (lent-refuses p (refuses-full renter w book k b (eqb-true _ _ f) u) (omega arith) .answer))
       go true k true f false u true c =
-          taken (same-number (lent-refuses p (refuses-clash renter w book k b (eqb-true _ _ f) u c) (omega arith) .answer)) (rw (k, f, u))
+          taken (number-told (lent-refuses p (refuses-clash renter w book k b (eqb-true _ _ f) u c) (omega arith) .answer)) (rw (k, f, u))
       go true k true f false u false c = as-told (rw (k, f, u) (p .done (books renter w book k b (eqb-true _ _ f) u c) .answer))
       go true k false f u v s c = let n = eqb-false _ _ f in as-told (rw (k, f) (lent-refuses p (refuses-window renter w book k b n) n .answer))
       go false k f g u v s c = as-told (rw k (lent-refuses p (refuses-renter renter w book k) (omega arith) .answer))

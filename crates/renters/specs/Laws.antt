@@ -1,16 +1,18 @@
 -- The laws that keep the renters apart, proved in proofs/Theorems.antt and, the last, in proofs/Pair.antt: they are about two runs that differ only
 -- in the others' calls, and in which the renter got the same answers to his bookings before the call under judgement.
---   SameAnswers          each listing of his, with its whole output, and each release is answered alike in both
+--   SameAnswers          each listing of his, with its whole output, and each release is answered alike in both; the bookings of the whole runs are
+--                        supposed here, in the next three only those before the call that they are about
 --   SameNextListing      so is each that he may make next, with its whole output
 --   SameNextRelease      and each release that he may make next
---   AlikeButTaken a a′   17 is answered in the one exactly when in the other; where neither answers 16, the answers are equal
+--   AlikeButTaken a a′   17 is answered in the one exactly when in the other; where neither answers 16, the answers are equal; and where one answers
+--                        16, the other does or is booked
 --   SameNextBooking      so it is with each booking that he may make next
 --   SameHalf             the numbers of his half are the same
 --   TakenMayDiffer       16 may differ: two such runs, and a strip that is taken after the one and booked after the other
 use mathlib.Core.Path.{_≡_}
 use mathlib.Core.Bool.{true}
 use mathlib.Core.List.{List}
-use mathlib.Core.Logic.{_↔_}
+use mathlib.Core.Logic.{_↔_, _⊎_}
 use lib.IntN.{ℤ}
 use Rattle.grid.specs.declared.Answer.{Answer}
 use Rattle.grid.specs.declared.Window.{Window}
@@ -41,6 +43,8 @@ SameNextRelease = (renter : ℤ) (es es′ : List Event) (book book′ : List �
 pub record AlikeButTaken (a a′ : BookingAnswer) : Type 0 where
   pub full : (a .number ≡ halfFull) ↔ (a′ .number ≡ halfFull)
   pub equal : (a .number ≡ stripTaken → ⊥) → (a′ .number ≡ stripTaken → ⊥) → a ≡ a′
+  pub one-taken : a .number ≡ stripTaken → (a′ .number ≡ stripTaken) ⊎ (a′ .number ≡ 0)
+  pub other-taken : a′ .number ≡ stripTaken → (a .number ≡ stripTaken) ⊎ (a .number ≡ 0)
 
 abbrev pub SameNextBooking : Type 0
 SameNextBooking = (renter : ℤ) (es es′ : List Event) (book book′ : List ℤ) → TwoRuns renter es es′ book book′
@@ -67,7 +71,7 @@ pub record TakenMayDiffer : Type 0 where
   pub a′ : BookingAnswer
   pub after : List ℤ
   pub after′ : List ℤ
-  pub one : BookStrip renter strip a book after
-  pub other : BookStrip renter strip a′ book′ after′
+  pub call : BookStrip renter strip a book after
+  pub call′ : BookStrip renter strip a′ book′ after′
   pub taken : a .number ≡ stripTaken
   pub booked : a′ .number ≡ 0

@@ -1,8 +1,8 @@
 -- Two runs of calls that differ only in what others than one renter call.
---   same x y               the whole numbers x and y are the same
+--   sameNumber x y         the whole numbers x and y are the same
 --   ownEvents renter es    of the events es those of the renter's calls, with their answers
 --   Asked                  what a call asks, and of a booking also what was answered
---   asks e                 what the call of the event e asks
+--   asks e                 what the call of the event e asks, and what it was answered if it is a booking
 --   asked renter es        what the renter asked in the events es, one call after the other, with the answers to his bookings
 --   TwoRuns renter es es′ book book′   two runs from the empty book, in which the renter made the same calls and got the same answers to his
 --                          bookings; the calls of others may be any, as many and between which of his calls they like, also of renters that there
@@ -17,15 +17,15 @@ use Rattle.grid.specs.declared.Window.{Window}
 use Rattle.strip_book.specs.declared.BookingAnswer.{BookingAnswer}
 use Rattle.bookkeeping.specs.Runs.{Event, booking, release, listing, renterOf, FromEmpty}
 
-abbrev pub same : ℤ → ℤ → Bool
-same (pos m) (pos n) = eqb m n
-same (negsuc m) (negsuc n) = eqb m n
-same (pos m) (negsuc n) = false
-same (negsuc m) (pos n) = false
+abbrev pub sameNumber : ℤ → ℤ → Bool
+sameNumber (pos m) (pos n) = eqb m n
+sameNumber (negsuc m) (negsuc n) = eqb m n
+sameNumber (pos m) (negsuc n) = false
+sameNumber (negsuc m) (pos n) = false
 
 unfoldable pub ownEvents : ℤ → List Event → List Event
 ownEvents renter [] = []
-ownEvents renter (e ∷ es) = if same (renterOf e) renter then e ∷ ownEvents renter es else ownEvents renter es
+ownEvents renter (e ∷ es) = if sameNumber (renterOf e) renter then e ∷ ownEvents renter es else ownEvents renter es
 
 pub data Asked : Type 0 where
   to-book : Window → BookingAnswer → Asked

@@ -1,5 +1,5 @@
--- The two sheets of a book's paper: together they have its strips, since its slots are one renter's half and then the other's; and five numbers that
--- are put in a renter's slot change his sheet only.
+-- The two leaves of a book's paper: together they have its strips, since its slots are one renter's half and then the other's; and five numbers that
+-- are put in a renter's slot change his leaf only.
 use mathlib.Core.Path.{_≡_, refl, sym, ap, _∙_}
 use mathlib.Core.Bool.{Bool, true, false, _||_}
 use mathlib.Core.List.{List, [], _∷_, _++_, map-append}
@@ -14,12 +14,12 @@ use Rattle.grid.specs.declared.Window.{Window}
 use Rattle.slots.specs.Slots.{Slot, slotsOf, stripsIn, inUse, isBook, numberIs, slotNumbers}
 use Rattle.strip_book.specs.Renters.{isRenter, firstSlot, half}
 use Rattle.strip_book.proofs.Halves.{Either, renter-zero, renter-one, either, half-put, half-kept}
-use Rattle.bookkeeping.specs.PlainList.{Entry, strips, Paper, sheet, onSheet}
+use Rattle.bookkeeping.specs.PlainList.{Entry, strips, Paper, leaf, onLeaf}
 use Rattle.bookkeeping.specs.Runs.{entriesFrom, entriesOf, paperOf}
 use Rattle.bookkeeping.proofs.Entries.{entries-strips}
 use Rattle.bookkeeping.proofs.Steps.{book-slots}
 
--- ---- the strips on both sheets
+-- ---- the strips on both leaves
 strips-both : (ss ts : List Slot) → stripsIn (ss ++ ts) ≡ stripsIn ss ++ stripsIn ts
 unfolding stripsIn
 strips-both [] ts = refl
@@ -41,19 +41,19 @@ paper-strips zs b =
     ∙ (λ i. entries-strips 0 (half (pos 0) zs) i ++ entries-strips 0 (half (pos 1) zs) i)
     ∙ sym (strips-both (half (pos 0) zs) (half (pos 1) zs)) ∙ ap stripsIn (both-halves zs b)
 
--- ---- a renter's sheet
-pub sheet-is : (renter : ℤ) (zs : List ℤ) → isRenter renter ≡ true → sheet renter (paperOf zs) ≡ entriesOf renter zs
-unfolding sheet
-sheet-is renter zs known = go (either renter known)
+-- ---- a renter's leaf
+pub leaf-is : (renter : ℤ) (zs : List ℤ) → isRenter renter ≡ true → leaf renter (paperOf zs) ≡ entriesOf renter zs
+unfolding leaf
+leaf-is renter zs known = go (either renter known)
   where
-    go : {z : ℤ} → Either z → sheet z (paperOf zs) ≡ entriesOf z zs
+    go : {z : ℤ} → Either z → leaf z (paperOf zs) ≡ entriesOf z zs
     go renter-zero = refl
     go renter-one = refl
 
 -- put back as it is
-pub same-sheet : (renter : ℤ) (p : Paper) → onSheet renter (sheet renter p) p ≡ p
-unfolding sheet onSheet
-same-sheet renter p = go (numberIs 0 renter) (numberIs 1 renter)
+pub same-leaf : (renter : ℤ) (p : Paper) → onLeaf renter (leaf renter p) p ≡ p
+unfolding leaf onLeaf
+same-leaf renter p = go (numberIs 0 renter) (numberIs 1 renter)
   where
     go : (a b : Bool) → let es = if a then p .zero's else if b then p .one's else [] in
         (if a then record { zero's = es; one's = p .one's } else if b then record { zero's = p .zero's; one's = es } else p) ≡ p
@@ -62,18 +62,18 @@ same-sheet renter p = go (numberIs 0 renter) (numberIs 1 renter)
     go false false = refl
 
 -- there is none for one who is no renter
-pub no-sheet : (renter : ℤ) (p : Paper) → isRenter renter ≡ false → sheet renter p ≡ []
-unfolding sheet
-no-sheet renter p = go (numberIs 0 renter) (numberIs 1 renter)
+pub no-leaf : (renter : ℤ) (p : Paper) → isRenter renter ≡ false → leaf renter p ≡ []
+unfolding leaf
+no-leaf renter p = go (numberIs 0 renter) (numberIs 1 renter)
   where
     go : (a b : Bool) → (a || b) ≡ false → (if a then p .zero's else if b then p .one's else []) ≡ []
     go true b e = absurd (tt-ff e)
     go false true e = absurd (tt-ff e)
     go false false e = refl
 
-pub on-no-sheet : (renter : ℤ) (es : List Entry) (p : Paper) → isRenter renter ≡ false → onSheet renter es p ≡ p
-unfolding onSheet
-on-no-sheet renter es p = go (numberIs 0 renter) (numberIs 1 renter)
+pub on-no-leaf : (renter : ℤ) (es : List Entry) (p : Paper) → isRenter renter ≡ false → onLeaf renter es p ≡ p
+unfolding onLeaf
+on-no-leaf renter es p = go (numberIs 0 renter) (numberIs 1 renter)
   where
     go : (a b : Bool) → (a || b) ≡ false
         → (if a then record { zero's = es; one's = p .one's } else if b then record { zero's = p .zero's; one's = es } else p) ≡ p
@@ -83,12 +83,12 @@ on-no-sheet renter es p = go (numberIs 0 renter) (numberIs 1 renter)
 
 -- ---- five numbers are put in a renter's slot
 pub paper-put : (renter : ℤ) (k : ℕ) (s : Slot) (zs : List ℤ) → isRenter renter ≡ true → k < 32
-    → paperOf (sets zs (5 * (firstSlot renter + k)) (slotNumbers s)) ≡ onSheet renter (entriesFrom 0 (set (half renter zs) k s)) (paperOf zs)
-unfolding onSheet
+    → paperOf (sets zs (5 * (firstSlot renter + k)) (slotNumbers s)) ≡ onLeaf renter (entriesFrom 0 (set (half renter zs) k s)) (paperOf zs)
+unfolding onLeaf
 paper-put renter k s zs known h = go (either renter known)
   where
     go : {z : ℤ} → Either z
-        → paperOf (sets zs (5 * (firstSlot z + k)) (slotNumbers s)) ≡ onSheet z (entriesFrom 0 (set (half z zs) k s)) (paperOf zs)
+        → paperOf (sets zs (5 * (firstSlot z + k)) (slotNumbers s)) ≡ onLeaf z (entriesFrom 0 (set (half z zs) k s)) (paperOf zs)
     go renter-zero =
         let other = half-kept s k h zs (pos 1) (pos 0) refl refl (λ e. absurd (omega (arith, ap natAbs e))) in
         λ i. record { zero's = entriesFrom 0 (half-put s k h zs (pos 0) i); one's = entriesFrom 0 (other i) }
