@@ -20,6 +20,7 @@ ghost use Rattle.corners.specs.Corners.{CyrusBeck};
 ghost use Rattle.drawing.specs.Drawings.{ReadDrawing};
 ghost use Rattle.intake.specs.Millimetres.{PointToGrid, WindowToGrid, ToMillimetres};
 ghost use Rattle.outlines.specs.Outlines.{Outline};
+ghost use Rattle.own_strips.specs.OwnStrips.{ListStrips};
 ghost use Rattle.strip_book.specs.Books.{BookStrip, ReleaseSlot};
 ghost use Rattle.strokes.specs.Strokes.{Clipping};
 
@@ -92,15 +93,22 @@ pub extern "C" fn gerlyantu_clip_outline(
 }
 
 #[no_mangle]
-pub extern "C" fn gerlyantu_book_strip(book: &mut [i32], w: Window) -> BookingAnswer
-    ensures { λ r. ⌜ BookStrip w r (now (book .entry)) (now (book .exit)) ⌝ }
+pub extern "C" fn gerlyantu_book_strip(book: &mut [i32], renter: i32, w: Window) -> BookingAnswer
+    ensures { λ r. ⌜ BookStrip renter w r (now (book .entry)) (now (book .exit)) ⌝ }
 {
-    strip_book::book_strip(book, w)
+    strip_book::book_strip(book, renter, w)
 }
 
 #[no_mangle]
-pub extern "C" fn gerlyantu_release_slot(book: &mut [i32], slot: i32) -> ReleaseAnswer
-    ensures { λ r. ⌜ ReleaseSlot slot r (now (book .entry)) (now (book .exit)) ⌝ }
+pub extern "C" fn gerlyantu_release_slot(book: &mut [i32], renter: i32, slot: i32) -> ReleaseAnswer
+    ensures { λ r. ⌜ ReleaseSlot renter slot r (now (book .entry)) (now (book .exit)) ⌝ }
 {
-    strip_book::release_slot(book, slot)
+    strip_book::release_slot(book, renter, slot)
+}
+
+#[no_mangle]
+pub extern "C" fn gerlyantu_list_strips(book: &[i32], renter: i32, out: &mut [i32]) -> Answer
+    ensures { λ r. ⌜ ListStrips renter (now (book .entry)) r (now (out .entry)) (now (out .exit)) ⌝ }
+{
+    own_strips::list_strips(book, renter, out)
 }

@@ -1,5 +1,5 @@
--- `gerlyantu::gerlyantu_release_slot` meets its contract: the slot as it is read is the slot. Assumes nothing.
-use mathlib.Core.Path.{subst}
+-- `gerlyantu::gerlyantu_release_slot` meets its contract: renter and slot as they are read are renter and slot. Assumes nothing.
+use mathlib.Core.Path.{subst₂}
 use borrow.Author.Needs.{needs}
 use denote.Ref.{now}
 use lib.IntN.{ℤ}
@@ -18,7 +18,8 @@ returns : tie.Need-returns
 returns c =
     let s = c .before .before .before in
     let released = c .before .release-slot in
-    subst (λ (z : ℤ). ReleaseSlot z (released .result) (now (s .args .book)) (released .last .0)) (toZ-ofZ (s .fits .slot)) (released .ensures)
+    let promised : ℤ → ℤ → Type 0 = λ renter slot. ReleaseSlot renter slot (released .result) (now (s .args .book)) (released .last .0) in
+    subst₂ promised (toZ-ofZ (s .fits .renter)) (toZ-ofZ (s .fits .slot)) (released .ensures)
 
 pub gerlyantu-release-slot-spec : {M : Type 1} → statement M
 gerlyantu-release-slot-spec = tie.close (tie.spec release-slot-requires same-length returns)
