@@ -27,8 +27,8 @@ extern "C" {
 /* ---- version */
 
 /* As one number, major * 10000 + minor * 100 + patch, and as text. A change of a struct or of an answer raises it. */
-#define GERLYANTU_VERSION 10100
-#define GERLYANTU_VERSION_TEXT "1.1.0"
+#define GERLYANTU_VERSION 20000
+#define GERLYANTU_VERSION_TEXT "2.0.0"
 
 /* ---- limits */
 
@@ -39,7 +39,9 @@ enum {
     GERLYANTU_OUTLINE_CORNERS = 64,   /* corners of an outline, at most; at least 3 */
     GERLYANTU_DRAWING_BYTES = 65536,  /* bytes of a drawing, at most, its four count bytes included */
     GERLYANTU_LAST_ORDER = 23,        /* the side orders are 0 to 23 */
-    GERLYANTU_SLOTS = 64,             /* slots of a strip book, numbered from 0 */
+    GERLYANTU_RENTERS = 2,            /* renters of a strip book, numbered from 0 */
+    GERLYANTU_SLOTS = 64,             /* slots of a strip book, a half of them for each renter */
+    GERLYANTU_HALF_SLOTS = 32,        /* slots of one renter, numbered from 0 */
     GERLYANTU_BOOK_NUMBERS = 320      /* numbers of a strip book, five a slot */
 };
 
@@ -50,7 +52,8 @@ enum {
     GERLYANTU_BATCH_ROOM = GERLYANTU_BATCH_PER_STROKE * GERLYANTU_STROKES,         /* 20480: for any list */
     GERLYANTU_RING_ROOM = 4 * (GERLYANTU_OUTLINE_CORNERS + 4),                     /* 272: of gerlyantu_clip_outline, for any outline */
     GERLYANTU_DRAWING_PER_STROKE = 4,                                              /* of gerlyantu_read_drawing, for each stroke drawn */
-    GERLYANTU_DRAWING_ROOM = GERLYANTU_DRAWING_PER_STROKE * GERLYANTU_STROKES      /* 16384: for any drawing */
+    GERLYANTU_DRAWING_ROOM = GERLYANTU_DRAWING_PER_STROKE * GERLYANTU_STROKES,     /* 16384: for any drawing */
+    GERLYANTU_LISTING_ROOM = 5 * GERLYANTU_HALF_SLOTS                              /* 160: of gerlyantu_list_strips, for any book */
 };
 
 /* ---- refusals */
@@ -222,7 +225,7 @@ typedef struct {
 typedef struct {
     gerlyantu_refusal number;
     size_t place;
-    int32_t slot; /* where the strip was entered, 0 to 63 */
+    int32_t slot; /* the renter's slot that the strip was entered in, 0 to 31 */
 } gerlyantu_booking_answer;
 
 typedef struct {
@@ -291,17 +294,28 @@ gerlyantu_drawing_answer gerlyantu_read_drawing(const uint8_t *bytes, size_t len
 /* ---- the strip book */
 
 /* The book says which strips are rented out. It is an array of GERLYANTU_BOOK_NUMBERS numbers, 320, that the caller keeps and lends to each call:
- * 64 slots of five numbers, a mark, 1 in use or 0 free, then the strip's left, bottom, right and top. An array of 320 zeros is an empty book. A done
- * call changes the five numbers of one slot and a refused call none. Each call tests the whole book first, and what is no book it refuses by 23;
- * the other four numbers of a free slot do not matter. Strips that only touch share no area. */
+ * 64 slots of five numbers, a mark, 1 in use or 0 free, then the strip's left, bottom, right and top. An array of 320 zeros is an empty book.
+ *
+ * Its renters are 0 and 1, and one of them is named in each call. Renter 0 has the first 32 slots of the array and renter 1 the last 32; in calls and
+ * answers a renter's own slots are 0 to 31. A done booking or release changes the five numbers of one slot, which is the renter's; a refused call
+ * and a listing change none.
+ *
+ * Each call tests the renter first and then the whole book: what is no book it refuses by 23. The other four numbers of a free slot do not matter.
+ * Strips that only touch share no area. */
 
-/* Tests a strip and enters it in the lowest free slot, which is answered.
- * Refusals: 23 (0), 2 (index in the window), 3 (0), 16 where an entered strip shares area with it (0), 17 where all 64 slots are in use (0). */
-gerlyantu_booking_answer gerlyantu_book_strip(int32_t *book, size_t length, gerlyantu_window w);
+/* Tests a strip and enters it in the renter's lowest free slot, which is answered.
+ * Refusals: 19 where the renter is neither 0 nor 1 (0), 23 (0), 2 (index in the window), 3 (0), 17 where all 32 slots of the renter are in use (0),
+ * 16 where an entered strip, of either renter, shares area with it (0). */
+gerlyantu_booking_answer gerlyantu_book_strip(int32_t *book, size_t length, int32_t renter, gerlyantu_window w);
 
-/* Frees a slot: it then has five zeros, and a later booking may take it.
- * Refusals: 23 (0), 18 where the slot is not in use or not in 0 to 63 (0). */
-gerlyantu_release_answer gerlyantu_release_slot(int32_t *book, size_t length, int32_t slot);
+/* Frees a slot of the renter: it then has five zeros, and a later booking of that renter may take it.
+ * Refusals: 19 (0), 23 (0), 18 where the renter's slot is not in use or not in 0 to 31 (0). */
+gerlyantu_release_answer gerlyantu_release_slot(int32_t *book, size_t length, int32_t renter, int32_t slot);
+
+/* The strips of one renter. For each in slot order, writes its slot and its left, bottom, right and top: five numbers a strip, so
+ * GERLYANTU_LISTING_ROOM numbers are always enough. Nothing of the other renter's strips is written.
+ * Refusals: 19 (0), 23 (0), 8 (numbers needed). */
+gerlyantu_answer gerlyantu_list_strips(const int32_t *book, size_t length, int32_t renter, int32_t *out, size_t room);
 
 #ifdef __cplusplus
 }
