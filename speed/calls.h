@@ -39,8 +39,9 @@ struct ReleaseAnswer { u8 number; usize place; };
     struct WindowAnswer prefix##_window_to_grid(struct WindowMm w); \
     struct BackAnswer prefix##_to_millimetres(i32 g); \
     struct DrawingAnswer prefix##_read_drawing(const u8 *bytes, usize count, i32 *out, usize room); \
-    struct BookingAnswer prefix##_book_strip(i32 *book, usize count, struct Window w); \
-    struct ReleaseAnswer prefix##_release_slot(i32 *book, usize count, i32 slot);
+    struct BookingAnswer prefix##_book_strip(i32 *book, usize count, i32 renter, struct Window w); \
+    struct ReleaseAnswer prefix##_release_slot(i32 *book, usize count, i32 renter, i32 slot); \
+    struct Answer prefix##_list_strips(const i32 *book, usize count, i32 renter, i32 *out, usize room);
 
 CALLS(gerlyantu)
 CALLS(tuned)

@@ -3,7 +3,8 @@
 
 typedef short i16;
 
-enum { SLOTS = 64, FIVE = 5, NUMBERS = FIVE * SLOTS, EIGHT = 8, PLACES = SLOTS + EIGHT, NO_BOOK = SLOTS + 1 };
+enum { SLOTS = 64, RENTERS = 2, HALF = SLOTS / RENTERS, FIVE = 5, NUMBERS = FIVE * SLOTS };
+enum { EIGHT = 8, PLACES = SLOTS + EIGHT, NO_BOOK = SLOTS + 1 };
 // All four numbers of a place without a strip: one past the table's end, so that no strip has anything in common with it.
 enum { VACANT = FARTHEST + 1 };
 
@@ -70,7 +71,8 @@ static inline usize strips_of(const i32 *book, usize count, struct Rack *r) {
 
 static inline struct BookingAnswer refused(u8 number, usize place) { return (struct BookingAnswer){ number, place, 0 }; }
 
-struct BookingAnswer tuned_book_strip(i32 *book, usize count, struct Window w) {
+struct BookingAnswer tuned_book_strip(i32 *book, usize count, i32 renter, struct Window w) {
+    if (UNLIKELY((u32)renter >= RENTERS)) return refused(19, 0);
     struct Rack rack;
     usize n = strips_of(book, count, &rack);
     if (UNLIKELY(n == NO_BOOK)) return refused(23, 0);
@@ -78,19 +80,49 @@ struct BookingAnswer tuned_book_strip(i32 *book, usize count, struct Window w) {
         struct Refusal r = window_refusal(w);
         return refused(r.number, r.place);
     }
+    i32 *s = book + FIVE * HALF * renter, k = 0;
+    for (; k < HALF && s[0]; s += FIVE) k++;
+    if (k == HALF) return refused(17, 0);
     if (taken(&rack, n, w)) return refused(16, 0);
-    if (n == SLOTS) return refused(17, 0);
-    i32 k = 0;
-    while (book[FIVE * k]) k++;
-    i32 *s = book + FIVE * k;
     s[0] = 1; s[1] = w.left; s[2] = w.bottom; s[3] = w.right; s[4] = w.top;
     return (struct BookingAnswer){ 0, 0, k };
 }
 
-struct ReleaseAnswer tuned_release_slot(i32 *book, usize count, i32 slot) {
+struct ReleaseAnswer tuned_release_slot(i32 *book, usize count, i32 renter, i32 slot) {
+    if (UNLIKELY((u32)renter >= RENTERS)) return (struct ReleaseAnswer){ 19, 0 };
     struct Rack rack;
     if (UNLIKELY(strips_of(book, count, &rack) == NO_BOOK)) return (struct ReleaseAnswer){ 23, 0 };
-    if (UNLIKELY((u32)slot >= SLOTS || !book[FIVE * slot])) return (struct ReleaseAnswer){ 18, 0 };
-    for (int i = 0; i < FIVE; i++) book[FIVE * slot + i] = 0;
+    i32 *half = book + FIVE * HALF * renter;
+    if (UNLIKELY((u32)slot >= HALF || !half[FIVE * slot])) return (struct ReleaseAnswer){ 18, 0 };
+    for (int i = 0; i < FIVE; i++) half[FIVE * slot + i] = 0;
     return (struct ReleaseAnswer){ 0, 0 };
+}
+
+// How many numbers the listing of a half has.
+static usize numbers_of(const i32 *half) {
+    usize strips = 0;
+    for (int k = 0; k < HALF; k++) strips += half[FIVE * k];
+    return FIVE * strips;
+}
+
+// The half's strips are counted only where there might be no room for them.
+struct Answer tuned_list_strips(const i32 *book, usize count, i32 renter, i32 *out, usize room) {
+    if (UNLIKELY((u32)renter >= RENTERS)) return (struct Answer){ 19, 0, 0 };
+    struct Rack rack;
+    usize n = strips_of(book, count, &rack);
+    if (UNLIKELY(n == NO_BOOK)) return (struct Answer){ 23, 0, 0 };
+    const i32 *half = book + FIVE * HALF * renter;
+    if (UNLIKELY(room < FIVE * HALF && room < FIVE * n)) {
+        usize needed = numbers_of(half);
+        if (needed > room) return (struct Answer){ 8, needed, 0 };
+    }
+    i32 *to = out;
+    #pragma clang loop unroll(full)
+    for (int k = 0; k < HALF; k++) {
+        if (!half[FIVE * k]) continue;
+        to[0] = k;
+        __builtin_memcpy(to + 1, half + FIVE * k + 1, 4 * sizeof *to);
+        to += FIVE;
+    }
+    return (struct Answer){ 0, 0, to - out };
 }
