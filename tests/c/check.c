@@ -96,6 +96,8 @@ int main(void) {
     check_passes();
     check_drawings();
     check_books();
+    check_no_books();
+    check_listings();
     printf("linked: %d checks, %d failed\n", checks, failed);
     return failed == 0 ? 0 : 1;
 }

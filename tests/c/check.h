@@ -46,3 +46,5 @@ void check_outlines(void);
 void check_passes(void);
 void check_drawings(void);
 void check_books(void);
+void check_no_books(void);
+void check_listings(void);

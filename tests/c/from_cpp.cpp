@@ -59,13 +59,20 @@ static void check_refused() {
 
 static void check_book() {
     int32_t book[GERLYANTU_BOOK_NUMBERS] = {};
-    const gerlyantu_booking_answer booked = gerlyantu_book_strip(book, GERLYANTU_BOOK_NUMBERS, ten);
+    int32_t rows[GERLYANTU_LISTING_ROOM] = {};
+    const int32_t renter = GERLYANTU_RENTERS - 1, want[5] = {0, 0, 0, 10, 10};
+    const int mark = GERLYANTU_SLOTS / GERLYANTU_RENTERS * 5;
+    const gerlyantu_booking_answer booked = gerlyantu_book_strip(book, GERLYANTU_BOOK_NUMBERS, renter, ten);
     SAME(booked.number, GERLYANTU_DONE);
     SAME(booked.slot, 0);
-    SAME(book[0], 1);
-    SAME(book[4], 10);
-    SAME(gerlyantu_book_strip(book, GERLYANTU_BOOK_NUMBERS, ten).number, GERLYANTU_STRIP_TAKEN);
-    const gerlyantu_release_answer released = gerlyantu_release_slot(book, GERLYANTU_BOOK_NUMBERS, booked.slot);
+    SAME(book[mark], 1);
+    SAME(book[mark + 4], 10);
+    SAME(gerlyantu_book_strip(book, GERLYANTU_BOOK_NUMBERS, 0, ten).number, GERLYANTU_STRIP_TAKEN);
+    const gerlyantu_answer listed = gerlyantu_list_strips(book, GERLYANTU_BOOK_NUMBERS, renter, rows, GERLYANTU_LISTING_ROOM);
+    SAME(listed.number, GERLYANTU_DONE);
+    SAME(listed.count, 5);
+    for (int i = 0; i < 5; i++) SAME(rows[i], want[i]);
+    const gerlyantu_release_answer released = gerlyantu_release_slot(book, GERLYANTU_BOOK_NUMBERS, renter, booked.slot);
     SAME(released.number, GERLYANTU_DONE);
     for (int i = 0; i < GERLYANTU_BOOK_NUMBERS; i++) SAME(book[i], 0);
 }
