@@ -24,7 +24,8 @@ static inline i16 shared(i16 l1, i16 b1, i16 r1, i16 t1, i16 l2, i16 b2, i16 r2,
 static inline usize gather(const i32 *book, struct Rack *r) {
     usize n = 0;
     u32 marks = 0, off[4] = { 0 }, area = ~0u;
-    for (usize k = SLOTS; k-- > 0;) {
+    #pragma clang loop unroll_count(8)
+    for (int k = SLOTS - 1; k >= 0; k--) {
         const i32 *s = book + FIVE * k;
         if (s[0] == 0) continue;
         marks |= s[0];
