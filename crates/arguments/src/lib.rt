@@ -32,6 +32,8 @@ pub const ENTER: u64 = 0x1_65_6e_74_65_72;
 
 pub const RELEASE: u64 = 0x1_72_65_6c_65_61_73_65;
 
+pub const STRIPS: u64 = 0x1_73_74_72_69_70_73;
+
 // The word that asks for the lines there are.
 pub const HELP: u64 = 0x1_68_65_6c_70;
 
