@@ -3,7 +3,7 @@
 use mathlib.Core.Path.{_≡_, refl, ap, _∙_}
 use mathlib.Core.List.{List, [], _∷_, _++_}
 use mathlib.Core.Option.{some}
-use Prim.Native.Nat.{ℕ, _+_, _-_, _≤_, _<_}
+use Prim.Native.Nat.{ℕ, suc, _+_, _-_, _≤_, _<_}
 use native.Mathlib.Omega.{arith}
 use lib.IntN.{ℤ, pos}
 use lib.ListN.{length, take, drop, getD, length-append, length-drop}
@@ -58,14 +58,23 @@ four (a ∷ b ∷ []) h = absurd (omega arith)
 four (a ∷ b ∷ c ∷ []) h = absurd (omega arith)
 four (a ∷ b ∷ c ∷ d ∷ zs) h = refl
 
-module _ {text : List ℕ} {out : List ℤ} {m : ℕ} where
-  pub asks-enter : ReadTable 4 text out m → m ≤ mostTable → m + 4 ≤ length out →
-      AsksEnter text (record { table = take m out; window = firstWindow (drop m out) })
-  asks-enter read h room = rw (four (drop m out) (simp length-drop (omega arith))) at (read .table h)
+first-of : (out : List ℤ) (m : ℕ) → m < length out → drop m out ≡ getD out m (pos 0) ∷ drop (m + 1) out
+first-of out m h =
+    let next : suc m ≡ m + 1 = omega arith in
+    drop-cons out m (pos 0) h ∙ ap (λ k. getD out m (pos 0) ∷ drop k out) next
 
-  pub asks-release : ReadTable 1 text out m → m ≤ mostTable → m + 1 ≤ length out →
-      AsksRelease text (record { table = take m out; slot = getD out m (pos 0) })
-  asks-release read h room = rw (drop-cons out m (pos 0) (omega arith)) at (read .table h)
+module _ {text : List ℕ} {out : List ℤ} {m : ℕ} where
+  pub asks-enter : ReadTable 5 text out m → m ≤ mostTable → m + 5 ≤ length out →
+      AsksEnter text (record { table = take m out; renter = getD out m (pos 0); window = firstWindow (drop (m + 1) out) })
+  asks-enter read h room =
+      rw (first-of out m (omega arith), four (drop (m + 1) out) (simp length-drop (omega arith))) at (read .table h)
+
+  pub asks-release : ReadTable 2 text out m → m ≤ mostTable → m + 2 ≤ length out →
+      AsksRelease text (record { table = take m out; renter = getD out m (pos 0); slot = getD out (m + 1) (pos 0) })
+  asks-release read h room = rw (first-of out m (omega arith), first-of out (m + 1) (omega arith)) at (read .table h)
+
+  pub asks-renter : ReadTable 1 text out m → m ≤ mostTable → m + 1 ≤ length out → AsksTable text (take m out) (getD out m (pos 0) ∷ [])
+  asks-renter read h room = rw (first-of out m (omega arith)) at (read .table h)
 
 -- ---- the reply says the table after the call
 

@@ -1,8 +1,12 @@
 -- `book_commands::enter` meets its contract: the line asks for what was read. Assumes nothing.
 use mathlib.Core.Path.{_≡_, refl, ap, _∙_}
-use Prim.Native.Nat.{_≤_}
+use mathlib.Core.List.{_∷_}
+use Prim.Native.Nat.{_+_, _≤_}
 use native.Mathlib.Omega.{arith}
-use lib.ListN.{length, drop}
+use lib.IntN.{pos}
+use lib.ListN.{length, drop, getD}
+use mir.Syntax.{w32}
+use Rattle.whole.proofs.Comparisons.{back}
 use Rattle.arguments.specs.Arguments.{firstWindow}
 use Rattle.grid.specs.Table.{sides}
 use Rattle.lending.proofs.Lists.{rest-of}
@@ -27,9 +31,18 @@ returns : tie.Need-returns
 returns c =
     let read = c .before .before .before .read-table in (
       search needs,
-      no-call (λ x a. read .ensures .no-table (c .before .if1 .taken) (x .table) (sides (x .window)) refl a)
+      no-call (λ x a. read .ensures .no-table (c .before .if1 .taken) (x .table) (x .renter ∷ sides (x .window)) refl a)
           (c .unknown .ensures),
     )
+
+mul-renter : tie.Need-mul-renter
+mul-renter c = search needs
+
+slice-copy-out-renter : tie.Need-slice-copy-out-renter
+slice-copy-out-renter c = search needs
+
+add-first-window : tie.Need-add-first-window
+add-first-window c = search needs
 
 mul-first-window : tie.Need-mul-first-window
 mul-first-window c = search needs
@@ -68,19 +81,21 @@ returns-2 : tie.Need-returns-2
 returns-2 c =
     let called = c .before .before in
     let there = called .before .before in
-    let reading = there .before .before .before .before .before in
+    let copied = there .before .before .before in
+    let reading = copied .before .before .before in
     let read = reading .read-table in
     let start = reading .before .before .before in
     let m = read .result in
     let out = read .last .1 .1 .0 in
-    let h = there .before .before .before .if1 .left in
+    let h = copied .before .if1 .left in
     let room : 40960 ≤ length out = omega (arith, read .kept .1 .1 .0, start .pre) in
-    let window : there .first-window .result ≡ firstWindow (drop m out) =
-    there .first-window .ensures ∙ ap firstWindow (rest-of m out) in (
+    let window : there .first-window .result ≡ firstWindow (drop (m + 1) out) =
+    there .first-window .ensures ∙ ap firstWindow (rest-of (m + 1) out) in
+    let renter = back w32 (getD out m (pos 0)) (copied .renter .given) in (
       search needs,
       to-call _ (asks-enter (read .ensures) h (omega arith))
-          (with-table (BookStrip _) out (called .book .last .0) _ (omega arith) (called .book .kept .0)
-          (rw window at (called .book .ensures .1)) (c .lent4 .ensures)),
+          (with-table (BookStrip _ _) out (called .book .last .0) _ (omega arith) (called .book .kept .0)
+          (rw (renter, window) at (called .book .ensures .1)) (c .lent4 .ensures)),
     )
 
 pub enter-spec : {M : Type 1} → statement M
@@ -91,6 +106,9 @@ enter-spec =
     unknown-requires
     same-length
     returns
+    mul-renter
+    slice-copy-out-renter
+    add-first-window
     mul-first-window
     sub-first-window
     part-first-window-start

@@ -18,9 +18,11 @@ same-length c = search needs
 returns : tie.Need-returns
 returns c =
     let called = c .before .before in
-    let slot = toZ-ofZ (called .before .before .fits .slot) in
-    let s = c .begin .ensures in
-    (omega (arith, s .count), tells (called .release-slot .result) (rw slot at (called .release-slot .ensures)) s)
+    let fits = called .before .before .fits in
+    let s = c .begin .ensures in (
+      omega (arith, s .count),
+      tells (called .release-slot .result) (rw (toZ-ofZ (fits .renter), toZ-ofZ (fits .slot)) at (called .release-slot .ensures)) s,
+    )
 
 pub free-spec : {M : Type 1} → statement M
 free-spec = tie.close (tie.spec release-slot-requires begin-requires same-length returns)

@@ -1,7 +1,7 @@
 -- `book_commands::release` meets its contract: the line asks for what was read. Assumes nothing.
 use mathlib.Core.Path.{refl}
 use mathlib.Core.List.{[], _∷_}
-use Prim.Native.Nat.{_≤_}
+use Prim.Native.Nat.{_+_, _≤_}
 use native.Mathlib.Omega.{arith}
 use lib.IntN.{pos}
 use lib.ListN.{length, getD}
@@ -28,9 +28,18 @@ returns : tie.Need-returns
 returns c =
     let read = c .before .before .before .read-table in (
       search needs,
-      no-call (λ x a. read .ensures .no-table (c .before .if1 .taken) (x .table) (x .slot ∷ []) refl a)
+      no-call (λ x a. read .ensures .no-table (c .before .if1 .taken) (x .table) (x .renter ∷ x .slot ∷ []) refl a)
           (c .unknown .ensures),
     )
+
+mul-renter : tie.Need-mul-renter
+mul-renter c = search needs
+
+slice-copy-out-renter : tie.Need-slice-copy-out-renter
+slice-copy-out-renter c = search needs
+
+add-slot : tie.Need-add-slot
+add-slot c = search needs
 
 mul-slot : tie.Need-mul-slot
 mul-slot c = search needs
@@ -60,18 +69,19 @@ returns-2 : tie.Need-returns-2
 returns-2 c =
     let called = c .before .before in
     let copied = called .before .before in
-    let reading = copied .before .before .before in
+    let reading = copied .before .before .before .before in
     let read = reading .read-table in
     let start = reading .before .before .before in
     let m = read .result in
     let out = read .last .1 .1 .0 in
-    let h = copied .before .if1 .left in
+    let h = copied .before .before .if1 .left in
     let room : 40960 ≤ length out = omega (arith, read .kept .1 .1 .0, start .pre) in
-    let slot = back w32 (getD out m (pos 0)) (copied .slot .given) in (
+    let renter = back w32 (getD out m (pos 0)) (copied .before .renter .given) in
+    let slot = back w32 (getD out (m + 1) (pos 0)) (copied .slot .given) in (
       search needs,
       to-call _ (asks-release (read .ensures) h (omega arith))
-          (with-table (ReleaseSlot _) out (called .free .last .0) _ (omega arith) (called .free .kept .0)
-          (rw slot at (called .free .ensures .1)) (c .lent3 .ensures)),
+          (with-table (ReleaseSlot _ _) out (called .free .last .0) _ (omega arith) (called .free .kept .0)
+          (rw (renter, slot) at (called .free .ensures .1)) (c .lent3 .ensures)),
     )
 
 pub release-spec : {M : Type 1} → statement M
@@ -82,6 +92,9 @@ release-spec =
     unknown-requires
     same-length
     returns
+    mul-renter
+    slice-copy-out-renter
+    add-slot
     mul-slot
     slice-copy-out-slot
     sub-free
