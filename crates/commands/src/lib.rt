@@ -18,6 +18,7 @@ use arguments::MM2;
 use arguments::MM4;
 use arguments::OUTLINE;
 use arguments::RELEASE;
+use arguments::STRIPS;
 use replies::Reply;
 
 // The reply to the line that the first `have` bytes are.
@@ -39,7 +40,7 @@ pub fn reply(line: &[u8], have: usize, lent: &mut [i32]) -> Reply
         BATCH => batch_commands::batch(rest, lent),
         OUTLINE => outline_commands::outline(rest, lent),
         DRAW => drawing_commands::draw(rest, lent),
-        ENTER | RELEASE => book_commands::reply(word, rest, lent),
+        ENTER | RELEASE | STRIPS => book_commands::reply(word, rest, lent),
         _ => replies::unknown(),
     }
 }

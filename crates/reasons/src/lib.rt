@@ -11,6 +11,7 @@ use arguments::MM2;
 use arguments::MM4;
 use arguments::OUTLINE;
 use arguments::RELEASE;
+use arguments::STRIPS;
 use words::Integer;
 use words::Natural;
 use words::Single;
@@ -61,8 +62,9 @@ fn wanted(word: u64) -> Wants {
         CB => taking(5, 1, 64),
         BATCH => taking(6, 6, 20000),
         OUTLINE => taking(7, 7, 256),
-        ENTER => taking(5, 1, 20000),
-        RELEASE => taking(2, 1, 20000),
+        ENTER => taking(6, 1, 20000),
+        RELEASE => taking(3, 1, 20000),
+        STRIPS => taking(3, 2, 20000),
         _ => taking(0, 0, 0),
     }
 }
@@ -76,7 +78,7 @@ fn kind_at(word: u64, place: usize) -> Kind {
             2 => Kind::UpTo(40960),
             _ => Kind::Whole,
         },
-        BATCH => match place {
+        BATCH | STRIPS => match place {
             1 => Kind::UpTo(40960),
             _ => Kind::Whole,
         },

@@ -18,8 +18,9 @@ fn list_lines() {
     streams::tell(b"batch ROOM l b r t M s1 .. sM\n");
     streams::tell(b"outline ORDER ROOM l b r t M c1 .. cM\n");
     streams::tell(b"draw ROOM HEX\n");
-    streams::tell(b"enter M t1 .. tM l b r t\n");
-    streams::tell(b"release M t1 .. tM SLOT\n");
+    streams::tell(b"enter M t1 .. tM R l b r t\n");
+    streams::tell(b"release M t1 .. tM R SLOT\n");
+    streams::tell(b"strips ROOM M t1 .. tM R\n");
     streams::tell(
         b"H: an f32 as the eight hexadecimal digits of its bits; HEX: a file's bytes as pairs of digits, - for none; ROOM: numbers lent as output\n",
     );
