@@ -18,7 +18,7 @@ use replies::Reply;
 const MOST_TABLE: usize = 20000;
 
 // Reads M, a table of M numbers, and `behind` numbers more; all but M are put at the front of lent. It says M, or more than the most where the text
-// is something else. M is read as a room is, since the table is what the line lends.
+// is something else. M is read as a room is, since enter and release lend the table.
 fn read_table(rest: &[u8], behind: usize, lent: &mut [i32]) -> usize
     requires { ⌜ 0 < behind ⌝ }
     requires { ⌜ behind ≤ 5 ⌝ }
