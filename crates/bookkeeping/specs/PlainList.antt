@@ -7,10 +7,10 @@
 --   entered n w es        es and the strip w with the number n, in the order of the numbers
 --   has z es              an entry has the number z
 --   struckOut z es        es without the entry of the number z; just es, where there is none
---   entriesListed es             of each entry its number, then its strip's four numbers
+--   entriesListed es      of each entry its number, then its strip's four numbers
 --   Paper                 the two leaves;  blankPaper: with nothing on them
---   leaf renter p        the renter's own leaf; an empty list, where there is no such renter
---   onLeaf renter es p   the paper with es on the renter's leaf; just p, where there is no such renter
+--   leaf renter p         the renter's own leaf; an empty list, where there is no such renter
+--   onLeaf renter es p    the paper with es on the renter's leaf; just p, where there is no such renter
 --   refusalToBook renter w p   why the strip w is not entered: 19, 2, 3, 17 where the renter has 32, 16 where one on either leaf shares area with w
 --   answerBooking renter w p   what one who books w is told: the first missing number of the renter's leaf, or the refusal
 --   afterBooking renter w p    the paper afterwards

@@ -1,5 +1,5 @@
 -- Runs of calls, with the strip book and on paper.
---   Event                    a call with its answer: a strip is booked, a slot released, or a renter's strips are entriesListed into an output
+--   Event                    a call with its answer: a strip is booked, a slot released, or a renter's strips are listed into an output
 --   renterOf e               the renter who makes the call
 --   numberAnswered e         the number of the refusal in an event's answer; 0 where the call is done
 --   InBook before e after    the call of e, made on the table before, is answered as e says and leaves the table after

@@ -1,8 +1,8 @@
 -- What the calls of the strip book promise. Their memory is the lent table, before and after.
 --   unknownRenter, noBook, halfFull, stripTaken, slotNotInUse   the numbers of the book's own refusals; the place of each is 0
---   renterRefusal renter      19 where there is no such renter
+--   renterRefusal renter   19 where there is no such renter
 --   tableRefusal zs        23 where the table zs is no book
---   noneFree renter zs        17 where all slots of the renter's half are in use
+--   noneFree renter zs     17 where all slots of the renter's half are in use
 --   clash w zs             16 where an entered strip, in either half, shares area with w
 --   usedAt ss z            the slot z is one of ss, and in use
 --   slotRefusal renter z zs   18 where the slot z of the renter's half is not in use, or there is none of that number
@@ -10,10 +10,10 @@
 --   releaseRefusal renter z zs   what releasing refuses: 19, 23, then 18
 --   refusedBooking r       the answer of a booking that refuses by r;  bookedIn k: of one that enters the strip in the renter's slot k
 --   releaseAnswer r        the answer of a release: it refuses by r, or is done where r refuses nothing
---   Booked renter w a before after      the lowest free slot of the renter's half is answered, and then holds a mark of 1 and the strip w; the rest
---                                    is as it was
+--   Booked renter w a before after   the lowest free slot of the renter's half is answered, and then holds a mark of 1 and the strip w; the rest is
+--                          as it was
 --   BookStrip renter w a before after   what `strip_book::book_strip` promises of its answer and of the book before and after
---   Released renter z a before after    the slot z of the renter's half then holds five zeros; the rest is as it was
+--   Released renter z a before after   the slot z of the renter's half then holds five zeros; the rest is as it was
 --   ReleaseSlot renter z a before after   what `strip_book::release_slot` promises
 use mathlib.Core.Path.{_≡_}
 use mathlib.Core.Bool.{Bool, false}
