@@ -112,7 +112,8 @@ listable : (renter : ℤ) (zs : List ℤ) (a : Answer) (before after : List ℤ)
     → Listable renter zs
 unfolding listingRefusal renterRefusal tableRefusal
 listable renter zs a before after p z =
-    let o = all-done (listingRefusal renter zs) (roomFor renter zs before ∷ []) (sym (number-refused (listing renter before a after) zs zs (p, refl)) ∙ z) in
+    let e = sym (number-refused (listing renter before a after) zs zs (p, refl)) ∙ z in
+    let o = all-done (listingRefusal renter zs) (roomFor renter zs before ∷ []) e in
     let q = all-done (renterRefusal renter) (tableRefusal zs ∷ []) (o .0) in
     let t = all-done (tableRefusal zs) [] (q .1) in
     record {

@@ -2,7 +2,7 @@
 use mathlib.Core.Path.{_≡_, refl, sym, ap, _∙_}
 use mathlib.Core.Bool.{Bool, true, false, _&&_, _||_}
 use mathlib.Core.List.{List, [], _∷_, _++_}
-use Prim.Native.Nat.{ℕ, zero, suc, _+_, _*_, _≤_, _<_}
+use Prim.Native.Nat.{ℕ, zero, suc, _+_, _≤_, _<_}
 use native.Mathlib.Nat.{add-zero}
 use native.Mathlib.Omega.{arith}
 use borrow.Author.Tests.{eq-eqb, ne-eqb, lt-ltb, le-ltb}
@@ -16,7 +16,8 @@ use Rattle.grid.specs.declared.Window.{Window}
 use Rattle.racks.specs.Members.{any, all}
 use Rattle.slots.specs.Slots.{Slot, numberIs, inUse, stripsIn, lowestFree, slotOf, freeSlot}
 use Rattle.own_strips.specs.OwnStrips.{listedFrom}
-use Rattle.bookkeeping.specs.PlainList.{Entry, entry, strips, RisingFrom, no-entry, an-entry, firstMissing, entered, has, struckOut, entriesListed}
+use Rattle.bookkeeping.specs.PlainList.{Entry, entry, strips, RisingFrom, no-entry, an-entry}
+use Rattle.bookkeeping.specs.PlainList.{firstMissing, entered, has, struckOut, entriesListed}
 use Rattle.bookkeeping.specs.Runs.{entriesFrom}
 
 -- the entries of a slot and of those after it, by whether it is in use

@@ -3,14 +3,13 @@ use mathlib.Core.Path.{_≡_, refl, sym, ap, _∙_}
 use mathlib.Core.Bool.{Bool, true, false, not-eq-not}
 use mathlib.Core.List.{List, [], _∷_}
 use mathlib.Core.Logic.{_↔_, ⊎-elim}
-use Prim.Native.Nat.{ℕ, _+_, _*_, _<_}
+use Prim.Native.Nat.{ℕ, _*_, _<_}
 use native.Mathlib.Nat.{zero-add}
 use native.Mathlib.Omega.{arith}
 use borrow.Author.Tests.{leb-true, leb-false}
 use lib.Dec.{leb}
-use lib.IntN.{ℤ, pos, negsuc, natAbs}
-use lib.ListN.{length, set}
-use lib.Seq.{getD-set-same, getD-set-other}
+use lib.IntN.{ℤ, pos, negsuc}
+use lib.ListN.{length}
 use Rattle.whole.specs.Choice.{if_then_else_}
 use Rattle.whole.proofs.Comparisons.{ff-tt, tt-ff}
 use Rattle.grid.specs.Calls.{refusedBy, answeredBy, written, Given}
@@ -22,10 +21,10 @@ use Rattle.grid.proofs.Calls.{given-cases}
 use Rattle.racks.specs.Areas.{sharesArea}
 use Rattle.racks.specs.Members.{any, all}
 use Rattle.slots.specs.Slots.{Slot, slotsOf, slotAt, inUse, stripsIn, isBook, freeSlot}
-use Rattle.slots.proofs.Lowest.{lowest-free, used-below, lowest-none}
+use Rattle.slots.proofs.Lowest.{used-below, lowest-none}
 use Rattle.strip_book.specs.Books.{halfFull, stripTaken, slotNotInUse, renterRefusal, tableRefusal, usedAt, bookingRefusal}
 use Rattle.strip_book.specs.Books.{refusedBooking, BookStrip}
-use Rattle.strip_book.specs.Renters.{isRenter, firstSlot, half}
+use Rattle.strip_book.specs.Renters.{isRenter, half}
 use Rattle.strip_book.specs.declared.BookingAnswer.{BookingAnswer}
 use Rattle.strip_book.specs.declared.ReleaseAnswer.{ReleaseAnswer}
 use Rattle.strip_book.proofs.Halves.{half-long, half-at}

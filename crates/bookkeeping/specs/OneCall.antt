@@ -1,5 +1,5 @@
--- Laws of one call, whatever table it is made on: when exactly it answers each refusal, told by the numbers of slots, and that it then leaves all as it
--- was. UnknownRenterExactly and NoBookExactly are proved in proofs/Faults.antt, the others in proofs/OneCall.antt. From 17 on they are about a renter
+-- Laws of one call, whatever table it is made on: when exactly it answers each refusal, told by the numbers of slots, and that it then leaves all as
+-- it was. UnknownRenterExactly and NoBookExactly are proved in proofs/Faults.antt, the others in proofs/OneCall.antt. From 17 on they are about a renter
 -- that there is and a table that is a book, since the others are refused before.
 --   slotIs renter k zs    the slot k of the renter in a table
 --   HalvesOfTheTable      renter 0's slot k is the table's slot k, and renter 1's is the table's slot 32 + k
