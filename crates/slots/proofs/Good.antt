@@ -1,7 +1,7 @@
 -- Whether slots are good each by itself, one after the other: where those behind a slot are, it is its own mark and its own numbers that decide;
 -- where they are not, nothing before them helps.
 use mathlib.Core.Path.{_≡_, refl, sym, ap, _∙_}
-use mathlib.Core.Bool.{Bool, true, false, _&&_}
+use mathlib.Core.Bool.{Bool, true, false, _&&_, _||_}
 use mathlib.Core.List.{List, [], _∷_}
 use Prim.Native.Nat.{ℕ, zero, suc, _-_, _*_, _/_, _≤_}
 use native.Mathlib.Omega.{arith}
@@ -63,11 +63,18 @@ module _ (s : Slot) (ss : List Slot) where
     unfolding stripsIn all
     used-good = rw m
 
-    pub bad-strip : (windowRefusal (s .strip) .number ≡ 0 → ⊥) → eachGood (s ∷ ss) ≡ false
-    bad-strip h = used-good ∙ ap (λ (g : Bool). marks && (g && strips)) (ne-eqb (windowRefusal (s .strip) .number) 0 h) ∙ none-last marks
-
     pub good-use : windowRefusal (s .strip) .number ≡ 0 → eachGood ss ≡ true → eachGood (s ∷ ss) ≡ true
     good-use h g = used-good ∙ ap (λ (g : Bool). marks && (g && strips)) (eq-eqb (windowRefusal (s .strip) .number) 0 h) ∙ g
+
+  -- it is not free, whatever its mark is, and its strip is bad
+  pub bad-strip : (s .mark ≡ pos 0 → ⊥) → (windowRefusal (s .strip) .number ≡ 0 → ⊥) → eachGood (s ∷ ss) ≡ false
+  unfolding stripsIn all
+  bad-strip p h =
+      ap (λ (b : Bool). ((b || inUse s) && marks) && all goodStrip (stripsIn (s ∷ ss))) (is-not (s .mark) 0 p) ∙ go (inUse s)
+    where
+      go : (u : Bool) → (u && marks) && all goodStrip (if u then s .strip ∷ stripsIn ss else stripsIn ss) ≡ false
+      go false = refl
+      go true = ap (λ (g : Bool). marks && (g && strips)) (ne-eqb (windowRefusal (s .strip) .number) 0 h) ∙ none-last marks
 
   -- nothing before bad slots makes them good
   good-behind : eachGood (s ∷ ss) ≡ true → eachGood ss ≡ true
@@ -78,6 +85,13 @@ module _ (s : Slot) (ss : List Slot) where
       go false u e = absurd (ff-tt e)
       go true false e = e
       go true true e = both marks (goodStrip (s .strip)) strips e
+
+  pub bad-behind : eachGood ss ≡ false → eachGood (s ∷ ss) ≡ false
+  bad-behind f = go (eachGood (s ∷ ss)) refl
+    where
+      go : (b : Bool) → eachGood (s ∷ ss) ≡ b → eachGood (s ∷ ss) ≡ false
+      go false e = e
+      go true e = absurd (ff-tt (sym f ∙ good-behind e))
 
 -- ---- a table and its slots from a place on
 good-drop : (k : ℕ) (ss : List Slot) → eachGood ss ≡ true → eachGood (drop k ss) ≡ true

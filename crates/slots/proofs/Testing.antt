@@ -23,7 +23,7 @@ use Rattle.slots.specs.declared.Tested.{Tested}
 use Rattle.slots.specs.declared.Tested.the-variants as Tested
 use Rattle.slots.proofs.Places.{slots-more}
 use Rattle.slots.proofs.Apart.{all-apart, not-apart}
-use Rattle.slots.proofs.Good.{free-strips, free-good, bad-mark, used-strips, bad-strip, good-use, bad-later}
+use Rattle.slots.proofs.Good.{free-strips, free-good, bad-mark, used-strips, bad-strip, good-use, bad-behind, bad-later}
 
 -- ---- what a test found
 module _ {Bad : Type 0} {Fine : ℕ → Type 0} where
@@ -50,6 +50,9 @@ module _ (zs : List ℤ) (p : ℕ) (h : p + 5 ≤ length zs) where
   more : slotsFrom p zs ≡ here ∷ behind
   more = slots-more zs p h
 
+  pub fails-behind : eachGood behind ≡ false → eachGood (slotsFrom p zs) ≡ false
+  fails-behind f = ap eachGood more ∙ bad-behind here behind f
+
   -- ---- its mark
   pub mark-is : mag (here .mark) < 2 ^ 31 → (n : ℕ) → n < 2 ^ 31 → ofZ w32 (here .mark) ≡ n → here .mark ≡ pos n
   mark-is f n l e = bits-eq w32 {x = here .mark} {y = pos n} (record { sfits = f }) (record { sfits = l }) e
@@ -67,13 +70,15 @@ module _ (zs : List ℤ) (p : ℕ) (h : p + 5 ≤ length zs) where
       }
 
   -- ---- its strip
-  module _ (m : here .mark ≡ pos 1) {w : Window} (e : w ≡ here .strip) where
-    pub fails-strip : (windowRefusal w .number ≡ 0 → ⊥) → eachGood (slotsFrom p zs) ≡ false
-    fails-strip f = ap eachGood more ∙ bad-strip here behind m (subst (λ (v : Window). windowRefusal v .number ≡ 0 → ⊥) e f)
+  module _ {w : Window} (e : w ≡ here .strip) where
+    pub fails-strip : (ofZ w32 (here .mark) ≡ 0 → ⊥) → (windowRefusal w .number ≡ 0 → ⊥) → eachGood (slotsFrom p zs) ≡ false
+    fails-strip f g =
+        ap eachGood more
+        ∙ bad-strip here behind (λ m. f (ap (ofZ w32) m)) (subst (λ (v : Window). windowRefusal v .number ≡ 0 → ⊥) e g)
 
-    pub passes-used : {n : ℕ} {rack rack′ : List ℤ} → windowRefusal w .number ≡ 0 → Gathered behind n rack
+    pub passes-used : {n : ℕ} {rack rack′ : List ℤ} → here .mark ≡ pos 1 → windowRefusal w .number ≡ 0 → Gathered behind n rack
         → Carries rack′ (w ∷ stripsIn behind) → Gathered (slotsFrom p zs) (n + 1) rack′
-    passes-used {n} {rack} {rack′} f r put =
+    passes-used {n} {rack} {rack′} m f r put =
         let same : stripsIn (slotsFrom p zs) ≡ w ∷ stripsIn behind =
         ap stripsIn more ∙ used-strips here behind m ∙ ap (λ (v : Window). v ∷ stripsIn behind) (sym e) in
         record {

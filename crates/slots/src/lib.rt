@@ -28,19 +28,20 @@ pub fn strip_at(book: &[i32], p: usize) -> Window
     }
 }
 
-// Tests the slot whose mark stands at the place p, and puts its strip on the rack, where the n strips of the slots behind it are.
-fn gather_slot(book: &[i32], p: usize, rack: &mut [i16; 288], n: usize) -> Tested
+// Goes on with the slot whose mark stands at the place p, where the test of the slots behind it has found so much: the slot is tested, and its
+// strip put on the rack, where the n strips of those behind it are. Whether the mark is 1 is asked last: the compiler then leaves the mark in memory,
+// so that a free slot costs one comparison.
+fn gather_slot(book: &[i32], p: usize, rack: &mut [i16; 288], behind: Tested) -> Tested
     requires { ⌜ p + 5 ≤ 320 ⌝ }
     requires { ⌜ length (now book) ≡ 320 ⌝ }
-    requires { ⌜ Gathered (slotsFrom (p + 5) (now book)) n (now rack) ⌝ }
+    requires { ⌜ Gathers (slotsFrom (p + 5) (now book)) behind (now rack) ⌝ }
     ensures { λ r. ⌜ Gathers (slotsFrom p (now (book .entry))) r (now (rack .exit)) ⌝ }
 {
-    let mark = book[p];
-    if mark == 0 {
-        return Tested::Good(n);
-    }
-    if mark != 1 {
+    let Tested::Good(n) = behind else {
         return Tested::Faulty;
+    };
+    if book[p] == 0 {
+        return Tested::Good(n);
     }
     let w = strip_at(book, p);
     let refusal = grid::window_refusal(w);
@@ -48,7 +49,27 @@ fn gather_slot(book: &[i32], p: usize, rack: &mut [i16; 288], n: usize) -> Teste
         return Tested::Faulty;
     }
     racks::put(rack, n, w);
+    if book[p] != 1 {
+        return Tested::Faulty;
+    }
     Tested::Good(n + 1)
+}
+
+// The same with the eight slots from the place p on, the last of them first. They are written out, so that the loop over them has few turns.
+fn gather_eight(book: &[i32], p: usize, rack: &mut [i16; 288], behind: Tested) -> Tested
+    requires { ⌜ p + 40 ≤ 320 ⌝ }
+    requires { ⌜ length (now book) ≡ 320 ⌝ }
+    requires { ⌜ Gathers (slotsFrom (p + 40) (now book)) behind (now rack) ⌝ }
+    ensures { λ r. ⌜ Gathers (slotsFrom p (now (book .entry))) r (now (rack .exit)) ⌝ }
+{
+    let from7 = gather_slot(book, p + 35, rack, behind);
+    let from6 = gather_slot(book, p + 30, rack, from7);
+    let from5 = gather_slot(book, p + 25, rack, from6);
+    let from4 = gather_slot(book, p + 20, rack, from5);
+    let from3 = gather_slot(book, p + 15, rack, from4);
+    let from2 = gather_slot(book, p + 10, rack, from3);
+    let from1 = gather_slot(book, p + 5, rack, from2);
+    gather_slot(book, p, rack, from1)
 }
 
 // Tests the marks and the strips of all slots, from the last to the first, and puts the strips on a rack, on which there is none before.
@@ -60,8 +81,8 @@ fn gather(book: &[i32], rack: &mut [i16; 288]) -> Tested
     let mut n = 0;
     let mut p = 320;
     while 0 < p {
-        p -= 5;
-        match gather_slot(book, p, rack, n) {
+        p -= 40;
+        match gather_eight(book, p, rack, Tested::Good(n)) {
             Tested::Good(m) => {
                 n = m;
             }
@@ -100,7 +121,8 @@ pub fn in_use(book: &[i32], k: usize) -> bool
     book[5 * k] == 1
 }
 
-// Of the slots from one up to another the first that is not in use; the other, where all are.
+// Of the slots from one up to another the first that is not in use; the other, where all are. The place of its mark goes along, so that none is
+// computed from k.
 pub fn lowest_free(book: &[i32], from: usize, to: usize) -> usize
     requires { ⌜ from ≤ to ⌝ }
     requires { ⌜ to ≤ 64 ⌝ }
@@ -108,11 +130,13 @@ pub fn lowest_free(book: &[i32], from: usize, to: usize) -> usize
     ensures { λ r. ⌜ r ≡ from + lowestFree (slice from to (slotsOf (now (book .entry)))) ⌝ }
 {
     let mut k = from;
+    let mut p = 5 * from;
     while k < to {
-        if book[5 * k] != 1 {
+        if book[p] != 1 {
             return k;
         }
         k += 1;
+        p += 5;
     }
     k
 }

@@ -11,7 +11,7 @@ use Rattle.slots.proofs.gather.Statement.{statement}
 use Rattle.slots.proofs.gather.Tie as tie
 
 abbrev Inv-loop : tie.InvT-loop
-Inv-loop book rack₀ n₀ p₀ rack n p = (p ≤ 320) × (p % 5 ≡ 0) × Gathered (slotsFrom p book) n rack
+Inv-loop book rack₀ n₀ p₀ rack n p = (p ≤ 320) × (p % 40 ≡ 0) × Gathered (slotsFrom p book) n rack
 
 abbrev μ-loop : tie.MeasureT-loop
 μ-loop book rack₀ n₀ p₀ rack n p = p
@@ -19,33 +19,33 @@ abbrev μ-loop : tie.MeasureT-loop
 loop-holds : tie.Need-loop-holds Inv-loop μ-loop
 loop-holds c = (omega arith, omega arith, starts (now (c .args .book)) (c .pre .0) (c .pre .1))
 
--- before the loop ends there is a slot before the place p
-five-more : (c : tie.In-loop Inv-loop μ-loop) → 5 ≤ c .before .loop .p
-five-more c = omega (arith, c .loop-test .taken, c .before .loop .inv .1)
+-- before the loop ends there are eight slots before the place p
+eight-more : (c : tie.In-loop Inv-loop μ-loop) → 40 ≤ c .before .loop .p
+eight-more c = omega (arith, c .loop-test .taken, c .before .loop .inv .1)
 
 sub-p : tie.Need-sub-p Inv-loop μ-loop
-sub-p c = five-more c
+sub-p c = eight-more c
 
-gather-slot-requires : tie.Need-gather-slot-requires Inv-loop μ-loop
-gather-slot-requires c κs =
+gather-eight-requires : tie.Need-gather-eight-requires Inv-loop μ-loop
+gather-eight-requires c κs =
     let l = c .before .before in
     let a = l .before in
-    let back : l .loop .p ≡ l .loop .p - 5 + 5 = omega (arith, five-more (c .before)) in
+    let back : l .loop .p ≡ l .loop .p - 40 + 40 = omega (arith, eight-more (c .before)) in
     let behind = subst (λ (q : ℕ). Gathered (slotsFrom q (now (a .args .book))) (l .loop .n) (l .loop .rack)) back (l .loop .inv .2) in
-    (omega (arith, back, l .loop .inv .0), (a .pre .0, behind))
+    (omega (arith, back, l .loop .inv .0), (a .pre .0, workers.good behind))
 
 enum-known-m : tie.Need-enum-known-m Inv-loop μ-loop
 enum-known-m c = search needs
 
 loop-less : tie.Need-loop-less Inv-loop μ-loop
-loop-less c = omega (arith, five-more (c .before .before .before .before .before))
+loop-less c = omega (arith, eight-more (c .before .before .before .before .before))
 
 loop-again : tie.Need-loop-again Inv-loop μ-loop
 loop-again c =
     let t = c .before .before .before .before .before in
     let l = t .before in
-    let more = found-good _ (c .before .m .given .1) (c .before .before .before .gather-slot .ensures) in
-    (omega (arith, l .loop .inv .0), omega (arith, five-more t, l .loop .inv .1), more)
+    let more = found-good _ (c .before .m .given .1) (c .before .before .before .gather-eight .ensures) in
+    (omega (arith, l .loop .inv .0), omega (arith, eight-more t, l .loop .inv .1), more)
 
 enum-told : tie.Need-enum-told Inv-loop μ-loop
 enum-told c = search needs
@@ -55,8 +55,8 @@ returns c =
     let t = c .before .before .before .before in
     let l = t .before in
     workers.faulty
-    (fails (now (l .before .args .book)) (l .before .pre .0) (l .loop .p - 5) (omega (arith, five-more t, l .loop .inv .1))
-    (found-faulty (c .enum-told .given .1) (c .before .before .gather-slot .ensures)))
+    (fails (now (l .before .args .book)) (l .before .pre .0) (l .loop .p - 40) (omega (arith, eight-more t, l .loop .inv .1))
+    (found-faulty (c .enum-told .given .1) (c .before .before .gather-eight .ensures)))
 
 returns-2 : tie.Need-returns-2 Inv-loop μ-loop
 returns-2 c =
@@ -71,7 +71,7 @@ gather-spec =
     μ-loop
     loop-holds
     sub-p
-    gather-slot-requires
+    gather-eight-requires
     enum-known-m
     loop-less
     loop-again
