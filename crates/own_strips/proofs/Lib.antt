@@ -1,3 +1,4 @@
 pub mod Listed
+pub mod Rows
 pub mod Refusing
 pub mod Unique

@@ -5,15 +5,17 @@ use mathlib.Core.List.{List, [], _∷_, _++_}
 use Prim.Native.Nat.{ℕ, suc, _+_, _*_, _≤_, _<_}
 use native.Mathlib.Omega.{arith}
 use lib.IntN.{ℤ, pos}
-use lib.ListN.{length, take, drop, drop-of-length-le}
+use lib.ListN.{length, take, drop, length-take, length-drop, drop-of-length-le}
 use lib.Seq.{slice, slice-cons, length-slice, drop-drop}
 use Rattle.whole.specs.Choice.{if_then_else_}
 use Rattle.grid.specs.Table.{sides}
 use Rattle.grid.specs.declared.Window.{Window}
 use Rattle.slots.specs.Slots.{Slot, slotsOf, stripsIn, inUse, slotAt, slotOf, slotNumbers, freeSlot}
 use Rattle.slots.specs.Workers.{stripIn}
+use Rattle.slots.proofs.Good.{strips-few}
 use Rattle.slots.proofs.Places.{slots-count, slot-at}
 use Rattle.own_strips.specs.OwnStrips.{listedFrom}
+use Rattle.own_strips.specs.Rows.{listedOn}
 
 -- five numbers for each strip
 pub listed-length : (k : ℕ) (ss : List Slot) → length (listedFrom k ss) ≡ 5 * length (stripsIn ss)
@@ -27,10 +29,13 @@ listed-length k (s ∷ ss) = go (inUse s) (listed-length (suc k) ss)
     go true e = omega arith
     go false e = e
 
--- ---- of the 32 slots of a table that begin with the slot `from`, what is listed from the slot k of them on
-abbrev pub listedOn : ℕ → List ℤ → ℕ → List ℤ
-listedOn from zs k = listedFrom k (drop k (slice from (from + 32) (slotsOf zs)))
+-- and so at most 160 for 32 slots
+pub listed-most : (from : ℕ) (zs : List ℤ) → length (listedFrom 0 (slice from (from + 32) (slotsOf zs))) ≤ 160
+listed-most from zs =
+    let ours = slice from (from + 32) (slotsOf zs) in
+    omega (arith, listed-length 0 ours, strips-few ours, length-drop from (take (from + 32) (slotsOf zs)), length-take (from + 32) (slotsOf zs))
 
+-- ---- of the 32 slots of a table that begin with the slot `from`, what is listed from the slot k of them on
 module _ (from : ℕ) (zs : List ℤ) (k : ℕ) (low : from ≤ 32) (long : length zs ≡ 320) where
   abbrev ours : List Slot
   ours = slice from (from + 32) (slotsOf zs)

@@ -1,2 +1,3 @@
 pub mod OwnStrips
+pub mod Rows
 pub mod Laws

@@ -107,7 +107,7 @@ bad-later zs k f = go (eachGood (slotsOf zs)) refl
     go true e = absurd (ff-tt (sym f ∙ ap eachGood (slots-drop k zs) ∙ good-drop k (slotsOf zs) e))
 
 -- no more strips than slots
-strips-few : (ss : List Slot) → length (stripsIn ss) ≤ length ss
+pub strips-few : (ss : List Slot) → length (stripsIn ss) ≤ length ss
 unfolding stripsIn
 strips-few [] = omega arith
 strips-few (s ∷ ss) = go (inUse s) (strips-few ss)

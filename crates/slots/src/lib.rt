@@ -141,18 +141,26 @@ pub fn lowest_free(book: &[i32], from: usize, to: usize) -> usize
     k
 }
 
-// Puts a mark and a strip in the slot k.
-pub fn put(book: &mut [i32], k: usize, mark: u8, w: Window)
-    requires { ⌜ 5 * k + 5 ≤ length (now book) ⌝ }
-    ensures { λ _. ⌜ now (book .exit) ≡ sets (now (book .entry)) (5 * k) (slotNumbers (slotOf mark w)) ⌝ }
+// Puts a mark and a strip in the five numbers from the place p on.
+pub fn put_at(book: &mut [i32], p: usize, mark: u8, w: Window)
+    requires { ⌜ p + 5 ≤ length (now book) ⌝ }
+    ensures { λ _. ⌜ now (book .exit) ≡ sets (now (book .entry)) p (slotNumbers (slotOf mark w)) ⌝ }
 {
     let left = w.left;
     let bottom = w.bottom;
     let right = w.right;
     let top = w.top;
-    book[5 * k] = mark as i32;
-    book[5 * k + 1] = left;
-    book[5 * k + 2] = bottom;
-    book[5 * k + 3] = right;
-    book[5 * k + 4] = top;
+    book[p] = mark as i32;
+    book[p + 1] = left;
+    book[p + 2] = bottom;
+    book[p + 3] = right;
+    book[p + 4] = top;
+}
+
+// Puts a mark and a strip in the slot k.
+pub fn put(book: &mut [i32], k: usize, mark: u8, w: Window)
+    requires { ⌜ 5 * k + 5 ≤ length (now book) ⌝ }
+    ensures { λ _. ⌜ now (book .exit) ≡ sets (now (book .entry)) (5 * k) (slotNumbers (slotOf mark w)) ⌝ }
+{
+    put_at(book, 5 * k, mark, w);
 }

@@ -5,7 +5,8 @@ use Prim.Native.Nat.{_+_, _-_, _*_, _≤_}
 use native.Mathlib.Omega.{arith}
 use denote.Ref.{now}
 use lib.ListN.{length}
-use Rattle.own_strips.proofs.Listed.{listedOn, listed-used, listed-free, listed-none}
+use Rattle.own_strips.specs.Rows.{listedOn}
+use Rattle.own_strips.proofs.Listed.{listed-used, listed-free, listed-none}
 use Rattle.own_strips.proofs.count_listed.Statement.{statement}
 use Rattle.own_strips.proofs.count_listed.Tie as tie
 

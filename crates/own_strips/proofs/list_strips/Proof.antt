@@ -6,7 +6,7 @@ use mathlib.Core.Logic.{⊎-elim}
 use Prim.Native.Nat.{ℕ, _+_, _≤_, _<_}
 use native.Mathlib.Omega.{arith}
 use borrow.Author.Needs.{needs}
-use borrow.Author.Tests.{not-true, not-false, lt-leb}
+use borrow.Author.Tests.{not-true, not-false}
 use denote.Ref.{now}
 use lib.IntN.{ℤ}
 use lib.ListN.{length}
@@ -15,7 +15,7 @@ use mir.Syntax.{w32}
 use mir.Val.{toZ, ofZ}
 use mir.Facts.{toZ-ofZ}
 use Rattle.grid.specs.Calls.{written}
-use Rattle.grid.proofs.Calls.{lent-refused, lent-done}
+use Rattle.grid.proofs.Calls.{lent-refused, lent-done, given-short, given-whole}
 use Rattle.racks.proofs.Holding.{vacant-holds}
 use Rattle.slots.specs.Slots.{slotsOf, isBook}
 use Rattle.slots.proofs.Testing.{found-faulty, found-good}
@@ -23,6 +23,7 @@ use Rattle.strip_book.specs.Renters.{isRenter, firstSlot, half}
 use Rattle.strip_book.proofs.Halves.{at-most-one}
 use Rattle.strip_book.proofs.Refusing.{book-long}
 use Rattle.own_strips.specs.OwnStrips.{listedFrom}
+use Rattle.own_strips.proofs.Listed.{listed-most}
 use Rattle.own_strips.proofs.Refusing.{refuses-renter, refuses-table, lists}
 use Rattle.own_strips.proofs.list_strips.Statement.{statement}
 use Rattle.own_strips.proofs.list_strips.Tie as tie
@@ -105,44 +106,48 @@ own : (c : tie.After-first-slot) → let f = c .first-slot .result in
 own c = ap (λ (f : ℕ). listedFrom 0 (slice f (f + 32) (slotsOf (book (c .before))))) (begins c)
 
 count-listed-requires : tie.Need-count-listed-requires
-count-listed-requires c κs = (low c, book-long _ (sound (c .before)))
+count-listed-requires c κs = let f = c .before in (low f, book-long _ (sound (f .before)))
 
-counted : (c : tie.After-count-listed) → let k = c .before .before in c .count-listed .result ≡ length (listedFrom 0 (half (renter k) (book k)))
-counted c = c .count-listed .ensures ∙ ap length (own (c .before))
-
-write-listed-requires : tie.Need-write-listed-requires
-write-listed-requires c κs =
-    let n = c .before .before in
-    let f = n .before in
-    (low f, (book-long _ (sound (f .before)), omega (arith, n .count-listed .ensures, c .before .if2 .taken)))
-
-given-requires : tie.Need-given-requires
-given-requires c κs = search needs
-
--- the listing stands in the output where it has room; else the output is as it was
-wrote : (c : tie.Joined2) → let f = c .before .before in let k = f .before in
-    c .if2 .out ≡ written (listedFrom 0 (half (renter k) (book k))) (now (start k .args .out))
-unfolding written
-wrote c =
-    let n = c .before in
-    let f = n .before in
-    let k = f .before in
-    let out = now (start k .args .out) in
-    ⊎-elim (λ o. o .4 ∙ o .2 .ensures ∙ ap (λ (xs : List ℤ). written xs out) (own f))
-    (λ o.
-    let h = subst (λ (m : ℕ). length out < m) (counted n) (o .0 .left) in
-    o .1 ∙ simp (lt-leb _ _ h))
-    (c .if2 .came)
-
-same-length : tie.Need-same-length
-same-length c = ⊎-elim (λ o. ap length (o .4) ∙ o .2 .kept .1 .1 .0) (λ o. ap length (o .1)) (c .before .if2 .came)
+-- there is no room for the listing
+refused-by-requires : tie.Need-refused-by-requires
+refused-by-requires c κs = search needs
 
 returns-3 : tie.Need-returns-3
 returns-3 c =
     let n = c .before .before in
-    let k = n .before .before in
-    lent-done (lists (renter k) (book k) (there k) (sound k))
-    (record { numbers = _; gives = refl; answer = c .given .ensures _ (counted n); output = wrote (c .before) })
+    let f = n .before .before in
+    let k = f .before in
+    let needed = n .count-listed .ensures ∙ ap length (own f) in
+    let short = subst (λ (m : ℕ). length (now (start k .args .out)) < m) needed (c .before .if3 .taken) in
+    rw (c .refused-by .ensures, needed) (lent-done (lists (renter k) (book k) (there k) (sound k)) (given-short _ refl short))
+
+-- ---- there is room
+fits : (c : tie.Joined2) → let k = c .before .before in length (listedFrom 0 (half (renter k) (book k))) ≤ length (now (start k .args .out))
+fits c =
+    let f = c .before in
+    let same = ap length (own f) in
+    ⊎-elim
+    (λ o. omega (arith, o .1 .ensures, o .2 .left, same))
+    (λ o. omega (arith, listed-most (f .first-slot .result) (book (f .before)), o .left, same))
+    (c .if2 .came)
+
+write-listed-requires : tie.Need-write-listed-requires
+write-listed-requires c κs =
+    let f = c .before .before in
+    (low f, (book-long _ (sound (f .before)), omega (arith, fits (c .before), ap length (own f))))
+
+same-length : tie.Need-same-length
+same-length c = search needs
+
+returns-4 : tie.Need-returns-4
+returns-4 c =
+    let w = c .before in
+    let j = w .before .before in
+    let f = j .before in
+    let k = f .before in
+    let count = w .write-listed .ensures .0 ∙ ap length (own f) in
+    let wrote = w .write-listed .ensures .1 ∙ ap (λ (xs : List ℤ). written xs (now (start k .args .out))) (own f) in
+    rw count (lent-done (lists (renter k) (book k) (there k) (sound k)) (given-whole _ refl (fits j) wrote))
 
 pub list-strips-spec : {M : Type 1} → statement M
 list-strips-spec =
@@ -158,7 +163,8 @@ list-strips-spec =
     returns-2
     first-slot-requires
     count-listed-requires
+    refused-by-requires
+    returns-3
     write-listed-requires
-    given-requires
     same-length
-    returns-3)
+    returns-4)
