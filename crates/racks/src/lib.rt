@@ -145,22 +145,23 @@ fn compare_on(rack: &[i16; 288], i: usize, j: usize, most: [i16; 8]) -> [i16; 8]
     compare_eight(rack, i, j + 7, found6)
 }
 
-// Compares the eight strips from the place i on with all strips behind them. The vacant place behind the last strip ends the loop: if the compiler
-// could count the turns, it would take eight turns at once in place of eight strips, which is dearer.
+// Compares the eight strips from the place i on with all strips behind them, of which there is one. The vacant place behind the last strip ends the
+// loop: if the compiler could count the turns, it would take eight turns at once in place of eight strips, which is dearer.
 fn compare_behind(rack: &[i16; 288], i: usize, most: [i16; 8]) -> [i16; 8]
     requires { ⌜ i % 8 ≡ 0 ⌝ }
-    requires { ⌜ i < 64 ⌝ }
-    requires { ⌜ ((ws : List Window) × Carries (now rack) ws) ⌝ }
+    requires { ⌜ ((ws : List Window) × Carries (now rack) ws × (i + 1 < length ws)) ⌝ }
     ensures { λ r. ⌜ ((ws : List Window) → Carries (now (rack .entry)) ws → Compares (now (rack .entry)) (Met i (i + 1) (length ws)) most r) ⌝ }
 {
     let mut found = most;
     let mut j = i + 1;
-    while rack[j] != VACANT {
+    loop {
         let more = compare_on(rack, i, j, found);
         found = more;
         j += 8;
+        if rack[j] == VACANT {
+            return found;
+        }
     }
-    found
 }
 
 // Whether one of eight numbers is above 0.
@@ -177,17 +178,17 @@ fn any_above(numbers: [i16; 8]) -> bool
 }
 
 // Whether two of the n strips of a rack share area. Eight strips are compared with the eight that begin one place behind, two places and so on, each
-// with one, so that every two strips meet once.
+// with one, so that every two strips meet once. The loop counts by the second of the eight, since one alone has none behind it.
 pub fn crowded(rack: &[i16; 288], n: usize) -> bool
     requires { ⌜ ((ws : List Window) × (n ≡ length ws) × Carries (now rack) ws) ⌝ }
     ensures { λ r. ⌜ Crowd (now (rack .entry)) n r ⌝ }
 {
     let mut most = [0i16; 8];
-    let mut i = 0;
-    while i < n {
-        let more = compare_behind(rack, i, most);
+    let mut second = 1;
+    while second < n {
+        let more = compare_behind(rack, second - 1, most);
         most = more;
-        i += 8;
+        second += 8;
     }
     any_above(most)
 }
