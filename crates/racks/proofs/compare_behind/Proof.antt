@@ -1,5 +1,5 @@
--- `racks::compare_behind` meets its contract: there is a strip at the place j, and all behind the eight places, up to j, have met them; the last strip
--- stands before j in the end. Assumes nothing.
+-- `racks::compare_behind` meets its contract: there is a strip at the place j, and all behind the eight places, up to j, have met them; the last
+-- strip stands before j in the end. Assumes nothing.
 use mathlib.Core.Path.{_≡_, refl}
 use mathlib.Core.List.{List}
 use Prim.Native.Nat.{_+_, _-_, _%_, _<_}
