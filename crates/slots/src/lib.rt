@@ -6,7 +6,7 @@ ghost use lib.ListN.{length};
 ghost use lib.Seq.{sets, slice};
 ghost use Rattle.racks.specs.Racks.{Carries};
 ghost use Rattle.slots.specs.Slots.{slotsOf, slotOf, slotAt, inUse, lowestFree, slotNumbers};
-ghost use Rattle.slots.specs.Workers.{stripIn, slotsFrom, Gathered, Gathers, BookTest};
+ghost use Rattle.slots.specs.Workers.{stripIn, slotsFrom, Gathers, BookTest};
 use grid::Window;
 
 // What a test of slots finds: they pass, and so many strips of them are then on a rack, or they are faulty.
