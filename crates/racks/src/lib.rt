@@ -145,7 +145,7 @@ fn compare_on(rack: &[i16; 288], i: usize, j: usize, most: [i16; 8]) -> [i16; 8]
     compare_eight(rack, i, j + 7, found6)
 }
 
-// Compares the eight strips from the place i on with all strips behind them, of which there is one. The vacant place behind the last strip ends the
+// Compares the eight strips from the place i on with all strips behind them, at least one. The vacant place behind the last strip ends the
 // loop: if the compiler could count the turns, it would take eight turns at once in place of eight strips, which is dearer.
 fn compare_behind(rack: &[i16; 288], i: usize, most: [i16; 8]) -> [i16; 8]
     requires { ⌜ i % 8 ≡ 0 ⌝ }
