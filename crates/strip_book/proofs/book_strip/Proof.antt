@@ -49,7 +49,9 @@ returns c =
     let b = c .before .before in
     let a = b .before .before in
     rw (c .refused-booking .ensures, c .before .refused .ensures)
-    (lent-refused (refuses-renter (a .args .renter) (a .args .w) (now (a .args .book)) (sym (asked (b .before)) ∙ not-true _ (b .if1 .taken))) (λ e. omega arith))
+    (lent-refused
+    (refuses-renter (a .args .renter) (a .args .w) (now (a .args .book)) (sym (asked (b .before)) ∙ not-true _ (b .if1 .taken)))
+    (λ e. omega arith))
 
 -- ---- there is such a renter
 known : (c : tie.Else1) → isRenter (c .before .before .args .renter) ≡ true
@@ -80,7 +82,8 @@ returns-2 c =
     let a = e .before .before in
     rw (c .refused-booking2 .ensures, c .before .refused2 .ensures)
     (lent-refused
-    (refuses-table (a .args .renter) (a .args .w) (now (a .args .book)) (known e) (found-faulty (c .before .before .enum-told .given .1) (b .test-book .ensures)))
+    (refuses-table (a .args .renter) (a .args .w) (now (a .args .book)) (known e)
+    (found-faulty (c .before .before .enum-told .given .1) (b .test-book .ensures)))
     (λ e. omega arith))
 
 -- ---- it is a book

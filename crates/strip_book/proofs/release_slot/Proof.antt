@@ -41,7 +41,9 @@ returns c =
     let b = c .before in
     let a = b .before .before in
     rw (c .release-answer .ensures)
-    (lent-refused (refuses-releaser (a .args .renter) (a .args .slot) (now (a .args .book)) (sym (asked (b .before)) ∙ not-true _ (b .if1 .taken))) (λ e. omega arith))
+    (lent-refused
+    (refuses-releaser (a .args .renter) (a .args .slot) (now (a .args .book)) (sym (asked (b .before)) ∙ not-true _ (b .if1 .taken)))
+    (λ e. omega arith))
 
 -- ---- there is such a renter
 known : (c : tie.Else1) → isRenter (c .before .before .args .renter) ≡ true
