@@ -90,7 +90,7 @@ enum {
     R(GERLYANTU_SLOT_NOT_IN_USE, 18, "the slot to release is not one of the renter's slots in use") \
     /* the renter is neither 0 nor 1; 0 */ \
     R(GERLYANTU_UNKNOWN_RENTER, 19, "there is no such renter: they are 0 and 1") \
-    /* a book has not 320 numbers, a mark is neither 0 nor 1, a slot in use has numbers that 2 or 3 would refuse, or two such slots share area; 0 */ \
+    /* the table has not 320 numbers, a mark is neither 0 nor 1, a slot in use has numbers that 2 or 3 would refuse, or two in use share area; 0 */ \
     R(GERLYANTU_NO_BOOK, 23, "not a strip book, or damaged")
 
 /* The numbers by their names. */

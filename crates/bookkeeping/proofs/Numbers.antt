@@ -1,6 +1,6 @@
 -- The number that a call answers: 19 to one who is no renter, 23 to a renter whose table is no book, and a lesser one to each other, since all other
--- refusals have lesser numbers. And 16 always has the place 0.
-use mathlib.Core.Path.{_≡_, refl}
+-- refusals have lesser numbers. And all but 2 and 8 have the place 0.
+use mathlib.Core.Path.{_≡_, refl, ap}
 use mathlib.Core.Bool.{Bool, true, false, _&&_}
 use mathlib.Core.List.{List}
 use Prim.Native.Nat.{ℕ, _<_}
@@ -30,16 +30,13 @@ use Rattle.bookkeeping.proofs.Answers.{roomFor, refusalOf, number-refus
 -- ---- the refusals but 19 and 23
 pub record Lesser (r : Refusal) : Type 0 where
   pub below : r .number < unknownRenter
-  pub taken : r .number ≡ stripTaken → r ≡ refuse stripTaken 0
+  pub placed : (r .number ≡ windowOff → ⊥) → (r .number ≡ noRoom → ⊥) → r .place ≡ 0
 
-lesser : (n k : ℕ) → n < unknownRenter → (n ≡ stripTaken → ⊥) → Lesser (refuse n k)
-lesser n k l h = record { below = l; taken = λ e. absurd (h e) }
-
-lesser-taken : Lesser (refuse stripTaken 0)
-lesser-taken = record { below = omega arith; taken = λ _. refl }
+lesser : (n : ℕ) → n < unknownRenter → Lesser (refuse n 0)
+lesser n l = record { below = l; placed = λ _ _. refl }
 
 nothing : Lesser none
-nothing = lesser 0 0 (omega arith) (omega arith)
+nothing = lesser 0 (omega arith)
 
 by-either : (b : Bool) {x y : Refusal} → Lesser x → Lesser y → Lesser (if b then x else y)
 by-either b h k = by-test b Lesser (λ _. h) (λ _. k)
@@ -53,27 +50,29 @@ window-lesser : (w : Window) → Lesser (windowRefusal w)
 unfolding windowRefusal offTable noArea
 window-lesser w =
     let k = firstOff (sides w) in
-    let off : Lesser (offTable windowOff (sides w)) = by-either (ltb k 4) (lesser windowOff k (omega arith) (omega arith)) nothing in
+    let at : Lesser (refuse windowOff k) = record { below = omega arith; placed = λ h _. absurd (h refl) } in
+    let off : Lesser (offTable windowOff (sides w)) = by-either (ltb k 4) at nothing in
     let area = ltZ (w .left) (w .right) && ltZ (w .bottom) (w .top) in
-    let flat : Lesser (noArea w) = by-either area nothing (lesser noWindow 0 (omega arith) (omega arith)) in
+    let flat : Lesser (noArea w) = by-either area nothing (lesser noWindow (omega arith)) in
     first-lesser (off ◂ flat ◂ ∅)
 
 -- ---- a renter with a book
 refusal-lesser : (e : Event) (zs : List ℤ) → Lesser (renterRefusal (renterOf e)) → Lesser (tableRefusal zs) → Lesser (refusalOf e zs)
 unfolding bookingRefusal noneFree clash releaseRefusal slotRefusal listingRefusal roomRefusal
 refusal-lesser (booking renter w a) zs h t =
-    let filled : Lesser (noneFree renter zs) = by-either (all inUse (half renter zs)) (lesser halfFull 0 (omega arith) (omega arith)) nothing in
-    let taken : Lesser (clash w zs) = by-either (any (sharesArea w) (stripsIn (slotsOf zs))) lesser-taken nothing in
+    let filled : Lesser (noneFree renter zs) = by-either (all inUse (half renter zs)) (lesser halfFull (omega arith)) nothing in
+    let taken : Lesser (clash w zs) = by-either (any (sharesArea w) (stripsIn (slotsOf zs))) (lesser stripTaken (omega arith)) nothing in
     first-lesser (h ◂ t ◂ window-lesser w ◂ filled ◂ taken ◂ ∅)
 refusal-lesser (release renter z a) zs h t =
-    let free : Lesser (slotRefusal renter z zs) = by-either (usedAt (half renter zs) z) nothing (lesser slotNotInUse 0 (omega arith) (omega arith)) in
+    let free : Lesser (slotRefusal renter z zs) = by-either (usedAt (half renter zs) z) nothing (lesser slotNotInUse (omega arith)) in
     first-lesser (h ◂ t ◂ free ◂ ∅)
 refusal-lesser (listing renter out a out′) zs h t =
     let need = length (listedFrom 0 (half renter zs)) in
-    let short : Lesser (roomFor renter zs out) = by-either (leb need (length out)) nothing (lesser noRoom need (omega arith) (omega arith)) in
+    let needed : Lesser (refuse noRoom need) = record { below = omega arith; placed = λ _ h. absurd (h refl) } in
+    let short : Lesser (roomFor renter zs out) = by-either (leb need (length out)) nothing needed in
     first-lesser (first-lesser (h ◂ t ◂ ∅) ◂ short ◂ ∅)
 
-pub of-renter : (e : Event) (zs : List ℤ) → isRenter (renterOf e) ≡ true → isBook zs ≡ true → Lesser (refusalOf e zs)
+of-renter : (e : Event) (zs : List ℤ) → isRenter (renterOf e) ≡ true → isBook zs ≡ true → Lesser (refusalOf e zs)
 unfolding renterRefusal tableRefusal
 of-renter e zs known b = refusal-lesser e zs (rw known nothing) (rw b nothing)
 
@@ -93,6 +92,16 @@ unfolding listingRefusal renterRefusal tableRefusal first
 refusal-no-book (booking renter w a) zs known b = refuses-table renter w zs known b
 refusal-no-book (release renter z a) zs known b = refuses-release renter z zs known b
 refusal-no-book (listing renter out a out′) zs known b = rw (known, b)
+
+-- ---- the place of a refusal
+pub refusal-placed : (e : Event) (zs : List ℤ) → (refusalOf e zs .number ≡ windowOff → ⊥) → (refusalOf e zs .number ≡ noRoom → ⊥)
+    → refusalOf e zs .place ≡ 0
+refusal-placed e zs h k = go (isRenter (renterOf e)) (isBook zs) refl refl
+  where
+    go : (t u : Bool) → isRenter (renterOf e) ≡ t → isBook zs ≡ u → refusalOf e zs .place ≡ 0
+    go true true known b = of-renter e zs known b .placed h k
+    go true false known b = ap (λ (r : Refusal). r .place) (refusal-no-book e zs known b)
+    go false u known b = ap (λ (r : Refusal). r .place) (refusal-unknown e zs known)
 
 module _ (e : Event) (before after : List ℤ) (p : InBook before e after) where
   pub answers-unknown : isRenter (renterOf e) ≡ false → numberAnswered e ≡ unknownRenter

@@ -13,11 +13,12 @@ use lib.ListN.{length}
 use Rattle.whole.specs.Choice.{if_then_else_}
 use Rattle.whole.proofs.Comparisons.{ff-tt, tt-ff}
 use Rattle.grid.specs.Calls.{refusedBy, answeredBy, written, Given}
-use Rattle.grid.specs.Refusals.{noRoom, none, refuse, first, windowRefusal, roomRefusal}
+use Rattle.grid.specs.Refusals.{windowOff, noRoom, none, refuse, first, windowRefusal, roomRefusal}
 use Rattle.grid.specs.declared.Answer.{Answer}
 use Rattle.grid.specs.declared.Refusal.{Refusal}
 use Rattle.grid.specs.declared.Window.{Window}
 use Rattle.grid.proofs.Calls.{given-cases}
+use Rattle.grid.proofs.Refusals.{stops}
 use Rattle.racks.specs.Areas.{sharesArea}
 use Rattle.racks.specs.Members.{any, all}
 use Rattle.slots.specs.Slots.{Slot, slotsOf, slotAt, inUse, stripsIn, isBook, freeSlot}
@@ -32,18 +33,18 @@ use Rattle.strip_book.proofs.Refusing.{book-long, refuses-window, refuses-full,
 use Rattle.own_strips.specs.OwnStrips.{listedFrom, listingRefusal}
 use Rattle.own_strips.proofs.Listed.{listed-length}
 use Rattle.own_strips.proofs.Refusing.{lists}
-use Rattle.bookkeeping.specs.OneCall.{slotIs, SharingSlot, HalfFullExactly, StripTakenExactly, SaysNoMore, SlotInUse, SlotNotInUseExactly}
-use Rattle.bookkeeping.specs.OneCall.{HalvesOfTheTable, BadWindowNext, NoRoomExactly, RefusedKeeps}
-use Rattle.bookkeeping.specs.Runs.{Event, booking, release, listing}
-use Rattle.bookkeeping.proofs.Answers.{lent-by, number-refused, answered-by}
+use Rattle.bookkeeping.specs.OneCall.{slotIs, SharingSlot, HalfFullExactly, StripTakenExactly, SlotInUse, SlotNotInUseExactly}
+use Rattle.bookkeeping.specs.OneCall.{HalvesOfTheTable, BadWindowNext, NoRoomExactly, placeAnswered, restAnswered, SaysNoMore, RefusedKeeps}
+use Rattle.bookkeeping.specs.Runs.{Event, booking, release, listing, numberAnswered, InBook}
+use Rattle.bookkeeping.proofs.Answers.{lent-by, refusalOf, number-refused, answered-by}
 use Rattle.bookkeeping.proofs.Good.{strip-of, no-strip}
-use Rattle.bookkeeping.proofs.Numbers.{of-renter, answers-unknown, answers-no-book}
+use Rattle.bookkeeping.proofs.Numbers.{refusal-placed}
 use Rattle.bookkeeping.proofs.Steps.{book-slots}
 use Rattle.bookkeeping.proofs.Tests.{not-all}
 
 -- ---- where the halves are
 pub halves-of-the-table : HalvesOfTheTable
-halves-of-the-table k zs = (ap (λ (n : ℕ). slotAt zs n) (zero-add k), refl)
+halves-of-the-table k zs = (ap (λ (n : ℕ). slotAt zs n) (zero-add k), refl, λ renter l. half-at renter k zs l)
 
 -- ---- a strip that 2 or 3 refuses
 pub bad-window-next : BadWindowNext
@@ -122,20 +123,6 @@ strip-taken-exactly renter w a before after p known b f k l v = go (shared w bef
     go true s = (λ n. sharing-slot w before b s, λ h. taken p known b f u s)
     go false s = (λ n. absurd (omega (arith, n, free p known b f u s)), λ h. absurd (no-sharing-slot w before s h))
 
--- 16 is the whole answer
-pub says-no-more : SaysNoMore
-says-no-more renter w a before after p n = go (isRenter renter) (isBook before) refl refl
-  where
-    e : Event
-    e = booking renter w a
-
-    go : (t u : Bool) → isRenter renter ≡ t → isBook before ≡ u → a ≡ refusedBooking (refuse stripTaken 0)
-    go true true known b = lent-by p
-        (λ z d. absurd (omega (arith, n, ap (λ (x : BookingAnswer). x .number) (d .answer))))
-        (λ m r. r .answer ∙ ap refusedBooking (of-renter e before known b .taken (sym (number-refused e before after p) ∙ n)))
-    go true false known b = absurd (omega (arith, n, answers-no-book e before after p known b))
-    go false u h b = absurd (omega (arith, n, answers-unknown e before after p h))
-
 -- ---- a slot in use that has a number
 pub slot-in-use : (renter z : ℤ) (zs : List ℤ) → isRenter renter ≡ true → isBook zs ≡ true → usedAt (half renter zs) z ≡ true → SlotInUse renter z zs
 slot-in-use renter (pos k) zs known b u =
@@ -195,6 +182,38 @@ no-room-exactly renter zs a before after p known b = go (leb need (length before
       ),
       λ n. all-said n,
     )
+
+-- ---- the place, and the rest of a refused answer
+module _ (e : Event) (before after : List ℤ) (p : InBook before e after) where
+  placed : {k : ℕ} → k ≡ refusalOf e before .place → (numberAnswered e ≡ windowOff → ⊥) → (numberAnswered e ≡ noRoom → ⊥) → k ≡ 0
+  placed q h k =
+      let n = number-refused e before after p in
+      q ∙ refusal-placed e before (λ z. h (n ∙ z)) (λ z. k (n ∙ z))
+
+place-answered : (e : Event) (before after : List ℤ) → InBook before e after → (numberAnswered e ≡ windowOff → ⊥) → (numberAnswered e ≡ noRoom → ⊥)
+    → placeAnswered e ≡ 0
+place-answered (booking renter w a) before after p h k = lent-by p
+    (λ z d. ap (λ (x : BookingAnswer). x .place) (d .answer))
+    (λ n r. placed (booking renter w a) before after p (ap (λ (x : BookingAnswer). x .place) (r .answer)) h k)
+place-answered (release renter z a) before after p h k = lent-by p
+    (λ z d. ap (λ (x : ReleaseAnswer). x .place) (d .answer))
+    (λ n r. placed (release renter z a) before after p (ap (λ (x : ReleaseAnswer). x .place) (r .answer)) h k)
+place-answered (listing renter out a out′) before after p h k = lent-by (p .0)
+    (λ z d. ⊎-elim (λ e. absurd (k (ap (λ (x : Answer). x .number) e))) (λ q. ap (λ (x : Answer). x .place) (q .0)) (given-cases d))
+    (λ n r. placed (listing renter out a out′) before after p
+    (ap (λ (x : Answer). x .place) (r .answer) ∙ ap (λ (r : Refusal). r .place) (sym (stops (listingRefusal renter before) _ n))) h k)
+
+rest-answered : (e : Event) (before after : List ℤ) → InBook before e after → (numberAnswered e ≡ 0 → ⊥) → restAnswered e ≡ pos 0
+rest-answered (booking renter w a) before after p n = lent-by p
+    (λ z d. absurd (n (ap (λ (x : BookingAnswer). x .number) (d .answer))))
+    (λ m r. ap (λ (x : BookingAnswer). x .slot) (r .answer))
+rest-answered (release renter z a) before after p n = refl
+rest-answered (listing renter out a out′) before after p n = lent-by (p .0)
+    (λ z d. ⊎-elim (λ e. ap (λ (x : Answer). pos (x .count)) e) (λ q. absurd (n (ap (λ (x : Answer). x .number) (q .0)))) (given-cases d))
+    (λ m r. ap (λ (x : Answer). pos (x .count)) (r .answer))
+
+pub says-no-more : SaysNoMore
+says-no-more e before after p = (place-answered e before after p, rest-answered e before after p)
 
 -- ---- a refused call keeps all
 given-keeps : {Gives : List ℤ → Type 0} {a : Answer} {out out′ : List ℤ} → Given Gives a out out′ → (a .number ≡ 0 → ⊥) → out′ ≡ out

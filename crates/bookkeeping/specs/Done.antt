@@ -19,7 +19,7 @@ use Rattle.grid.specs.Table.{sides}
 use Rattle.grid.specs.declared.Answer.{Answer}
 use Rattle.grid.specs.declared.Window.{Window}
 use Rattle.slots.specs.Slots.{slotOf, freeSlot, slotAt, inUse, stripsIn}
-use Rattle.strip_book.specs.Books.{bookedIn, BookStrip, ReleaseSlot}
+use Rattle.strip_book.specs.Books.{BookStrip, ReleaseSlot}
 use Rattle.strip_book.specs.Renters.{firstSlot, half}
 use Rattle.strip_book.specs.declared.BookingAnswer.{BookingAnswer}
 use Rattle.strip_book.specs.declared.ReleaseAnswer.{ReleaseAnswer}
@@ -30,7 +30,7 @@ use Rattle.bookkeeping.specs.OneCall.{slotIs, SlotInUse}
 
 pub record TakesLowest (renter : ℤ) (w : Window) (a : BookingAnswer) (before after : List ℤ) : Type 0 where
   pub slot : ℕ
-  pub answer : a ≡ bookedIn slot
+  pub answer : a .slot ≡ pos slot
   pub among : slot < 32
   pub free : inUse (slotIs renter slot before) ≡ false
   pub below : (j : ℕ) → j < slot → inUse (slotIs renter j before) ≡ true

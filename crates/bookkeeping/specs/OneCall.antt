@@ -1,8 +1,8 @@
--- Laws of one call, whatever table it is made on: when exactly it answers each refusal, told by the numbers of slots, and that it then leaves all as
--- it was. UnknownRenterExactly and NoBookExactly are proved in proofs/Faults.antt, the others in proofs/OneCall.antt. From 17 on they are about a renter
--- that there is and a table that is a book, since the others are refused before.
+-- Laws of one call, whatever table it is made on: when exactly it answers each refusal, told by the numbers of slots, what it says with it, and that it
+-- then leaves all as it was. UnknownRenterExactly and NoBookExactly are proved in proofs/Faults.antt, the others in proofs/OneCall.antt. The laws of 2
+-- and 3, 17, 16, 18 and 8 suppose a renter that there is and a table that is a book, since 19 and 23 come before them; the last two suppose nothing.
 --   slotIs renter k zs    the slot k of the renter in a table
---   HalvesOfTheTable      renter 0's slot k is the table's slot k, and renter 1's is the table's slot 32 + k
+--   HalvesOfTheTable      renter 0's slot k is the table's slot k, and renter 1's is the table's slot 32 + k; of the 32 it is the k-th of his half
 --   UnknownRenterExactly  a call answers 19 exactly when the renter is neither 0 nor 1
 --   NotABook zs           the four faults of a table, in the words of the rules
 --   NoBookExactly         a call of a renter answers 23 exactly when the table has one of them
@@ -10,26 +10,28 @@
 --   SharingSlot w zs      a slot of the table in use, of either renter, that holds a strip that shares area with w
 --   HalfFullExactly       on a book, a booking that neither 2 nor 3 refuses answers 17 exactly when all 32 slots of the renter are in use
 --   StripTakenExactly     where one of them is free, it answers 16 exactly when there is a sharing slot
---   SaysNoMore            16 is the whole answer: place and slot are 0, whichever strip it is that shares area
 --   SlotInUse renter z zs   a slot in use that has the number z among the renter's
 --   SlotNotInUseExactly   on a book, a release answers 18 exactly when there is none
 --   NoRoomExactly         on a book, a listing answers 8 exactly when the output has less than five numbers for each of the renter's strips, and then
 --                         says how many that is
+--   placeAnswered e       the place in an event's answer;  restAnswered e: its slot or its count; 0 of a release, which answers no more
+--   SaysNoMore            the place is 0 unless the number is 2 or 8, and the rest is 0 where a call is refused; so 16 does not tell whose strip it is
 --   lentBefore, lentAfter e   what the output of an event's listing held before and after; of other calls nothing
---   RefusedKeeps          a call that answers a refusal, whichever it is, leaves the table and the output as they were
+--   RefusedKeeps          a call that answers a refusal, whichever it is, leaves the table and the output as they were; that a listing leaves the
+--                         table is not derived, but how a run of calls is defined, since it only reads it
 use mathlib.Core.Path.{_≡_}
 use mathlib.Core.Bool.{true, false}
 use mathlib.Core.List.{List, []}
 use mathlib.Core.Logic.{_↔_}
 use Prim.Native.Nat.{ℕ, _+_, _*_, _<_}
 use lib.IntN.{ℤ, pos}
-use lib.ListN.{length}
+use lib.ListN.{length, getD}
 use Rattle.grid.specs.Calls.{refusedBy}
-use Rattle.grid.specs.Refusals.{refuse, windowRefusal, noRoom}
+use Rattle.grid.specs.Refusals.{refuse, windowRefusal, windowOff, noRoom}
 use Rattle.grid.specs.declared.Answer.{Answer}
 use Rattle.grid.specs.declared.Window.{Window}
 use Rattle.racks.specs.Areas.{sharesArea}
-use Rattle.slots.specs.Slots.{Slot, slotAt, inUse, stripsIn, isBook}
+use Rattle.slots.specs.Slots.{Slot, slotAt, inUse, stripsIn, isBook, freeSlot}
 use Rattle.strip_book.specs.Books.{unknownRenter, noBook, halfFull, stripTaken, slotNotInUse, refusedBooking, BookStrip, ReleaseSlot}
 use Rattle.strip_book.specs.Renters.{isRenter, firstSlot, half}
 use Rattle.strip_book.specs.declared.BookingAnswer.{BookingAnswer}
@@ -42,6 +44,7 @@ slotIs renter k zs = slotAt zs (firstSlot renter + k)
 
 abbrev pub HalvesOfTheTable : Type 0
 HalvesOfTheTable = (k : ℕ) (zs : List ℤ) → (slotIs (pos 0) k zs ≡ slotAt zs k) × (slotIs (pos 1) k zs ≡ slotAt zs (32 + k))
+    × ((renter : ℤ) → k < 32 → getD (half renter zs) k freeSlot ≡ slotIs renter k zs)
 
 -- ---- 19, then 23
 
@@ -84,10 +87,6 @@ StripTakenExactly = (renter : ℤ) (w : Window) (a : BookingAnswer) (before afte
     → (k : ℕ) → k < 32 → inUse (slotIs renter k before) ≡ false
     → (a .number ≡ stripTaken) ↔ SharingSlot w before
 
-abbrev pub SaysNoMore : Type 0
-SaysNoMore = (renter : ℤ) (w : Window) (a : BookingAnswer) (before after : List ℤ) → BookStrip renter w a before after
-    → a .number ≡ stripTaken → a ≡ refusedBooking (refuse stripTaken 0)
-
 -- ---- 18
 
 pub record SlotInUse (renter z : ℤ) (zs : List ℤ) : Type 0 where
@@ -110,6 +109,21 @@ NoRoomExactly = (renter : ℤ) (zs : List ℤ) (a : Answer) (before after : List
     ((a .number ≡ noRoom) ↔ (length before < need)) × (a .number ≡ noRoom → a ≡ refusedBy (refuse noRoom need))
 
 -- ---- any refusal
+
+abbrev pub placeAnswered : Event → ℕ
+placeAnswered (booking renter w a) = a .place
+placeAnswered (release renter z a) = a .place
+placeAnswered (listing renter out a out′) = a .place
+
+abbrev pub restAnswered : Event → ℤ
+restAnswered (booking renter w a) = a .slot
+restAnswered (release renter z a) = pos 0
+restAnswered (listing renter out a out′) = pos (a .count)
+
+abbrev pub SaysNoMore : Type 0
+SaysNoMore = (e : Event) (before after : List ℤ) → InBook before e after
+    → ((numberAnswered e ≡ windowOff → ⊥) → (numberAnswered e ≡ noRoom → ⊥) → placeAnswered e ≡ 0)
+    × ((numberAnswered e ≡ 0 → ⊥) → restAnswered e ≡ pos 0)
 
 abbrev pub lentBefore : Event → List ℤ
 lentBefore (booking renter w a) = []

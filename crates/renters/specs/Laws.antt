@@ -1,8 +1,8 @@
--- The laws that keep the renters apart, proved in proofs/Theorems.antt and, the last, in proofs/Pair.antt: they are about two runs that differ only
--- in the others' calls, and in which the renter got the same answers to his bookings before the call under judgement.
---   SameAnswers          each listing of his, with its whole output, and each release is answered alike in both; the bookings of the whole runs are
---                        supposed here, in the next three only those before the call that they are about
---   SameNextListing      so is each that he may make next, with its whole output
+-- The laws that keep the renters apart, proved in proofs/Theorems.antt and, the last, in proofs/Pair.antt. They are about two runs that differ only in
+-- calls that the renter did not make, and in which all his bookings were answered alike. The laws of the next call judge one call more, of which
+-- nothing is supposed.
+--   SameAnswers          each listing of his in the runs, with its whole output, and each release is answered alike in both
+--   SameNextListing      so is each listing that he may make next, with its whole output
 --   SameNextRelease      and each release that he may make next
 --   AlikeButTaken a a′   17 is answered in the one exactly when in the other; where neither answers 16, the answers are equal; and where one answers
 --                        16, the other does or is booked

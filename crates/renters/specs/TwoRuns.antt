@@ -1,8 +1,9 @@
--- Two runs of calls that differ only in what others than one renter call.
+-- Two runs of calls that differ only in calls that one renter did not make.
 --   sameNumber x y         the whole numbers x and y are the same
 --   ownEvents renter es    of the events es those of the renter's calls, with their answers
---   Asked                  what a call asks, and of a booking also what was answered
---   asks e                 what the call of the event e asks, and what it was answered if it is a booking
+--   Asked                  what a call asks: a booking its strip, and with it what was answered; a release its slot; a listing the output that it
+--                          lends, as it is before the call. What a release and a listing are answered, and what a listing writes, is not in it
+--   asks e                 what the call of the event e asks
 --   asked renter es        what the renter asked in the events es, one call after the other, with the answers to his bookings
 --   TwoRuns renter es es′ book book′   two runs from the empty book, in which the renter made the same calls and got the same answers to his
 --                          bookings; the calls of others may be any, as many and between which of his calls they like, also of renters that there

@@ -34,13 +34,13 @@ use Rattle.strip_book.specs.Renters.{isRenter, firstSlot, half}
 use Rattle.strip_book.specs.declared.BookingAnswer.{BookingAnswer}
 use Rattle.strip_book.specs.declared.ReleaseAnswer.{ReleaseAnswer}
 
--- No.                     given exactly when
+-- No.                     given exactly when, unless one that is tested before it applies
 abbrev pub unknownRenter : ℕ
 unknownRenter = 19  --     the renter is neither 0 nor 1
 
 abbrev pub noBook : ℕ
 noBook = 23  --            the table has not 320 numbers, or a mark is neither 0 nor 1, or a slot in use holds
-    --                     numbers that 2 or 3 would refuse, or two such slots share area
+    --                     numbers that 2 or 3 would refuse, or two slots in use share area
 
 abbrev pub halfFull : ℕ
 halfFull = 17  --          all 32 slots of the renter are in use

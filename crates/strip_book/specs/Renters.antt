@@ -1,5 +1,6 @@
 -- The two renters of a book, 0 and 1. Each has a half of the slots: renter 0 the table's slots 0 to 31, renter 1 the slots 32 to 63. In calls and
--- answers a renter's own slots are 0 to 31. Where there is no such renter, the last two mean nothing: he is refused first.
+-- answers a renter's own slots are 0 to 31. Of other numbers than 0 and 1 `firstSlot` and `half` say nothing: every call refuses them by 19 before it
+-- looks at a half.
 --   isRenter renter     there is a renter of this number
 --   firstSlot renter    the table's slot that is the renter's slot 0; the renter's slot s is s slots further
 --   half renter zs      the renter's slots of a table
