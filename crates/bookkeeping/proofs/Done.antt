@@ -42,7 +42,7 @@ takes-lowest {renter} {w} {a} {before} {after} b d =
     let l = room-among b in
     record {
       slot = k;
-      answer = ap (λ (x : BookingAnswer). x .slot) (d .answer);
+      answer = d .answer;
       among = l;
       free = sym (ap inUse (half-at renter k before l)) ∙ lowest-free own;
       below = λ j h. sym (ap inUse (half-at renter j before (omega (arith, h, l)))) ∙ used-below own j h;

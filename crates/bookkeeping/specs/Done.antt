@@ -30,7 +30,7 @@ use Rattle.bookkeeping.specs.OneCall.{slotIs, SlotInUse}
 
 pub record TakesLowest (renter : ℤ) (w : Window) (a : BookingAnswer) (before after : List ℤ) : Type 0 where
   pub slot : ℕ
-  pub answer : a .slot ≡ pos slot
+  pub answer : a ≡ record { number = 0; place = 0; slot = pos slot }
   pub among : slot < 32
   pub free : inUse (slotIs renter slot before) ≡ false
   pub below : (j : ℕ) → j < slot → inUse (slotIs renter j before) ≡ true

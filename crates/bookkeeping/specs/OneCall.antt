@@ -17,8 +17,8 @@
 --   placeAnswered e       the place in an event's answer;  restAnswered e: its slot or its count; 0 of a release, which answers no more
 --   SaysNoMore            the place is 0 unless the number is 2 or 8, and the rest is 0 where a call is refused; so 16 does not tell whose strip it is
 --   lentBefore, lentAfter e   what the output of an event's listing held before and after; of other calls nothing
---   RefusedKeeps          a call that answers a refusal, whichever it is, leaves the table and the output as they were; that a listing leaves the
---                         table is not derived, but how a run of calls is defined, since it only reads it
+--   RefusedKeeps          a call that answers a refusal, whichever it is, leaves the table and the output as they were. Of a listing, to which the
+--                         table is lent for reading alone, the first is part of InBook and nothing new
 use mathlib.Core.Path.{_≡_}
 use mathlib.Core.Bool.{true, false}
 use mathlib.Core.List.{List, []}

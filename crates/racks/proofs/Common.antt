@@ -42,19 +42,19 @@ lesser-test : (a b : ℤ) → ltZ (pos 0) (lesser a b) ≡ (ltZ (pos 0) a && ltZ
 lesser-test a b = and-test {a = pos 0} {b = lesser a b} {c = pos 0} {d = a} {e = pos 0} {f = b}
     (λ l. let p = lesser-below {a = a} {b = b} refl in (omega zarith, omega zarith)) lt-lesser
 
-pub greater-test : (a b : ℤ) → ltZ (pos 0) (greater a b) ≡ (ltZ (pos 0) b || ltZ (pos 0) a)
-greater-test a b = go (ltZ (pos 0) b) refl
+pub greater-test : (x a b : ℤ) → ltZ x (greater a b) ≡ (ltZ x b || ltZ x a)
+greater-test x a b = go (ltZ x b) refl
   where
-    go : (t : Bool) → ltZ (pos 0) b ≡ t → ltZ (pos 0) (greater a b) ≡ (t || ltZ (pos 0) a)
+    go : (t : Bool) → ltZ x b ≡ t → ltZ x (greater a b) ≡ (t || ltZ x a)
     go true p =
-        let l : pos 0 <ℤ b = lt-yes refl refl p in
+        let l : x <ℤ b = lt-yes refl refl p in
         let u = greater-above {a = a} {b = b} refl in
-        let m : pos 0 <ℤ greater a b = omega zarith in
-        is-true (ltZ (pos 0) (greater a b)) (m .lt)
+        let m : x <ℤ greater a b = omega zarith in
+        is-true (ltZ x (greater a b)) (m .lt)
     go false p =
-        let m : b ≤ℤ pos 0 = lt-no refl refl p in
-        same-test {a = pos 0} {b = greater a b} {c = pos 0} {d = a}
-        (λ l. ⊎-elim (λ k. let u = greater-least {a = a} {b = b} refl (pos 0) k m in absurd (omega zarith)) (λ k. k) (≤-total a (pos 0)))
+        let m : b ≤ℤ x = lt-no refl refl p in
+        same-test {a = x} {b = greater a b} {c = x} {d = a}
+        (λ l. ⊎-elim (λ k. let u = greater-least {a = a} {b = b} refl x k m in absurd (omega zarith)) (λ k. k) (≤-total a x))
         (λ l. let u = greater-above {a = a} {b = b} refl in omega zarith)
 
 -- ---- the part that two spans have in common, from a to b and from x to y

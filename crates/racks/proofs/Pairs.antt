@@ -112,7 +112,7 @@ or-either false b e = inr e
 raised : (zs : List ℤ) (e : ℕ) (c : ℤ) → e < length zs → above (set zs e (greater (getD zs e (pos 0)) c)) ≡ (ltZ (pos 0) c || above zs)
 unfolding any
 raised [] e c h = absurd (omega arith)
-raised (z ∷ zs) zero c h = ap (λ (t : Bool). t || above zs) (greater-test z c) ∙ or-assoc (ltZ (pos 0) c) (ltZ (pos 0) z) (above zs)
+raised (z ∷ zs) zero c h = ap (λ (t : Bool). t || above zs) (greater-test (pos 0) z c) ∙ or-assoc (ltZ (pos 0) c) (ltZ (pos 0) z) (above zs)
 raised (z ∷ zs) (suc e) c h =
     ap (λ (t : Bool). ltZ (pos 0) z || t) (raised zs e c (omega arith)) ∙ or-swap (ltZ (pos 0) z) (ltZ (pos 0) c) (above zs)
 
@@ -187,7 +187,7 @@ pub next-above : (zs : List ℤ) (e : ℕ) (m : ℤ) → e < length zs
     → (ltZ (pos 0) (greater m (getD zs e (pos 0))) || above (drop (e + 1) zs)) ≡ (ltZ (pos 0) m || above (drop e zs))
 unfolding any
 next-above zs e m h =
-    (λ i. greater-test m (getD zs e (pos 0)) i || above (drop (add-one e i) zs))
+    (λ i. greater-test (pos 0) m (getD zs e (pos 0)) i || above (drop (add-one e i) zs))
     ∙ or-assoc (ltZ (pos 0) (getD zs e (pos 0))) (ltZ (pos 0) m) (above (drop (suc e) zs))
     ∙ or-swap (ltZ (pos 0) (getD zs e (pos 0))) (ltZ (pos 0) m) (above (drop (suc e) zs))
     ∙ ap (λ (ys : List ℤ). ltZ (pos 0) m || above ys) (sym (drop-cons zs e (pos 0) h))

@@ -165,7 +165,7 @@ loop-again c =
       omega arith,
       ap (ltZ (pos 0)) (back w16 (m .result) (m .ok) ∙ m .ensures
           ∙ ap (greater (toZ w16 (t .before .loop .most))) (back w16 (c .before .lesser .result) (c .before .lesser .ok) ∙ found (c .before)))
-          ∙ greater-test (toZ w16 (t .before .loop .most)) (lesser (width t) (height t))
+          ∙ greater-test (pos 0) (toZ w16 (t .before .loop .most)) (lesser (width t) (height t))
           ∙ (λ i. share-test (on t) (comparable t) i || t .before .loop .inv .1 i)
           ∙ sym (one-more (sharesArea (own t)) _ (t .before .loop .j)),
     )
