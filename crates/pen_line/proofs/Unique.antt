@@ -52,7 +52,7 @@ not-blank close e = omega (arith, ap length e)
 
 -- ---- numbers
 
-number-or-not : {t : List ℕ} {bits : ℕ} → Reads t (Number bits) → Reads t Nothing → ⊥
+pub number-or-not : {t : List ℕ} {bits : ℕ} → Reads t (Number bits) → Reads t Nothing → ⊥
 number-or-not {bits = bits} r s =
     let e : Number bits ≡ Nothing = reads-unique r s in
     let z : _≡_ {A = ℕ} 0 1 = cc in

@@ -14,10 +14,10 @@ use Rattle.words.specs.Words.{numeral, asInteger, words, arguments, onto
 use Rattle.words.specs.declared.Integer.{Integer}
 
 -- how many bytes come before the first space
-abbrev toSpace : List ℕ → ℕ
+abbrev pub toSpace : List ℕ → ℕ
 toSpace l = run (isNot 32) l
 
-words-cut : (l : List ℕ) → words l ≡ take (toSpace l) l ∷ arguments (drop (toSpace l) l)
+pub words-cut : (l : List ℕ) → words l ≡ take (toSpace l) l ∷ arguments (drop (toSpace l) l)
 unfolding words run arguments
 words-cut [] = refl
 words-cut (b ∷ l) = go (eqb b 32) (words-cut l)

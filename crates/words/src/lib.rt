@@ -114,7 +114,7 @@ pub fn read_integer(word: &[u8]) -> Integer
 }
 
 // The f32 with these bits; every pattern of a NaN is the NaN.
-fn from_bits(bits: u32) -> f32
+pub fn from_bits(bits: u32) -> f32
     ensures { λ r. ⌜ r ≡ ofBits binary32 bits ⌝ }
 {
     // Without the sign, a NaN's pattern is above that of the infinity.

@@ -1,0 +1,4 @@
+pub mod Texts
+pub mod Readings
+pub mod Workers
+pub mod Laws

@@ -1,0 +1,2 @@
+mod Readings
+pub mod Unique

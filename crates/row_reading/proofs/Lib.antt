@@ -1,0 +1,4 @@
+pub mod Bytes
+pub mod Six
+pub mod Finding
+pub mod Unique
