@@ -3,10 +3,13 @@
 --   ReadsBack    the text of a sound book is read as that book
 --   WritesBack   a text that is read as a book is the text of that book, and the book is sound
 --   OneText      so two sound books that have one text are one book
+--   SoundEmpty   the empty book is sound
+--   StaysSound   each call on a sound book leaves a sound book: so it is with every book that calls on the empty book leave
 use mathlib.Core.Path.{_≡_}
 use mathlib.Core.List.{List}
 use Prim.Native.Nat.{ℕ}
 use lib.IntN.{ℤ}
+use Rattle.bookkeeping.specs.Runs.{Event, InBook, emptyBook}
 use Rattle.book_text.specs.Texts.{bookText, Sound}
 use Rattle.book_text.specs.Readings.{ReadsAs}
 use Rattle.book_text.specs.declared.Verdict.{Verdict}
@@ -23,3 +26,9 @@ WritesBack = (t : List ℕ) (zs : List ℤ) → ReadsAs t Book zs → Sound zs �
 
 abbrev pub OneText : Type 0
 OneText = (ys zs : List ℤ) → Sound ys → Sound zs → bookText ys ≡ bookText zs → ys ≡ zs
+
+abbrev pub SoundEmpty : Type 0
+SoundEmpty = Sound emptyBook
+
+abbrev pub StaysSound : Type 0
+StaysSound = (before after : List ℤ) (e : Event) → Sound before → InBook before e after → Sound after

@@ -6,7 +6,7 @@ ghost use Rattle.captions.specs.Captions.{captionPlace, stripSize, capti
 use grid::Window;
 
 // Puts the place below the drawing.
-fn put_caption_place(page: &mut [u8], at: usize, v: Window) -> usize
+pub fn put_caption_place(page: &mut [u8], at: usize, v: Window) -> usize
     requires { ⌜ at + 100 ≤ length (now page) ⌝ }
     ensures { λ r. ⌜ Put (now (page .entry)) (now (page .exit)) at r (captionPlace v) ⌝ }
     ensures { λ r. ⌜ r ≤ at + 100 ⌝ }

@@ -20,7 +20,7 @@ fn pixels_high(v: Window) -> u64
 }
 
 // Puts the picture's size.
-fn put_size(page: &mut [u8], at: usize, v: Window) -> usize
+pub fn put_size(page: &mut [u8], at: usize, v: Window) -> usize
     requires { ⌜ at + 300 ≤ length (now page) ⌝ }
     ensures { λ r. ⌜ Put (now (page .entry)) (now (page .exit)) at r (size v) ⌝ }
     ensures { λ r. ⌜ r ≤ at + 300 ⌝ }

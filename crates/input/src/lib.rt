@@ -122,3 +122,25 @@ pub fn read_on(chunk: &mut Chunk, source: Source) -> Source
         open: to != 0,
     }
 }
+
+// Goes on to the next whole line; there is none any more where the input has ended or a read failed. A proved loop has to end, so it counts its turns,
+// to a number that no run reaches.
+pub fn next_line(chunk: &mut Chunk, line: &mut Line, source: Source) -> Source
+    requires { ⌜ InReach source ⌝ }
+    ensures { λ r. ⌜ InReach r ⌝ }
+{
+    let mut source = source;
+    let mut turns: u64 = 0;
+    while turns < 0x4000_0000_0000_0000 {
+        source = take_line(chunk, line, source);
+        if source.whole {
+            return source;
+        }
+        source = read_on(chunk, source);
+        if source.whole || !source.open {
+            return source;
+        }
+        turns += 1;
+    }
+    closed()
+}

@@ -6,7 +6,7 @@ ghost use Rattle.layers.specs.Layers.{roundPath, stripPath, drawnPaths};
 use grid::Window;
 
 // Puts the way along the strip's sides.
-fn put_round(page: &mut [u8], at: usize, w: Window) -> usize
+pub fn put_round(page: &mut [u8], at: usize, w: Window) -> usize
     requires { ⌜ at + 70 ≤ length (now page) ⌝ }
     ensures { λ r. ⌜ Put (now (page .entry)) (now (page .exit)) at r (roundPath w) ⌝ }
     ensures { λ r. ⌜ r ≤ at + 60 ⌝ }

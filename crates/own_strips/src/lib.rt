@@ -15,7 +15,7 @@ use grid::Refusal;
 use slots::Tested;
 
 // How many numbers the listing of the 32 slots from one on has.
-fn count_listed(book: &[i32], from: usize) -> usize
+pub fn count_listed(book: &[i32], from: usize) -> usize
     requires { ⌜ from ≤ 32 ⌝ }
     requires { ⌜ length (now book) ≡ 320 ⌝ }
     ensures { λ r. ⌜ r ≡ length (listedFrom 0 (slice from (from + 32) (slotsOf (now (book .entry))))) ⌝ }

@@ -1,5 +1,5 @@
-// Standard input, output and error. Every program reads and writes through here: what is not ready yet is waited for, and what fails is told in a
-// line on standard error.
+// Standard input, output and error, and files that are open. Every program reads and writes through here: what is not ready yet is waited for, and
+// what fails is told in a line on standard error.
 ghost use mathlib.Core.Path.{_≡_};
 ghost use Prim.Native.Nat.{_≤_};
 ghost use lib.ListN.{length};
@@ -41,14 +41,14 @@ fn unread() -> Received
     }
 }
 
-// Reads what is there, and waits where nothing is there yet; no bytes are the end of the input. A proved loop has to end, so it counts its turns, to
-// a number that no run reaches.
-pub fn read_some(buf: &mut [u8]) -> Received
+// Reads what is there, and waits where nothing is there yet; no bytes are the end. A proved loop has to end, so it counts its turns, to a number that
+// no run reaches.
+fn read_from(from: i32, buf: &mut [u8]) -> Received
     ensures { λ r. ⌜ Counts (r .count) (now (buf .exit)) ⌝ }
 {
     let mut turns: u64 = 0;
     while turns < 0x4000_0000_0000_0000 {
-        let got = libc::read(STDIN_FILENO, buf);
+        let got = libc::read(from, buf);
         if got >= 0 {
             return Received {
                 count: io::count(got, buf),
@@ -63,13 +63,20 @@ pub fn read_some(buf: &mut [u8]) -> Received
     unread()
 }
 
-// Reads until the input ends or buf is full.
-pub fn read_all(buf: &mut [u8]) -> Received
+// The same of standard input.
+pub fn read_some(buf: &mut [u8]) -> Received
+    ensures { λ r. ⌜ Counts (r .count) (now (buf .exit)) ⌝ }
+{
+    read_from(STDIN_FILENO, buf)
+}
+
+// Reads a file until it ends or buf is full.
+pub fn read_file(from: i32, buf: &mut [u8]) -> Received
     ensures { λ r. ⌜ Counts (r .count) (now (buf .exit)) ⌝ }
 {
     let mut count = 0;
     while count < buf.len() {
-        let taken = read_some(&mut buf[count..]);
+        let taken = read_from(from, &mut buf[count..]);
         if taken.failed {
             return Received {
                 count,
@@ -85,6 +92,13 @@ pub fn read_all(buf: &mut [u8]) -> Received
         count,
         failed: false,
     }
+}
+
+// The same of standard input.
+pub fn read_all(buf: &mut [u8]) -> Received
+    ensures { λ r. ⌜ Counts (r .count) (now (buf .exit)) ⌝ }
+{
+    read_file(STDIN_FILENO, buf)
 }
 
 // Writes as much of the bytes as is taken at once, and waits where nothing is; 0 where the write failed.
@@ -106,7 +120,7 @@ fn write_some(to: i32, bytes: &[u8]) -> usize
 }
 
 // Writes all of the bytes, and says whether that could be done.
-fn write_to(to: i32, bytes: &[u8]) -> bool {
+pub fn write_to(to: i32, bytes: &[u8]) -> bool {
     let mut done = 0;
     while done < bytes.len() {
         let put = write_some(to, &bytes[done..]);

@@ -3,14 +3,14 @@ use mathlib.Core.Path.{_≡_}
 use Prim.Native.Nat.{_-_}
 use lib.ListN.{length}
 use borrow.Author.Needs.{needs}
-use Rattle.streams.proofs.read_some.Statement.{statement}
-use Rattle.streams.proofs.read_some.Tie as tie
+use Rattle.streams.proofs.read_from.Statement.{statement}
+use Rattle.streams.proofs.read_from.Tie as tie
 
 abbrev Inv-loop : tie.InvT-loop
-Inv-loop buf₀ turns₀ buf turns = length buf ≡ length buf₀
+Inv-loop from buf₀ turns₀ buf turns = length buf ≡ length buf₀
 
 abbrev μ-loop : tie.MeasureT-loop
-μ-loop buf₀ turns₀ buf turns = 0x4000_0000_0000_0000 - turns
+μ-loop from buf₀ turns₀ buf turns = 0x4000_0000_0000_0000 - turns
 
 loop-holds : tie.Need-loop-holds Inv-loop μ-loop
 loop-holds c = search needs
@@ -57,8 +57,8 @@ same-length-3 c = search needs
 returns-3 : tie.Need-returns-3 Inv-loop μ-loop
 returns-3 c = search needs
 
-pub read-some-spec : {M : Type 1} → statement M
-read-some-spec =
+pub read-from-spec : {M : Type 1} → statement M
+read-from-spec =
     tie.close
     (tie.spec
     Inv-loop

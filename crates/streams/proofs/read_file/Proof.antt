@@ -5,32 +5,32 @@ use Prim.Native.Nat.{ℕ, _-_, _≤_}
 use lib.ListN.{length, take}
 use lib.Seq.{length-take-le}
 use borrow.Author.Needs.{needs}
-use Rattle.streams.proofs.read_all.Statement.{statement}
-use Rattle.streams.proofs.read_all.Tie as tie
+use Rattle.streams.proofs.read_file.Statement.{statement}
+use Rattle.streams.proofs.read_file.Tie as tie
 
 counts : (n : ℕ) (xs : List ℕ) → n ≤ length xs → (n ≤ length xs) × (n ≡ length (take n xs))
 counts n xs h = (h, sym (length-take-le n xs h))
 
 abbrev Inv-loop : tie.InvT-loop
-Inv-loop buf₀ count₀ buf count = (length buf ≡ length buf₀) × (count ≤ length buf)
+Inv-loop from buf₀ count₀ buf count = (length buf ≡ length buf₀) × (count ≤ length buf)
 
 abbrev μ-loop : tie.MeasureT-loop
-μ-loop buf₀ count₀ buf count = length buf - count
+μ-loop from buf₀ count₀ buf count = length buf - count
 
 loop-holds : tie.Need-loop-holds Inv-loop μ-loop
 loop-holds c = search needs
 
-sub-read-some : tie.Need-sub-read-some Inv-loop μ-loop
-sub-read-some c = search needs
+sub-read-from : tie.Need-sub-read-from Inv-loop μ-loop
+sub-read-from c = search needs
 
-part-read-some-start : tie.Need-part-read-some-start Inv-loop μ-loop
-part-read-some-start c = search needs
+part-read-from-start : tie.Need-part-read-from-start Inv-loop μ-loop
+part-read-from-start c = search needs
 
-part-read-some-end : tie.Need-part-read-some-end Inv-loop μ-loop
-part-read-some-end c = search needs
+part-read-from-end : tie.Need-part-read-from-end Inv-loop μ-loop
+part-read-from-end c = search needs
 
-read-some-requires : tie.Need-read-some-requires Inv-loop μ-loop
-read-some-requires c κs = search needs
+read-from-requires : tie.Need-read-from-requires Inv-loop μ-loop
+read-from-requires c κs = search needs
 
 same-length : tie.Need-same-length Inv-loop μ-loop
 same-length c = search needs
@@ -59,17 +59,17 @@ same-length-3 c = search needs
 returns-3 : tie.Need-returns-3 Inv-loop μ-loop
 returns-3 c = counts _ _ (search needs)
 
-pub read-all-spec : {M : Type 1} → statement M
-read-all-spec =
+pub read-file-spec : {M : Type 1} → statement M
+read-file-spec =
     tie.close
     (tie.spec
     Inv-loop
     μ-loop
     loop-holds
-    sub-read-some
-    part-read-some-start
-    part-read-some-end
-    read-some-requires
+    sub-read-from
+    part-read-from-start
+    part-read-from-end
+    read-from-requires
     same-length
     returns
     add-count

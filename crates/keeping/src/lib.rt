@@ -1,0 +1,155 @@
+// A file that is kept by writing it anew: the new text goes into a new file beside it, which then takes its name. Whatever stops the program, the file
+// holds the old text or the new one, whole. While the new file is there, no other program can make it: so it also says who has the file in hand.
+//
+// The name of the new file is that of the file and ".new": the caller lends it, and says how long the file's own name is.
+ghost use mathlib.Core.Path.{_≡_};
+ghost use Prim.Native.Nat.{_≤_};
+ghost use lib.ListN.{length};
+use libc::EEXIST;
+use libc::ENOENT;
+
+// What was read of a file: how many bytes; none where there is no such file; or that it could not be read, of which standard error then says why.
+pub struct Held {
+    pub count: usize,
+    pub missing: bool,
+    pub failed: bool,
+}
+
+// Tells that another program has the file, or had it when it was stopped.
+fn tell_busy(new: &[u8]) {
+    streams::tell(b"the book is busy: there is a file ");
+    streams::tell(new);
+    streams::tell(
+        b". Another program has the book in hand, or was stopped while it had. If none is running, remove that file and start again: the book is whole\n",
+    );
+}
+
+// Takes a file in hand: makes the new file, and answers its descriptor, or a negative number, of which standard error then says why.
+pub fn take(new: &[u8]) -> i32 {
+    let to = os::create(new);
+    if to < 0 {
+        if os::errno() == EEXIST {
+            tell_busy(new);
+        } else {
+            os::fail(new);
+        }
+    }
+    to
+}
+
+// Lets a file go as it is: the new one is removed.
+pub fn leave(new: &[u8], to: i32) {
+    libc::close(to);
+    if os::unlink(new) != 0 {
+        os::fail(new);
+    }
+}
+
+// Why a file could not be opened: there is none, or standard error says it.
+fn unopened(file: &[u8]) -> Held
+    ensures { λ r. ⌜ r .count ≡ 0 ⌝ }
+{
+    if os::errno() == ENOENT {
+        return Held {
+            count: 0,
+            missing: true,
+            failed: false,
+        };
+    }
+    os::fail(file);
+    Held {
+        count: 0,
+        missing: false,
+        failed: true,
+    }
+}
+
+// Reads a file until it ends or buf is full.
+pub fn read(file: &[u8], buf: &mut [u8]) -> Held
+    ensures { λ r. ⌜ r .count ≤ length (now (buf .exit)) ⌝ }
+{
+    let from = os::open_read(file);
+    if from < 0 {
+        return unopened(file);
+    }
+    let taken = streams::read_file(from, buf);
+    libc::close(from);
+    Held {
+        count: taken.count,
+        missing: false,
+        failed: taken.failed,
+    }
+}
+
+// How many bytes of a file's name are its folder's: up to the last slash, and that too.
+fn folder(file: &[u8]) -> usize
+    ensures { λ r. ⌜ r ≤ length (now (file .entry)) ⌝ }
+{
+    let mut end = file.len();
+    while 0 < end {
+        if file[end - 1] == b'/' {
+            return end;
+        }
+        end -= 1;
+    }
+    0
+}
+
+// Opens a file's folder.
+fn open_folder(file: &[u8]) -> i32 {
+    let end = folder(file);
+    if end == 0 {
+        return os::open_read(b".");
+    }
+    os::open_read(&file[..end])
+}
+
+// Has the disk hold what a folder says of its files, and says whether that could be done.
+fn sync_folder(file: &[u8]) -> bool {
+    let at = open_folder(file);
+    if at < 0 {
+        return false;
+    }
+    let done = libc::fsync(at);
+    libc::close(at);
+    done == 0
+}
+
+// Writes a whole text to a file, has the disk hold it, closes the file, and says whether all of that could be done.
+fn put_down(to: i32, text: &[u8]) -> bool {
+    let written = streams::write_to(to, text);
+    let mut held = -1;
+    if written {
+        held = libc::fsync(to);
+    }
+    let closed = libc::close(to);
+    if held != 0 {
+        return false;
+    }
+    closed == 0
+}
+
+// Tells that the new text is not kept, and removes the new file.
+fn not_kept(new: &[u8]) -> bool {
+    os::fail(b"the book could not be written, and is as it was");
+    os::unlink(new);
+    false
+}
+
+// Keeps a new text in a file that is in hand: it is on disk, under the file's name, before this answers true. Else standard error says why.
+pub fn keep(new: &[u8], long: usize, to: i32, text: &[u8]) -> bool
+    requires { ⌜ long ≤ length (now new) ⌝ }
+{
+    let file = &new[..long];
+    if !put_down(to, text) {
+        return not_kept(new);
+    }
+    if os::rename(new, file) != 0 {
+        return not_kept(new);
+    }
+    if sync_folder(file) {
+        return true;
+    }
+    os::fail(b"the book is written, but the disk does not say that it holds it");
+    false
+}

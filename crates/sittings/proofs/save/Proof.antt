@@ -1,0 +1,35 @@
+-- The text that was put is a part of its place.
+use mathlib.Core.Path.{sym}
+use lib.Seq.{length-take-le}
+use borrow.Author.Needs.{needs}
+use Rattle.sittings.proofs.save.Statement.{statement}
+use Rattle.sittings.proofs.save.Tie as tie
+
+slice-aggregate-put-book : tie.Need-slice-aggregate-put-book
+slice-aggregate-put-book c = search needs
+
+put-book-requires : tie.Need-put-book-requires
+put-book-requires c κs = search needs
+
+array-share-prefix-text : tie.Need-array-share-prefix-text
+array-share-prefix-text c = search needs
+
+slice-aggregate-keep : tie.Need-slice-aggregate-keep
+slice-aggregate-keep c = sym (length-take-le _ _ (c .before .before .put-book .ensures .fits))
+
+keep-requires : tie.Need-keep-requires
+keep-requires c κs = search needs
+
+returns : tie.Need-returns
+returns c = search needs
+
+pub save-spec : {M : Type 1} → statement M
+save-spec =
+    tie.close
+    (tie.spec
+    slice-aggregate-put-book
+    put-book-requires
+    array-share-prefix-text
+    slice-aggregate-keep
+    keep-requires
+    returns)
