@@ -24,15 +24,6 @@ fn draw(text: &[u8], page: &mut [u8]) -> Drawn
     }
 }
 
-// Tells that a line is not a strip book's.
-fn tell_fault(line: usize) {
-    let mut digits = [0u8; 20];
-    let end = text::put_natural(&mut digits, 0, line as u64);
-    streams::tell(b"line ");
-    streams::tell(&digits[..end]);
-    streams::tell(b" is not that of a strip book\n");
-}
-
 // Reads, draws and writes, in the memory that main lends.
 fn run(text: &mut [u8], page: &mut [u8])
     requires { ⌜ 35000 ≤ length (now page) ⌝ }
@@ -45,7 +36,7 @@ fn run(text: &mut [u8], page: &mut [u8])
         Drawn::Sheet(end) => {
             streams::write(&page[..end]);
         }
-        Drawn::Faulty(line) => tell_fault(line),
+        Drawn::Faulty(line) => faults::tell(line, b"\n"),
     }
 }
 

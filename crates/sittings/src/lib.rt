@@ -42,15 +42,6 @@ fn over(source: Source, refused: bool) -> Sitting
     }
 }
 
-// Tells words, a number and words.
-fn tell_number(before: &[u8], n: u64, after: &[u8]) {
-    let mut digits = [0u8; 20];
-    let end = text::put_natural(&mut digits, 0, n);
-    streams::tell(before);
-    streams::tell(&digits[..end]);
-    streams::tell(after);
-}
-
 // Reads the book's file into an empty table, and says whether it is a book: one that is missing is the empty book. Else standard error says why not.
 fn load(file: &[u8], table: &mut [i32; 320]) -> bool
     requires { ⌜ now table ≡ emptyBook ⌝ }
@@ -68,11 +59,8 @@ fn load(file: &[u8], table: &mut [i32; 320]) -> bool
         Verdict::Book => true,
         Verdict::Faulty(line) => {
             streams::tell(file);
-            tell_number(
-                b": line ",
-                line as u64,
-                b" is not that of a strip book; the file is left alone\n",
-            );
+            streams::tell(b": ");
+            faults::tell(line, b"; the file is left alone\n");
             false
         }
     }

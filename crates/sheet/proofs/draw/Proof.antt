@@ -1,46 +1,41 @@
+-- The table that is made for the text is empty, and its book is drawn.
+use mathlib.Core.Path.{refl}
+use Rattle.bookkeeping.specs.Runs.{emptyBook}
+use Rattle.sheet.proofs.Drawing.{is-drawn, is-faulty}
 use borrow.Author.Needs.{needs}
 use Rattle.sheet.proofs.draw.Statement.{statement}
 use Rattle.sheet.proofs.draw.Tie as tie
-use Rattle.sheet.proofs.draw.Reads as reads
-use Rattle.sheet.proofs.draw.Lts as lts
-use Rattle.book_text.proofs.read_book.Reads as read-book-reads
-use Rattle.sheet_art.proofs.put_sheet.Reads as put-sheet-reads
 
--- src/main.rt:21:38
 slice-aggregate-read-book : tie.Need-slice-aggregate-read-book
 slice-aggregate-read-book c = search needs
 
--- src/main.rt:21:11
 read-book-requires : tie.Need-read-book-requires
-read-book-requires c κs = ?
+unfolding emptyBook
+read-book-requires c κs = refl
 
--- src/main.rt:22:60
 enum-told : tie.Need-enum-told
 enum-told c = search needs
 
--- src/main.rt:22:66
 slice-aggregate-put-sheet : tie.Need-slice-aggregate-put-sheet
 slice-aggregate-put-sheet c = search needs
 
--- src/main.rt:22:39
 put-sheet-requires : tie.Need-put-sheet-requires
 put-sheet-requires c κs = search needs
 
--- src/main.rt:23:25
 enum-known-line : tie.Need-enum-known-line
 enum-known-line c = search needs
 
--- src/main.rt:16:1
 same-length : tie.Need-same-length
 same-length c = search needs
 
--- src/main.rt:16:1
 returns : tie.Need-returns
-returns c = ?
+returns c =
+    let d = c .before .before in
+    let r = d .before .before .before in
+    is-drawn (r .enum-told .given .1) (r .before .before .before .read-book .ensures) (d .put-sheet .ensures)
 
--- src/main.rt:16:1
 returns-2 : tie.Need-returns-2
-returns-2 c = ?
+returns-2 c = is-faulty (c .before .line .given .1) (c .before .before .before .before .read-book .ensures)
 
 pub draw-spec : {M : Type 1} → statement M
 draw-spec =

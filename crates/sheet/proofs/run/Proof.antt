@@ -1,82 +1,65 @@
+-- What is written is a part of the page.
+use mathlib.Core.Path.{sym}
+use lib.Seq.{length-take-le}
+use Rattle.sheet.proofs.Drawing.{draws-fit}
 use borrow.Author.Needs.{needs}
 use Rattle.sheet.proofs.run.Statement.{statement}
 use Rattle.sheet.proofs.run.Tie as tie
-use Rattle.sheet.proofs.run.Reads as reads
-use Rattle.sheet.proofs.run.Lts as lts
-use Rattle.sheet.proofs.draw.Reads as draw-reads
-use Rattle.sheet.proofs.tell_fault.Reads as tell-fault-reads
-use Rattle.streams.proofs.read_all.Reads as read-all-reads
-use Rattle.streams.proofs.write.Reads as write-reads
 
--- src/main.rt:40:9
 read-all-requires : tie.Need-read-all-requires
 read-all-requires c κs = search needs
 
--- src/main.rt:42:9
 same-length : tie.Need-same-length
 same-length c = search needs
 
--- src/main.rt:42:9
 returns : tie.Need-returns
 returns c = search needs
 
--- src/main.rt:44:16
 slice-reshare-prefix-draw : tie.Need-slice-reshare-prefix-draw
 slice-reshare-prefix-draw c = search needs
 
--- src/main.rt:44:16
 slice-aggregate-draw : tie.Need-slice-aggregate-draw
 slice-aggregate-draw c = search needs
 
--- src/main.rt:44:11
 draw-requires : tie.Need-draw-requires
 draw-requires c κs = search needs
 
--- src/main.rt:45:22
 enum-known-end : tie.Need-enum-known-end
 enum-known-end c = search needs
 
--- src/main.rt:46:28
 slice-reshare-prefix-write : tie.Need-slice-reshare-prefix-write
-slice-reshare-prefix-write c = ?
+slice-reshare-prefix-write c = draws-fit _ (c .before .end .given .1) (c .before .before .before .before .before .draw .ensures)
 
--- src/main.rt:46:28
 slice-aggregate-write : tie.Need-slice-aggregate-write
-slice-aggregate-write c = ?
+slice-aggregate-write c = sym (length-take-le _ _ (draws-fit _ (c .before .before .end .given .1) (c .before .before .before .before .before .before .draw .ensures)))
 
--- src/main.rt:46:13
 write-requires : tie.Need-write-requires
 write-requires c κs = search needs
 
--- src/main.rt:48:23
 enum-known-line : tie.Need-enum-known-line
 enum-known-line c = search needs
 
--- src/main.rt:48:32
-tell-fault-requires : tie.Need-tell-fault-requires
-tell-fault-requires c κs = search needs
+slice-aggregate-tell : tie.Need-slice-aggregate-tell
+slice-aggregate-tell c = search needs
 
--- src/main.rt:37:1
+tell-requires : tie.Need-tell-requires
+tell-requires c κs = search needs
+
 same-length-2 : tie.Need-same-length-2
 same-length-2 c = search needs
 
--- src/main.rt:37:1
 same-length-3 : tie.Need-same-length-3
 same-length-3 c = search needs
 
--- src/main.rt:37:1
 returns-2 : tie.Need-returns-2
 returns-2 c = search needs
 
--- src/main.rt:37:1
 same-length-4 : tie.Need-same-length-4
 same-length-4 c = search needs
 
--- src/main.rt:37:1
 same-length-5 : tie.Need-same-length-5
 same-length-5 c = search needs
 
--- src/main.rt:37:1
 returns-3 : tie.Need-returns-3
 returns-3 c = search needs
 
@@ -95,7 +78,8 @@ run-spec =
     slice-aggregate-write
     write-requires
     enum-known-line
-    tell-fault-requires
+    slice-aggregate-tell
+    tell-requires
     same-length-2
     same-length-3
     returns-2

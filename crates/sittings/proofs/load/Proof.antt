@@ -39,14 +39,17 @@ enum-known-line c = search needs
 tell-requires : tie.Need-tell-requires
 tell-requires c κs = search needs
 
-slice-aggregate-tell-number : tie.Need-slice-aggregate-tell-number
-slice-aggregate-tell-number c = search needs
+slice-aggregate-tell : tie.Need-slice-aggregate-tell
+slice-aggregate-tell c = search needs
 
-slice-aggregate-tell-number-2 : tie.Need-slice-aggregate-tell-number-2
-slice-aggregate-tell-number-2 c = search needs
+tell-requires-2 : tie.Need-tell-requires-2
+tell-requires-2 c κs = search needs
 
-tell-number-requires : tie.Need-tell-number-requires
-tell-number-requires c κs = search needs
+slice-aggregate-tell-2 : tie.Need-slice-aggregate-tell-2
+slice-aggregate-tell-2 c = search needs
+
+tell-requires-3 : tie.Need-tell-requires-3
+tell-requires-3 c κs = search needs
 
 returns-3 : tie.Need-returns-3
 returns-3 c = λ e. read-sound (c .enum-told .given .1) (c .before .before .read-book .ensures)
@@ -68,8 +71,9 @@ load-spec =
     enum-told
     enum-known-line
     tell-requires
-    slice-aggregate-tell-number
-    slice-aggregate-tell-number-2
-    tell-number-requires
+    slice-aggregate-tell
+    tell-requires-2
+    slice-aggregate-tell-2
+    tell-requires-3
     returns-3
     returns-4)
