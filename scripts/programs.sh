@@ -1,10 +1,12 @@
 # The programs, and how one is started: for ./run, and for the command `gerlyantu` that ./install puts down. It is sourced by bash.
 
-# A line a program: its name, how many words it takes after its name, what it reads, and what it writes.
-programs='desk|0|lines, each one call (the line help lists them)|a line for each
-listing|0|a drawing file|its strip, the strokes that are kept and their count
-pen|0|lines of text (strip, move, line and close, in millimetres)|the drawing file that they tell
-picture|0|a drawing file|its picture as an SVG'
+# A line a program: its name, the words that it takes after its name, what it reads, and what it writes.
+programs='book|BOOK|a bookkeeper'"'"'s lines (book, release, strips, show)|an answer to each; it keeps the strip book in the file BOOK
+desk||lines, each one call (the line help lists them)|a line for each
+listing||a drawing file|its strip, the strokes that are kept and their count
+pen||lines of text (strip, move, line and close, in millimetres)|the drawing file that they tell
+picture||a drawing file|its picture as an SVG
+sheet||the file of a strip book|its sheet as an SVG: the table with the strips of both renters'
 
 # kit: where the toolchain is; one line where it is missing.
 kit() {
@@ -41,7 +43,7 @@ about() {
     local name words reads writes text
     text="usage: $1 NAME < FILE"$'\n'"Runs a program on standard input:"$'\n'
     while IFS='|' read -r name words reads writes; do
-        text+=$(printf '  %-8s reads %s and writes %s' "$name" "$reads" "$writes")$'\n'
+        text+=$(printf '  %-10s reads %s and writes %s' "$name${words:+ $words}" "$reads" "$writes")$'\n'
     done <<<"$programs"
     said "${text}What is refused, a line that is not taken, and a read or write that fails are told in words on standard error; the status is then 1."
 }
@@ -50,7 +52,7 @@ about() {
 about_program() {
     local name words reads writes
     IFS='|' read -r name words reads writes <<<"$(row "$2")"
-    said "usage: $1 $name < FILE"$'\n'"$name reads $reads from standard input, and writes $writes to standard output."
+    said "usage: $1 $name${words:+ $words} < FILE"$'\n'"$name reads $reads from standard input, and writes to standard output $writes."
 }
 
 # said TEXT: puts a text on standard output, or tells that it could not.
@@ -60,7 +62,7 @@ said() {
 
 # chosen COMMAND NAME WORD..: ends here with usage, unless NAME is a program and takes that many words.
 chosen() {
-    local command=$1 name=${2-} line words
+    local command=$1 name=${2-} line words wanted
     shift
     case ${1-} in
     --help | -h)
@@ -84,11 +86,12 @@ chosen() {
         ;;
     esac
     IFS='|' read -r _ words _ <<<"$line"
-    if [ $# -ne "$words" ]; then
-        if [ "$words" -eq 0 ]; then
+    read -ra wanted <<<"$words"
+    if [ $# -ne "${#wanted[@]}" ]; then
+        if [ -z "$words" ]; then
             echo "$command: $name takes no word after its name, and reads standard input" >&2
         else
-            echo "$command: $name takes $words words after its name" >&2
+            echo "$command: $name takes this after its name: $words" >&2
         fi
         about_program "$command" "$name" >&2
         exit 2

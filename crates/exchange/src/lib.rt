@@ -1,7 +1,7 @@
 // The exchange of lines and replies: whatever is whole is answered before the desk waits for more, and a read or write that fails ends it.
 ghost use Prim.Native.Nat.{_≤_};
 ghost use lib.ListN.{length};
-ghost use Rattle.exchange.specs.Talks.{Sound};
+ghost use Rattle.exchange.specs.Talks.{InBounds};
 use input::Chunk;
 use input::Line;
 use input::Source;
@@ -18,7 +18,7 @@ pub struct Talk {
 }
 
 pub fn start() -> Talk
-    ensures { λ r. ⌜ Sound r ⌝ }
+    ensures { λ r. ⌜ InBounds r ⌝ }
 {
     let source = input::start();
     Talk {
@@ -30,7 +30,7 @@ pub fn start() -> Talk
 
 // Nothing is read or written any more.
 fn over() -> Talk
-    ensures { λ r. ⌜ Sound r ⌝ }
+    ensures { λ r. ⌜ InBounds r ⌝ }
 {
     let source = input::closed();
     Talk {
@@ -43,8 +43,8 @@ fn over() -> Talk
 // Goes on to the next whole line; there is none any more where the input has ended, or a read or write failed. What the page holds is written out
 // before a read. A proved loop has to end, so it counts its turns, to a number that no run reaches.
 fn next_line(chunk: &mut Chunk, line: &mut Line, page: &Page, talk: Talk) -> Talk
-    requires { ⌜ Sound talk ⌝ }
-    ensures { λ r. ⌜ Sound r ⌝ }
+    requires { ⌜ InBounds talk ⌝ }
+    ensures { λ r. ⌜ InBounds r ⌝ }
 {
     let mut source = talk.source;
     let told = talk.told;
@@ -78,10 +78,10 @@ fn answer(
     number: u64,
     reply: Reply,
 ) -> Talk
-    requires { ⌜ Sound talk ⌝ }
+    requires { ⌜ InBounds talk ⌝ }
     requires { ⌜ talk .source .have ≤ length (now line) ⌝ }
     requires { ⌜ reply .count ≤ 16 ⌝ }
-    ensures { λ r. ⌜ Sound r ⌝ }
+    ensures { λ r. ⌜ InBounds r ⌝ }
 {
     let source = talk.source;
     let told = talk.told;
@@ -121,9 +121,9 @@ pub fn turn(
     number: u64,
     reply: Reply,
 ) -> Talk
-    requires { ⌜ Sound talk ⌝ }
+    requires { ⌜ InBounds talk ⌝ }
     requires { ⌜ reply .count ≤ 16 ⌝ }
-    ensures { λ r. ⌜ Sound r ⌝ }
+    ensures { λ r. ⌜ InBounds r ⌝ }
 {
     if number == 0 {
         return next_line(chunk, line, page, talk);

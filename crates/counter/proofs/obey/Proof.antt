@@ -73,7 +73,7 @@ same-length-2 c = search needs
 returns-2 : tie.Need-returns-2
 returns-2 c =
     let b = c .before .before .before .before in
-    known (b .before .before .before .before .order .given .1) (c .changing .ensures) 
+    known (b .before .before .before .before .order .given .1) (c .changing .ensures)
     (book (rw (read-back (b .before .before .before .known-told .given .0 .1)) at (b .book .ensures)))
 
 same-length-3 : tie.Need-same-length-3
@@ -85,7 +85,7 @@ same-length-4 c = search needs
 returns-3 : tie.Need-returns-3
 returns-3 c =
     let b = c .before .before .before .before in
-    known (b .before .before .before .before .order2 .given .1) (c .changing2 .ensures) 
+    known (b .before .before .before .before .order2 .given .1) (c .changing2 .ensures)
     (release (rw (read-back (b .before .before .before .known-told2 .given .0 .1), read-back (b .before .before .before .known-told2 .given .1 .0 .1)) at (b .release .ensures)))
 
 same-length-5 : tie.Need-same-length-5
@@ -97,7 +97,7 @@ same-length-6 c = search needs
 returns-4 : tie.Need-returns-4
 returns-4 c =
     let b = c .before .before .before in
-    known (b .before .before .before .before .order3 .given .1) (c .looking .ensures) 
+    known (b .before .before .before .before .order3 .given .1) (c .looking .ensures)
     (strips (rw (read-back (b .before .before .before .known-told3 .given .0 .1)) at (b .strips .ensures)))
 
 same-length-7 : tie.Need-same-length-7

@@ -1,12 +1,12 @@
 -- The exchange stays within its bounds, line after line, and a reply has no more fields than there are places.
 use Prim.Native.Nat.{_-_, _≤_}
-use Rattle.exchange.specs.Talks.{Sound}
+use Rattle.exchange.specs.Talks.{InBounds}
 use borrow.Author.Needs.{needs}
 use Rattle.desk.proofs.run.Statement.{statement}
 use Rattle.desk.proofs.run.Tie as tie
 
 abbrev Inv-loop : tie.InvT-loop
-Inv-loop chunk₀ line₀ lent₀ page₀ talk₀ reply₀ number₀ chunk line lent page talk reply number = Sound talk × (reply .count ≤ 16)
+Inv-loop chunk₀ line₀ lent₀ page₀ talk₀ reply₀ number₀ chunk line lent page talk reply number = InBounds talk × (reply .count ≤ 16)
 
 abbrev μ-loop : tie.MeasureT-loop
 μ-loop chunk₀ line₀ lent₀ page₀ talk₀ reply₀ number₀ chunk line lent page talk reply number = 0x4000_0000_0000_0000 - number

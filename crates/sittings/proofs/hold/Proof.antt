@@ -33,7 +33,7 @@ returns-2 : tie.Need-returns-2
 returns-2 c = search needs
 
 sit-requires : tie.Need-sit-requires
-sit-requires c κs = 
+sit-requires c κs =
     let l = c .before .before .before .before .before in
     (search needs, l .load .ensures (not-false _ (c .before .before .before .before .if2 .left)))
 
