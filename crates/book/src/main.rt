@@ -3,7 +3,7 @@ use input::Chunk;
 use input::Line;
 use sittings::Page;
 
-// Takes the file's name, makes that of the new file of it, and keeps the book. A longer name would leave no room for the new one's end.
+// Takes the file's name, makes the names of the two files beside it, and keeps the book. A longer name would leave no room for their ends.
 fn run(chunk: &mut Chunk, line: &mut Line, page: &mut Page) {
     let mut word = [0u8; 4090];
     let long = os::arg(1, &mut word);
@@ -13,10 +13,13 @@ fn run(chunk: &mut Chunk, line: &mut Line, page: &mut Page) {
         );
         return;
     }
-    let mut name = [0u8; 4096];
-    let middle = text::put(&mut name, 0, &word[..long]);
-    let end = text::put(&mut name, middle, b".new");
-    sittings::keep_book(&name[..end], long, chunk, line, page);
+    let mut busy = [0u8; 4095];
+    let in_hand = text::put(&mut busy, 0, &word[..long]);
+    let busy_end = text::put(&mut busy, in_hand, b".busy");
+    let mut new = [0u8; 4094];
+    let middle = text::put(&mut new, 0, &word[..long]);
+    let new_end = text::put(&mut new, middle, b".new");
+    sittings::keep_book(&busy[..busy_end], &new[..new_end], long, chunk, line, page);
 }
 
 fn main() {

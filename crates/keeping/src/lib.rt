@@ -1,10 +1,11 @@
 // A file that is kept by writing it anew: the new text goes into a new file beside it, which then takes its name. Whatever stops the program, the file
-// holds the old text or the new one, whole. While the new file is there, no other program can make it: so it also says who has the file in hand.
+// holds the old text or the new one, whole. A third file says that the file is in hand: as long as it is there, no other program can make it.
 //
 // The name of the new file is that of the file and ".new": the caller lends it, and says how long the file's own name is.
 ghost use mathlib.Core.Path.{_≡_};
 ghost use Prim.Native.Nat.{_≤_};
 ghost use lib.ListN.{length};
+ghost use Rattle.keeping.specs.Folders.{FolderEnd};
 use libc::EEXIST;
 use libc::ENOENT;
 
@@ -15,34 +16,54 @@ pub struct Held {
     pub failed: bool,
 }
 
-// Tells that another program has the file, or had it when it was stopped.
-fn tell_busy(new: &[u8]) {
+// Tells that another program has the file in hand, or had it when it was stopped.
+fn tell_busy(busy: &[u8]) {
     streams::tell(b"the book is busy: there is a file ");
-    streams::tell(new);
+    streams::tell(busy);
     streams::tell(
         b". Another program has the book in hand, or was stopped while it had. If none is running, remove that file and start again: the book is whole\n",
     );
 }
 
-// Takes a file in hand: makes the new file, and answers its descriptor, or a negative number, of which standard error then says why.
-pub fn take(new: &[u8]) -> i32 {
-    let to = os::create(new);
-    if to < 0 {
-        if os::errno() == EEXIST {
-            tell_busy(new);
-        } else {
-            os::fail(new);
-        }
-    }
-    to
+// Tells that a new file was left behind.
+fn tell_left(new: &[u8]) {
+    streams::tell(b"there is a file ");
+    streams::tell(new);
+    streams::tell(
+        b", left by a program that was stopped. It holds nothing that was answered: remove it and start again\n",
+    );
 }
 
-// Lets a file go as it is: the new one is removed.
-pub fn leave(new: &[u8], to: i32) {
-    libc::close(to);
-    if os::unlink(new) != 0 {
-        os::fail(new);
+// Takes a file in hand: makes the file that says so, and answers its descriptor, or a negative number, of which standard error then says why.
+pub fn take(busy: &[u8]) -> i32 {
+    let held = os::create(busy);
+    if held < 0 {
+        if os::errno() == EEXIST {
+            tell_busy(busy);
+        } else {
+            os::fail(busy);
+        }
     }
+    held
+}
+
+// Lets a file go that is in hand.
+pub fn leave(busy: &[u8], held: i32) {
+    libc::close(held);
+    if os::unlink(busy) != 0 {
+        os::fail(busy);
+    }
+}
+
+// Whether there is no new file. Of one that is there, standard error says what to do: the file is in hand, so no program is at it.
+pub fn is_clear(new: &[u8]) -> bool {
+    let left = os::open_read(new);
+    if left < 0 {
+        return true;
+    }
+    libc::close(left);
+    tell_left(new);
+    false
 }
 
 // Why a file could not be opened: there is none, or standard error says it.
@@ -81,9 +102,9 @@ pub fn read(file: &[u8], buf: &mut [u8]) -> Held
     }
 }
 
-// How many bytes of a file's name are its folder's: up to the last slash, and that too.
+// How many bytes of a file's name are its folder's: up to the last slash, and that too; none where it has no slash.
 fn folder(file: &[u8]) -> usize
-    ensures { λ r. ⌜ r ≤ length (now (file .entry)) ⌝ }
+    ensures { λ r. ⌜ FolderEnd (now (file .entry)) r ⌝ }
 {
     let mut end = file.len();
     while 0 < end {
@@ -129,6 +150,19 @@ fn put_down(to: i32, text: &[u8]) -> bool {
     closed == 0
 }
 
+// Makes the new file, and answers its descriptor, or a negative number, of which standard error then says why.
+fn make(new: &[u8]) -> i32 {
+    let to = os::create(new);
+    if to < 0 {
+        if os::errno() == EEXIST {
+            tell_left(new);
+        } else {
+            os::fail(new);
+        }
+    }
+    to
+}
+
 // Tells that the new text is not kept, and removes the new file.
 fn not_kept(new: &[u8]) -> bool {
     os::fail(b"the book could not be written, and is as it was");
@@ -137,10 +171,14 @@ fn not_kept(new: &[u8]) -> bool {
 }
 
 // Keeps a new text in a file that is in hand: it is on disk, under the file's name, before this answers true. Else standard error says why.
-pub fn keep(new: &[u8], long: usize, to: i32, text: &[u8]) -> bool
+pub fn keep(new: &[u8], long: usize, text: &[u8]) -> bool
     requires { ⌜ long ≤ length (now new) ⌝ }
 {
     let file = &new[..long];
+    let to = make(new);
+    if to < 0 {
+        return false;
+    }
     if !put_down(to, text) {
         return not_kept(new);
     }

@@ -3,8 +3,9 @@ use mathlib.Core.Path.{_≡_, refl, sym, subst}
 use mathlib.Core.List.{List}
 use Prim.Native.Nat.{ℕ, zero, suc, _≤_}
 use native.Mathlib.Omega.{arith}
+use borrow.Author.Tests.{eq-eqb, ne-eqb}
 use lib.IntN.{ℤ}
-use lib.ListN.{length}
+use lib.ListN.{length, take}
 use Rattle.intake.specs.declared.WindowMm.{WindowMm}
 use Rattle.clerk.specs.Commands.{BooksAs}
 use Rattle.bookkeeping.specs.Runs as Runs
@@ -12,7 +13,11 @@ use Rattle.book_text.specs.Texts.{Sound}
 use Rattle.book_text.specs.Readings.{ReadsAs}
 use Rattle.book_text.specs.declared.Verdict.{Verdict}
 use Rattle.book_text.specs.declared.Verdict.the-variants.{Book}
-use Rattle.book_text.proofs.Theorems.{writes-back, stays-sound}
+use Rattle.book_text.proofs.Theorems.{writes-back, stays-sound, sound-empty}
+use Rattle.keeping.specs.declared.Held.{Held}
+use Rattle.text.specs.Pages.{ascii}
+use Rattle.sittings.specs.Laws.{ServesSound}
+use Rattle.sittings.specs.Sittings.{lineOf, Understands, no-file, a-text}
 use Rattle.orders.specs.declared.Order.{Order}
 use Rattle.counter.specs.Serving.{Does, blank, book, release, strips, show, wrong, Serves}
 use Rattle.counter.specs.declared.Service.{Service}
@@ -46,10 +51,26 @@ does-sound (strips a) s = s
 does-sound (show a) s = s
 does-sound (wrong h e) s = s
 
-pub serves-sound : {l : List ℕ} {before after : List ℤ} {page : List ℕ} {r : Service} → Serves l before after page r → Sound before → Sound after
-serves-sound d s = does-sound (d .done) s
+pub serves-sound : ServesSound
+serves-sound l before after page r d s = does-sound (d .done) s
+
+-- ---- a line that is kept, and one that is too long
+
+pub long-line : (l : List ℕ) (n : ℕ) → n ≡ 400001 → lineOf l n ≡ ascii "too long"
+unfolding lineOf
+long-line l n e = rw (eq-eqb n 400001 e) refl
+
+pub kept-line : (l : List ℕ) (n : ℕ) → (n ≡ 400001 → ⊥) → lineOf l n ≡ take n l
+unfolding lineOf
+kept-line l n e = rw (ne-eqb n 400001 e) refl
+
+module _ {l l′ : List ℕ} {before after : List ℤ} {page : List ℕ} {r : Service} where
+  pub serves-as : l ≡ l′ → Serves l before after page r → Serves l′ before after page r
+  serves-as e s = subst (λ (x : List ℕ). Serves x before after page r) e s
 
 -- ---- a text that is read
 
-pub read-sound : {t : List ℕ} {v : Verdict} {zs : List ℤ} → v ≡ Book → ReadsAs t v zs → Sound zs
-read-sound {t} {v} {zs} e r = writes-back t zs (subst (λ (x : Verdict). ReadsAs t x zs) e r) .0
+pub understood-sound : {h : Held} {text : List ℕ} {v : Verdict} {zs : List ℤ} → v ≡ Book → Understands h text v zs → Sound zs
+understood-sound e (no-file m) = sound-empty
+understood-sound {h} {text} {v} {zs} e (a-text m r) =
+    let t = take (h .count) text in writes-back t zs (subst (λ (x : Verdict). ReadsAs t x zs) e r) .0

@@ -1,48 +1,44 @@
-// Sittings of the bookkeeper: the book is taken in hand and read from its file, his lines are answered until one changes the book, and the changed book
-// is on disk before that answer is written. Then the next sitting begins.
+// A sitting of the bookkeeper: the book is taken in hand and read from its file, his lines are answered, and a book that a line has changed is on disk
+// before that line's answer is written.
 ghost use mathlib.Core.Path.{_≡_};
 ghost use mathlib.Core.Bool.{true};
 ghost use Prim.Native.Nat.{_≤_};
 ghost use lib.ListN.{length};
 ghost use Rattle.bookkeeping.specs.Runs.{emptyBook};
-ghost use Rattle.book_text.specs.Texts.{Sound};
-ghost use Rattle.input.specs.Sources.{InReach};
+ghost use Rattle.book_text.specs.Texts.{Sound, bookText};
+ghost use Rattle.counter.specs.Serving.{Serves};
+ghost use Rattle.sittings.specs.Sittings.{IsNewName, lineOf, Understands};
 use book_text::Verdict;
 use counter::Service;
 use input::Chunk;
 use input::Line;
-use input::Source;
+use keeping::Held;
 
-// What holds a book's text, and a byte more than the longest has.
+// What holds a book's text: the longest has some 5,000 bytes, and the proofs are content with more.
 type Text = [u8; 40000];
 
 // The answer to one line.
 pub type Page = [u8; 40000];
 
-// How far the sittings have come: the reading, whether a line was refused so far, and whether there is another sitting. Of a sitting in which the book
-// has changed: the answer is the page up to `end`.
-pub struct Sitting {
-    pub source: Source,
-    pub refused: bool,
-    pub end: usize,
-    pub more: bool,
+// What came of a line: whether all that is to be done was done, and whether the line was refused.
+struct Turn {
+    done: bool,
+    refused: bool,
 }
 
-// The last sitting.
-fn over(source: Source, refused: bool) -> Sitting
-    requires { ⌜ InReach source ⌝ }
-    ensures { λ r. ⌜ InReach (r .source) ⌝ }
-    ensures { λ r. ⌜ r .end ≡ 0 ⌝ }
+// Understands what was read of the book's file: one that is missing is the empty book.
+fn understand(held: Held, text: &[u8], table: &mut [i32]) -> Verdict
+    requires { ⌜ held .count ≤ length (now text) ⌝ }
+    requires { ⌜ now table ≡ emptyBook ⌝ }
+    ensures { λ r. ⌜ Understands held (now (text .entry)) r (now (table .exit)) ⌝ }
 {
-    Sitting {
-        source,
-        refused,
-        end: 0,
-        more: false,
+    if held.missing {
+        return Verdict::Book;
     }
+    book_text::read_book(&text[..held.count], table)
 }
 
-// Reads the book's file into an empty table, and says whether it is a book: one that is missing is the empty book. Else standard error says why not.
+// Reads the book's file into an empty table, and says whether it is a book. Else standard error says why not.
 fn load(file: &[u8], table: &mut [i32; 320]) -> bool
     requires { ⌜ now table ≡ emptyBook ⌝ }
     ensures { λ r. ⌜ (r ≡ true → Sound (now (table .exit))) ⌝ }
@@ -52,10 +48,7 @@ fn load(file: &[u8], table: &mut [i32; 320]) -> bool
     if held.failed {
         return false;
     }
-    if held.missing {
-        return true;
-    }
-    match book_text::read_book(&text[..held.count], table) {
+    match understand(held, &text, table) {
         Verdict::Book => true,
         Verdict::Faulty(line) => {
             streams::tell(file);
@@ -66,14 +59,23 @@ fn load(file: &[u8], table: &mut [i32; 320]) -> bool
     }
 }
 
-// Keeps the table in the book's file, which is in hand. It is a sound book, so its text will be read back as that book (law `ReadsBack` of book_text).
-fn save(new: &[u8], long: usize, to: i32, table: &[i32; 320]) -> bool
-    requires { ⌜ long ≤ length (now new) ⌝ }
+// Keeps the text of a table in the book's file, which is in hand. It is a sound book's, so it will be read back as that book (`ReadsBack` of book_text).
+fn keep_text(new: &[u8], long: usize, table: &[i32; 320], text: &[u8]) -> bool
+    requires { ⌜ IsNewName (now new) long ⌝ }
+    requires { ⌜ Sound (now table) ⌝ }
+    requires { ⌜ now text ≡ bookText (now table) ⌝ }
+{
+    keeping::keep(new, long, text)
+}
+
+// Keeps a table in the book's file.
+fn save(new: &[u8], long: usize, table: &[i32; 320]) -> bool
+    requires { ⌜ IsNewName (now new) long ⌝ }
     requires { ⌜ Sound (now table) ⌝ }
 {
     let mut text: Text = [0u8; 40000];
     let end = book_text::put_book(&mut text, table);
-    keeping::keep(new, long, to, &text[..end])
+    keep_text(new, long, table, &text[..end])
 }
 
 // Answers a line. One that is too long is no order.
@@ -81,9 +83,8 @@ fn answer(line: &[u8], have: usize, table: &mut [i32], page: &mut [u8]) -> Servi
     requires { ⌜ have ≤ length (now line) ⌝ }
     requires { ⌜ 320 ≡ length (now table) ⌝ }
     requires { ⌜ 40000 ≤ length (now page) ⌝ }
-    requires { ⌜ Sound (now table) ⌝ }
+    ensures { λ r. ⌜ Serves (lineOf (now (line .entry)) have) (now (table .entry)) (now (table .exit)) (now (page .exit)) r ⌝ }
     ensures { λ r. ⌜ r .end ≤ length (now (page .exit)) ⌝ }
-    ensures { λ r. ⌜ Sound (now (table .exit)) ⌝ }
 {
     if have == 400001 {
         return counter::serve(b"too long", table, page);
@@ -98,104 +99,100 @@ fn write_out(page: &[u8], end: usize) -> bool
     streams::write(&page[..end])
 }
 
-// Answers lines until one has changed the table: its answer is not written yet. Or there is no line any more, or an answer could not be written.
+// Answers a line: where it has changed the table, that is kept before its answer is written. Says whether both could be done, and whether the line was
+// refused.
+fn serve(
+    new: &[u8],
+    long: usize,
+    line: &[u8],
+    have: usize,
+    table: &mut [i32; 320],
+    page: &mut Page,
+) -> Turn
+    requires { ⌜ IsNewName (now new) long ⌝ }
+    requires { ⌜ have ≤ length (now line) ⌝ }
+    requires { ⌜ Sound (now table) ⌝ }
+    ensures { λ r. ⌜ Sound (now (table .exit)) ⌝ }
+{
+    let service = answer(line, have, table, page);
+    if service.changed {
+        if !save(new, long, table) {
+            return Turn {
+                done: false,
+                refused: false,
+            };
+        }
+    }
+    Turn {
+        done: write_out(page, service.end),
+        refused: service.refused,
+    }
+}
+
+// Answers the lines of standard input one after another, and says whether one was refused. It ends with the input, or where something failed.
 fn sit(
+    new: &[u8],
+    long: usize,
     chunk: &mut Chunk,
     line: &mut Line,
     table: &mut [i32; 320],
     page: &mut Page,
-    before: Sitting,
-) -> Sitting
-    requires { ⌜ InReach (before .source) ⌝ }
+) -> bool
+    requires { ⌜ IsNewName (now new) long ⌝ }
     requires { ⌜ Sound (now table) ⌝ }
-    ensures { λ r. ⌜ InReach (r .source) ⌝ }
-    ensures { λ r. ⌜ r .end ≤ 40000 ⌝ }
-    ensures { λ r. ⌜ Sound (now (table .exit)) ⌝ }
 {
-    let mut source = before.source;
-    let mut refused = before.refused;
+    let mut source = input::start();
+    let mut refused = false;
     let mut turns: u64 = 0;
     while turns < 0x4000_0000_0000_0000 {
         source = input::next_line(chunk, line, source);
         if !source.whole {
-            return over(source, refused);
+            break;
         }
-        let service = answer(line, source.have, table, page);
-        if service.changed {
-            return Sitting {
-                source,
-                refused,
-                end: service.end,
-                more: true,
-            };
-        }
-        if !write_out(page, service.end) {
-            return over(source, refused);
-        }
-        if service.refused {
+        let turn = serve(new, long, line, source.have, table, page);
+        if turn.refused {
             refused = true;
+        }
+        if !turn.done {
+            break;
         }
         turns += 1;
     }
-    over(source, refused)
+    refused
 }
 
-// One sitting.
-fn hold(
+// The sitting, with the book in hand.
+fn hold(new: &[u8], long: usize, chunk: &mut Chunk, line: &mut Line, page: &mut Page)
+    requires { ⌜ IsNewName (now new) long ⌝ }
+{
+    if !keeping::is_clear(new) {
+        return;
+    }
+    let mut table = [0i32; 320];
+    if !load(&new[..long], &mut table) {
+        return;
+    }
+    if sit(new, long, chunk, line, &mut table, page) {
+        streams::tell(b"not every line was done: its answer says why\n");
+    }
+}
+
+// Takes the book in hand, holds the sitting, and lets the book go. The names are lent: that of the file which says that the book is in hand, and that of
+// the new file, which begins with that of the book's own, so many bytes.
+pub fn keep_book(
+    busy: &[u8],
     new: &[u8],
     long: usize,
     chunk: &mut Chunk,
     line: &mut Line,
     page: &mut Page,
-    before: Sitting,
-) -> Sitting
-    requires { ⌜ long ≤ length (now new) ⌝ }
-    requires { ⌜ InReach (before .source) ⌝ }
-    ensures { λ r. ⌜ InReach (r .source) ⌝ }
+)
+    requires { ⌜ IsNewName (now new) long ⌝ }
 {
-    let to = keeping::take(new);
-    if to < 0 {
-        return over(before.source, before.refused);
+    let held = keeping::take(busy);
+    if held < 0 {
+        return;
     }
-    let mut table = [0i32; 320];
-    if !load(&new[..long], &mut table) {
-        keeping::leave(new, to);
-        return over(before.source, before.refused);
-    }
-    let after = sit(chunk, line, &mut table, page, before);
-    if !after.more {
-        keeping::leave(new, to);
-        return after;
-    }
-    if !save(new, long, to, &table) {
-        return over(after.source, after.refused);
-    }
-    if !write_out(page, after.end) {
-        return over(after.source, after.refused);
-    }
-    after
-}
-
-// Sittings one after another, until the input has ended or something failed.
-pub fn keep_book(new: &[u8], long: usize, chunk: &mut Chunk, line: &mut Line, page: &mut Page)
-    requires { ⌜ long ≤ length (now new) ⌝ }
-{
-    let source = input::start();
-    let mut sitting = Sitting {
-        source,
-        refused: false,
-        end: 0,
-        more: true,
-    };
-    let mut turns: u64 = 0;
-    while turns < 0x4000_0000_0000_0000 {
-        sitting = hold(new, long, chunk, line, page, sitting);
-        if !sitting.more {
-            break;
-        }
-        turns += 1;
-    }
-    if sitting.refused {
-        streams::tell(b"not every line was done: its answer says why\n");
-    }
+    hold(new, long, chunk, line, page);
+    keeping::leave(busy, held);
 }

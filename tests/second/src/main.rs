@@ -7,6 +7,16 @@
 //! second grid                 every grid number to millimetres, and those millimetres back
 //! second books SEED COUNT     runs of a strip book, and the longest book
 //! second check A B [INPUT]    the first line in which two files of answers differ
+//!
+//! Of the program `book`, which keeps a strip book in a file:
+//!
+//! second commands             lines for it, the same each time: two reasons to refuse at once, odd words in each place
+//! second commands SEED COUNT  lines for it, in runs that fill a renter's slots and empty them
+//! second keep FILE < INPUT    its answers, and the book kept in FILE as it keeps it; a line that is no command has `?` alone.
+//!                             The status is 1 where a line is refused or no command. Of a FILE that is no book's the
+//!                             first line from which on it is none is said on standard error, and the status is 3
+//! second damaged SEED COUNT FOLDER
+//!                             files 1 to COUNT there, and of each: its number, that line (0 for a book's), what befell it
 
 mod answer;
 mod batch;
@@ -16,6 +26,7 @@ mod check;
 mod cohen_sutherland;
 mod convex;
 mod cyrus_beck;
+mod disk;
 mod drawing;
 mod fraction;
 mod hull;
@@ -63,8 +74,16 @@ fn command(words: &[&str]) -> Result<ExitCode, String> {
         ["books", seed, count] => print(sweeps::books(number(seed)?, number(count)?)),
         ["check", a, b] => check(a, b, None),
         ["check", a, b, input] => check(a, b, Some(input)),
+        ["commands"] => print(cases::command_forms::lines().iter()),
+        ["commands", seed, count] => {
+            let list = cases::commands::list(number(seed)?, number(count)?);
+            done(io::stdout().write_all(&list))
+        }
+        ["keep", file] => keep(file),
+        ["damaged", seed, count, folder] => damaged(number(seed)?, number(count)?, folder),
         _ => Err(
-            "cases SEED COUNT, answers, floats STEP, grid, books SEED COUNT, check A B [INPUT]"
+            "cases SEED COUNT, answers, floats STEP, grid, books SEED COUNT, check A B [INPUT], \
+             commands [SEED COUNT], keep FILE, damaged SEED COUNT FOLDER"
                 .to_string(),
         ),
     }
@@ -81,10 +100,44 @@ fn cases(seed: &str, count: &str) -> Result<ExitCode, String> {
 }
 
 fn answers() -> Result<ExitCode, String> {
+    print(lines::lines(&input()?).into_iter().map(answer::answer))
+}
+
+fn input() -> Result<Vec<u8>, String> {
     let mut input = Vec::new();
     let read = io::stdin().read_to_end(&mut input);
     read.map_err(|fault| fault.to_string())?;
-    print(lines::lines(&input).into_iter().map(answer::answer))
+    Ok(input)
+}
+
+fn keep(file: &str) -> Result<ExitCode, String> {
+    let before = match std::fs::read(file) {
+        Err(fault) if fault.kind() == io::ErrorKind::NotFound => None,
+        read => Some(read.map_err(|fault| format!("{file}: {fault}"))?),
+    };
+    let sitting = match disk::keeping::sitting(before.as_deref(), &input()?) {
+        Ok(sitting) => sitting,
+        Err(line) => {
+            eprintln!("{line}");
+            return Ok(ExitCode::from(3));
+        }
+    };
+    if let Some(after) = sitting.text.filter(|after| Some(after) != before.as_ref()) {
+        std::fs::write(file, after).map_err(|fault| format!("{file}: {fault}"))?;
+    }
+    print(sitting.answers.iter())?;
+    Ok(ExitCode::from(u8::from(sitting.complained)))
+}
+
+fn damaged(seed: u64, count: usize, folder: &str) -> Result<ExitCode, String> {
+    let mut list = Vec::new();
+    for (k, (what, text)) in (1..).zip(cases::damage::texts(seed, count)) {
+        let file = format!("{folder}/{k}");
+        std::fs::write(&file, &text).map_err(|fault| format!("{file}: {fault}"))?;
+        let line = disk::text::read(&text).map_or_else(|line| line, |_| 0);
+        list.push(format!("{k} {line} {what}"));
+    }
+    print(list.iter())
 }
 
 fn print(lines: impl Iterator<Item = impl AsRef<[u8]>>) -> Result<ExitCode, String> {

@@ -1,7 +1,7 @@
--- The new file's name begins with the file's own.
+-- The names are parts of their places, and the new file's begins with the file's own.
 use mathlib.Core.Path.{sym}
-use native.Mathlib.Omega.{arith}
 use lib.Seq.{length-take-le}
+use Rattle.book.proofs.Names.{new-name}
 use borrow.Author.Needs.{needs}
 use Rattle.book.proofs.run.Statement.{statement}
 use Rattle.book.proofs.run.Tie as tie
@@ -42,19 +42,45 @@ slice-aggregate-put-4 c = search needs
 put-requires-2 : tie.Need-put-requires-2
 put-requires-2 c κs = search needs
 
-array-share-prefix-name : tie.Need-array-share-prefix-name
-array-share-prefix-name c = search needs
+slice-aggregate-put-5 : tie.Need-slice-aggregate-put-5
+slice-aggregate-put-5 c = search needs
+
+array-share-prefix-word-2 : tie.Need-array-share-prefix-word-2
+array-share-prefix-word-2 c = search needs
+
+slice-aggregate-put-6 : tie.Need-slice-aggregate-put-6
+slice-aggregate-put-6 c = search needs
+
+put-requires-3 : tie.Need-put-requires-3
+put-requires-3 c κs = search needs
+
+slice-aggregate-put-7 : tie.Need-slice-aggregate-put-7
+slice-aggregate-put-7 c = search needs
+
+slice-aggregate-put-8 : tie.Need-slice-aggregate-put-8
+slice-aggregate-put-8 c = search needs
+
+put-requires-4 : tie.Need-put-requires-4
+put-requires-4 c κs = search needs
+
+array-share-prefix-busy : tie.Need-array-share-prefix-busy
+array-share-prefix-busy c = search needs
 
 slice-aggregate-keep-book : tie.Need-slice-aggregate-keep-book
-slice-aggregate-keep-book c = sym (length-take-le _ _ (c .before .before .put2 .ensures .fits))
+slice-aggregate-keep-book c = sym (length-take-le _ _ (c .before .before .before .before .before .before .before .before .before .before .put2 .ensures .fits))
+
+array-share-prefix-new : tie.Need-array-share-prefix-new
+array-share-prefix-new c = search needs
+
+slice-aggregate-keep-book-2 : tie.Need-slice-aggregate-keep-book-2
+slice-aggregate-keep-book-2 c = sym (length-take-le _ _ (c .before .before .before .put4 .ensures .fits))
 
 keep-book-requires : tie.Need-keep-book-requires
 keep-book-requires c κs =
-    let q = c .before .before .before .before .before in
+    let q = c .before .before .before .before .before .before in
     let p = q .before .before .before .before in
-    let a = p .before .before .before .before .before in
-    let size = length-take-le (q .put2 .result) (q .put2 .last .0) (q .put2 .ensures .fits) in
-    omega (arith, size, q .put2 .ensures .ends, p .put .ensures .ends, a .arg .ensures .1)
+    let a = p .before .before .before .before .before .before .before .before .before .before .before .before .before in
+    new-name (a .arg .result) (a .arg .ensures .1) (p .put3 .ensures) (q .put4 .ensures)
 
 returns-2 : tie.Need-returns-2
 returns-2 c = search needs
@@ -75,7 +101,16 @@ run-spec =
     slice-aggregate-put-3
     slice-aggregate-put-4
     put-requires-2
-    array-share-prefix-name
+    slice-aggregate-put-5
+    array-share-prefix-word-2
+    slice-aggregate-put-6
+    put-requires-3
+    slice-aggregate-put-7
+    slice-aggregate-put-8
+    put-requires-4
+    array-share-prefix-busy
     slice-aggregate-keep-book
+    array-share-prefix-new
+    slice-aggregate-keep-book-2
     keep-book-requires
     returns-2)

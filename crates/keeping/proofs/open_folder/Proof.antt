@@ -18,7 +18,7 @@ returns : tie.Need-returns
 returns c = search needs
 
 slice-aggregate-open-read-2 : tie.Need-slice-aggregate-open-read-2
-slice-aggregate-open-read-2 c = sym (length-take-le _ _ (c .before .before .folder .ensures))
+slice-aggregate-open-read-2 c = sym (length-take-le _ _ (c .before .before .folder .ensures .within))
 
 open-read-requires-2 : tie.Need-open-read-requires-2
 open-read-requires-2 c κs = search needs

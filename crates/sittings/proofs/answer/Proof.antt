@@ -1,7 +1,7 @@
--- What comes of a line fits the page, and a sound book is left sound.
+-- What comes of a line fits the page.
 use mathlib.Core.Path.{sym}
 use lib.Seq.{length-take-le}
-use Rattle.sittings.proofs.Orders.{serves-fit, serves-sound}
+use Rattle.sittings.proofs.Orders.{serves-fit, serves-as, long-line, kept-line}
 use borrow.Author.Needs.{needs}
 use Rattle.sittings.proofs.answer.Statement.{statement}
 use Rattle.sittings.proofs.answer.Tie as tie
@@ -21,8 +21,8 @@ same-length-2 c = search needs
 returns : tie.Need-returns
 returns c =
     let s = c .before .before .before in
-    let a = s .before .before .before .before .before .before .before in
-    (serves-fit (s .serve .ensures), serves-sound (s .serve .ensures) (a .pre .1 .1 .1))
+    let i = s .before .before .before .before in
+    (serves-as (sym (long-line _ _ (i .if1 .taken))) (s .serve .ensures), serves-fit (s .serve .ensures))
 
 slice-aggregate-serve-2 : tie.Need-slice-aggregate-serve-2
 slice-aggregate-serve-2 c = sym (length-take-le _ _ (c .before .before .before .before .pre .0))
@@ -39,8 +39,8 @@ same-length-4 c = search needs
 returns-2 : tie.Need-returns-2
 returns-2 c =
     let s = c .before .before .before in
-    let a = s .before .before .before .before .before .before .before in
-    (serves-fit (s .serve2 .ensures), serves-sound (s .serve2 .ensures) (a .pre .1 .1 .1))
+    let i = s .before .before .before .before in
+    (serves-as (sym (kept-line _ _ (i .if1 .left))) (s .serve2 .ensures), serves-fit (s .serve2 .ensures))
 
 pub answer-spec : {M : Type 1} → statement M
 answer-spec =

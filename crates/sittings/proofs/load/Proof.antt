@@ -1,10 +1,6 @@
--- What is read as a book is a sound one, and so is the empty table.
-use mathlib.Core.Path.{_≡_, sym, subst}
-use lib.Seq.{length-take-le}
+-- What is understood as a book is a sound one.
 use Rattle.whole.proofs.Comparisons.{ff-tt}
-use Rattle.book_text.specs.Texts.{Sound}
-use Rattle.book_text.proofs.Theorems.{sound-empty}
-use Rattle.sittings.proofs.Orders.{read-sound}
+use Rattle.sittings.proofs.Orders.{understood-sound}
 use borrow.Author.Needs.{needs}
 use Rattle.sittings.proofs.load.Statement.{statement}
 use Rattle.sittings.proofs.load.Tie as tie
@@ -18,17 +14,11 @@ read-requires c κs = search needs
 returns : tie.Need-returns
 returns c = λ e. absurd (ff-tt e)
 
-returns-2 : tie.Need-returns-2
-returns-2 c = λ e. subst Sound (sym (c .before .before .before .before .before .before .pre)) sound-empty
+slice-aggregate-understand : tie.Need-slice-aggregate-understand
+slice-aggregate-understand c = search needs
 
-array-share-prefix-text : tie.Need-array-share-prefix-text
-array-share-prefix-text c = search needs
-
-slice-aggregate-read-book : tie.Need-slice-aggregate-read-book
-slice-aggregate-read-book c = sym (length-take-le _ _ (c .before .before .before .before .read .ensures))
-
-read-book-requires : tie.Need-read-book-requires
-read-book-requires c κs = search needs
+understand-requires : tie.Need-understand-requires
+understand-requires c κs = search needs
 
 enum-told : tie.Need-enum-told
 enum-told c = search needs
@@ -51,11 +41,11 @@ slice-aggregate-tell-2 c = search needs
 tell-requires-3 : tie.Need-tell-requires-3
 tell-requires-3 c κs = search needs
 
-returns-3 : tie.Need-returns-3
-returns-3 c = λ e. read-sound (c .enum-told .given .1) (c .before .before .read-book .ensures)
+returns-2 : tie.Need-returns-2
+returns-2 c = λ e. understood-sound (c .enum-told .given .1) (c .before .before .understand .ensures)
 
-returns-4 : tie.Need-returns-4
-returns-4 c = λ e. absurd (ff-tt e)
+returns-3 : tie.Need-returns-3
+returns-3 c = λ e. absurd (ff-tt e)
 
 pub load-spec : {M : Type 1} → statement M
 load-spec =
@@ -64,10 +54,8 @@ load-spec =
     slice-aggregate-read
     read-requires
     returns
-    returns-2
-    array-share-prefix-text
-    slice-aggregate-read-book
-    read-book-requires
+    slice-aggregate-understand
+    understand-requires
     enum-told
     enum-known-line
     tell-requires
@@ -75,5 +63,5 @@ load-spec =
     tell-requires-2
     slice-aggregate-tell-2
     tell-requires-3
-    returns-3
-    returns-4)
+    returns-2
+    returns-3)

@@ -1,4 +1,4 @@
--- The text that was put is a part of its place.
+-- The text that was put is the table's, and a part of its place.
 use mathlib.Core.Path.{sym}
 use lib.Seq.{length-take-le}
 use borrow.Author.Needs.{needs}
@@ -14,11 +14,11 @@ put-book-requires c κs = search needs
 array-share-prefix-text : tie.Need-array-share-prefix-text
 array-share-prefix-text c = search needs
 
-slice-aggregate-keep : tie.Need-slice-aggregate-keep
-slice-aggregate-keep c = sym (length-take-le _ _ (c .before .before .put-book .ensures .fits))
+slice-aggregate-keep-text : tie.Need-slice-aggregate-keep-text
+slice-aggregate-keep-text c = sym (length-take-le _ _ (c .before .before .put-book .ensures .fits))
 
-keep-requires : tie.Need-keep-requires
-keep-requires c κs = search needs
+keep-text-requires : tie.Need-keep-text-requires
+keep-text-requires c κs = search needs
 
 returns : tie.Need-returns
 returns c = search needs
@@ -30,6 +30,6 @@ save-spec =
     slice-aggregate-put-book
     put-book-requires
     array-share-prefix-text
-    slice-aggregate-keep
-    keep-requires
+    slice-aggregate-keep-text
+    keep-text-requires
     returns)

@@ -62,7 +62,7 @@ pub fn line(random: &mut Random) -> Vec<u8> {
 }
 
 /// Each half empty, full as far as there is place, or something between.
-fn half_full(random: &mut Random, ground: Ground) -> Book {
+pub fn half_full(random: &mut Random, ground: Ground) -> Book {
     let tenths = [(); 2].map(|_| random.pick(&[0, 1, 5, 9, 10, 10]));
     slots().fold(Book::empty(), |book, at| {
         if random.below(10) >= tenths[at[0]] {

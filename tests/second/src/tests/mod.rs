@@ -3,6 +3,10 @@
 mod agreement;
 mod books;
 mod desk;
+mod disk_numbers;
+mod disk_orders;
+mod disk_sittings;
+mod disk_texts;
 mod heard;
 mod passes;
 mod plain_list;
