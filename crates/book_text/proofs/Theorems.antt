@@ -2,7 +2,7 @@
 -- are told one after another. And a call changes one slot, which is in use then or holds five zeros.
 use mathlib.Core.Path.{_≡_, refl, sym, ap, subst}
 use mathlib.Core.List.{List}
-use Prim.Native.Nat.{ℕ}
+use Prim.Native.Nat.{ℕ, _+_}
 use native.Mathlib.Omega.{arith}
 use lib.IntN.{ℤ}
 use lib.ListN.{drop}
@@ -11,12 +11,13 @@ use Rattle.slots.specs.Slots.{slotOf, freeSlot}
 use Rattle.bookkeeping.specs.Runs.{Event, booking, release, listing, InBook}
 use Rattle.bookkeeping.proofs.Answers.{lent-by}
 use Rattle.bookkeeping.proofs.Steps.{slots-booked, slots-released, call-stays}
+use Rattle.row_reading.specs.Rows.{StandsAt}
 use Rattle.book_text.specs.Texts.{endText, bookText, Sound}
-use Rattle.book_text.specs.Readings.{Lines, ReadsAs, book, no-first, no-line}
+use Rattle.book_text.specs.Readings.{Lines, ReadsAs, book, no-first, no-line, behind}
 use Rattle.book_text.specs.Laws.{OneReading, ReadsBack, WritesBack, OneText, SoundEmpty, StaysSound}
 use Rattle.book_text.specs.declared.Verdict.{Verdict}
 use Rattle.book_text.specs.declared.Verdict.the-variants.{Book, Faulty}
-use Rattle.book_text.proofs.Lines.{no-end}
+use Rattle.book_text.proofs.Lines.{no-end, stands-last}
 use Rattle.book_text.proofs.Slots.{FreeAreZero, stay-zero}
 use Rattle.book_text.proofs.Written.{written, whole-text, empty-sound}
 use Rattle.book_text.proofs.Back.{read-back}
@@ -34,6 +35,7 @@ writes-back t zs r = go refl r
     go e (book l f) = (written l .sound, whole-text l f)
     go e (no-first n) = not-a-book 1 e
     go e (no-line {n = m} l never n) = not-a-book m e
+    go e (behind {n = m} l s n) = not-a-book (m + 1) e
 
 pub reads-back : ReadsBack
 reads-back zs s = read-back zs s
@@ -41,24 +43,40 @@ reads-back zs s = read-back zs s
 -- ---- one reading
 
 module _ (t : List ℕ) where
-  -- no line follows where the text ends
-  at-end : {n i next : ℕ} {zs : List ℤ} → Lines t n i next zs → drop i t ≡ endText → Last t i next zs
-  at-end {i = i} l e k w f = no-end t i (f .line) e
+  -- no strip's line follows where the last line stands
+  at-end : {n i next : ℕ} {zs : List ℤ} → Lines t n i next zs → StandsAt t i endText → Last t i next zs
+  at-end {i = i} l s k w f = no-end t i (f .line) s
 
-  not-both : {m n i j p q : ℕ} {ys zs : List ℤ} → Lines t m i p ys → drop i t ≡ endText
-      → Lines t n j q zs → Last t j q zs → (drop j t ≡ endText → ⊥) → ⊥
-  not-both l e r never n = n (subst (λ (x : ℕ). drop x t ≡ endText) (one-last t l (at-end l e) r never .1 .place) e)
+  ends-there : {n i next : ℕ} {zs : List ℤ} → Lines t n i next zs → drop i t ≡ endText → Last t i next zs
+  ends-there {i = i} l e = at-end l (stands-last t i e)
+
+  -- it stands there or not, and something follows it or not
+  stands-or-not : {m n i j p q : ℕ} {ys zs : List ℤ} → Lines t m i p ys → StandsAt t i endText
+      → Lines t n j q zs → Last t j q zs → (StandsAt t j endText → ⊥) → ⊥
+  stands-or-not l s r never n = n (subst (λ (x : ℕ). StandsAt t x endText) (one-last t l (at-end l s) r never .1 .place) s)
+
+  over-or-not : {m n i j p q : ℕ} {ys zs : List ℤ} → Lines t m i p ys → drop i t ≡ endText
+      → Lines t n j q zs → StandsAt t j endText → (drop j t ≡ endText → ⊥) → ⊥
+  over-or-not l e r s n = n (subst (λ (x : ℕ). drop x t ≡ endText) (one-last t l (ends-there l e) r (at-end r s) .1 .place) e)
 
   read-once : {a b : Verdict} {ys zs : List ℤ} → ReadsAs t a ys → ReadsAs t b zs → (a ≡ b) × (a ≡ Book → ys ≡ zs)
-  read-once (book l e) (book r f) = (refl, λ _. one-last t l (at-end l e) r (at-end r f) .1 .table)
+  read-once (book l e) (book r f) = (refl, λ _. one-last t l (ends-there l e) r (ends-there r f) .1 .table)
   read-once (book l e) (no-first n) = absurd (n (headed l))
-  read-once (book l e) (no-line r never n) = absurd (not-both l e r never n)
+  read-once (book {i = i} l e) (no-line r never n) = absurd (stands-or-not l (stands-last t i e) r never n)
+  read-once (book l e) (behind r s n) = absurd (over-or-not l e r s n)
   read-once (no-first n) (book r f) = absurd (n (headed r))
   read-once (no-first n) (no-first n′) = (refl, λ c. not-a-book 1 c)
   read-once (no-first n) (no-line r never n′) = absurd (n (headed r))
-  read-once (no-line l never n) (book r f) = absurd (not-both r f l never n)
+  read-once (no-first n) (behind r s n′) = absurd (n (headed r))
+  read-once (no-line l never n) (book {i = j} r f) = absurd (stands-or-not r (stands-last t j f) l never n)
   read-once (no-line l never n) (no-first n′) = absurd (n′ (headed l))
   read-once (no-line {n = m} l never n) (no-line r never′ n′) = (ap Faulty (one-last t l never r never′ .0), λ c. not-a-book m c)
+  read-once (no-line l never n) (behind r s n′) = absurd (stands-or-not r s l never n)
+  read-once (behind l s n) (book r f) = absurd (over-or-not r f l s n)
+  read-once (behind l s n) (no-first n′) = absurd (n′ (headed l))
+  read-once (behind l s n) (no-line r never n′) = absurd (stands-or-not l s r never n′)
+  read-once (behind {n = m} l s n) (behind r s′ n′) =
+      (ap (λ (x : ℕ). Faulty (x + 1)) (one-last t l (at-end l s) r (at-end r s′) .0), λ c. not-a-book (m + 1) c)
 
 pub one-reading : OneReading
 one-reading t a b ys zs r q = read-once t r q

@@ -4,7 +4,8 @@
 --   Lines t n i next zs   the lines of t before its line n, which starts at the place i, are a book's first line and lines of strips, each of which
 --                         follows those before it; zs is the table with these strips, and `next` the slot after the last of them
 --   ReadsAs t r zs        what `book_text::read_book` promises: r is Book, and then t is these lines and the last line, and zs the table with the
---                         strips; or r is the line at which t goes on in another way
+--                         strips; or r is the line at which t goes on in another way, which is the line behind the last one where something
+--                         follows it
 use mathlib.Core.Path.{_≡_}
 use mathlib.Core.Bool.{true}
 use mathlib.Core.List.{List}
@@ -35,4 +36,5 @@ pub data ReadsAs (t : List ℕ) : Verdict → List ℤ → Type 0 where
   book : {n i next : ℕ} {zs : List ℤ} → Lines t n i next zs → drop i t ≡ endText → ReadsAs t Book zs
   no-first : {zs : List ℤ} → (StandsAt t 0 headText → ⊥) → ReadsAs t (Faulty 1) zs
   no-line : {n i next : ℕ} {ys zs : List ℤ} → Lines t n i next ys → ((k : ℕ) (w : Window) → Follows t i next ys k w → ⊥)
-      → (drop i t ≡ endText → ⊥) → ReadsAs t (Faulty n) zs
+      → (StandsAt t i endText → ⊥) → ReadsAs t (Faulty n) zs
+  behind : {n i next : ℕ} {ys zs : List ℤ} → Lines t n i next ys → StandsAt t i endText → (drop i t ≡ endText → ⊥) → ReadsAs t (Faulty (n + 1)) zs

@@ -1,13 +1,13 @@
 // A strip book as text, which a person can read and a file can hold: it is put on a page, and read back.
 ghost use mathlib.Core.Path.{_≡_};
 ghost use Prim.Native.Nat.{_≤_, _<_};
-ghost use lib.ListN.{length, drop};
+ghost use lib.ListN.{length};
 ghost use Rattle.whole.specs.Choice.{Decides};
 ghost use Rattle.text.specs.Pages.{Put};
 ghost use Rattle.slots.specs.Slots.{isBook};
 ghost use Rattle.bookkeeping.specs.Runs.{emptyBook};
 ghost use Rattle.row_reading.specs.Rows.{StandsAt};
-ghost use Rattle.book_text.specs.Texts.{headText, endText, bookText, withStrip};
+ghost use Rattle.book_text.specs.Texts.{headText, bookText, withStrip};
 ghost use Rattle.book_text.specs.Readings.{ReadsAs};
 ghost use Rattle.book_text.specs.Workers.{EndsAs};
 use grid::Window;
@@ -17,7 +17,10 @@ use slots::Tested;
 // How many bytes the first line has.
 const HEAD: usize = 69;
 
-// What a text is found to be: a book's, or none, and then the first line from which on it is none.
+// How many bytes the last line has.
+const END: usize = 4;
+
+// What a text is found to be: a book's; or none, and then the first line at which it goes on as no book's does.
 pub enum Verdict {
     Book,
     Faulty(usize),
@@ -51,15 +54,24 @@ fn has_head(text: &[u8]) -> bool
     )
 }
 
-// What a text is found to be that has no strip's line at a place: a book's if it ends with the last line there.
+// What a text is found to be that has no strip's line at a place: a book's if the last line stands there and nothing behind it. If something does,
+// the last line itself is not at fault, but the one after it.
 fn ends_at(text: &[u8], at: usize, line: usize) -> Verdict
     requires { ⌜ at ≤ length (now text) ⌝ }
-    ensures { λ r. ⌜ EndsAs (drop at (now (text .entry)) ≡ endText) line r ⌝ }
+    requires { ⌜ line ≤ 66 ⌝ }
+    ensures { λ r. ⌜ EndsAs (now (text .entry)) at line r ⌝ }
 {
-    if check::same(&text[at..], b"end\n") {
-        return Verdict::Book;
+    let left = text.len() - at;
+    if left < END {
+        return Verdict::Faulty(line);
     }
-    Verdict::Faulty(line)
+    if !check::same(&text[at..at + END], b"end\n") {
+        return Verdict::Faulty(line);
+    }
+    if END < left {
+        return Verdict::Faulty(line + 1);
+    }
+    Verdict::Book
 }
 
 // Puts a strip in the slot k, and says whether the table is a book then.

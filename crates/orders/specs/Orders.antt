@@ -71,7 +71,7 @@ pub record Unknown (w : List ℕ) : Type 0 where
   pub not-strips : w ≡ ascii "strips" → ⊥
   pub not-show : w ≡ ascii "show" → ⊥
 
--- The first word says which cases there are; of a command's two, one is what the other denies.
+-- The first word says which cases there are: a command has two, that its words follow or that they do not.
 pub data Orders (l : List ℕ) : Order → Type 0 where
   blank : wordAfter l 0 ≡ [] → Orders l Order.Blank
   unknown : (wordAfter l 0 ≡ [] → ⊥) → Unknown (wordAfter l 0) → Orders l (Order.Wrong Fault.Word)

@@ -86,7 +86,7 @@ fn over(line: &[u8], from: usize) -> bool
 }
 
 // Reads a line whose first word is book.
-fn read_book(line: &[u8], from: usize) -> Order
+fn read_booking(line: &[u8], from: usize) -> Order
     requires { ⌜ Begins (now line) (ascii "book") from ⌝ }
     ensures { λ r. ⌜ Orders (now (line .entry)) r ⌝ }
 {
@@ -190,7 +190,7 @@ fn read_words(line: &[u8]) -> Order
         return Order::Blank;
     }
     match command_of(&line[start..end]) {
-        Command::Book => read_book(line, end),
+        Command::Book => read_booking(line, end),
         Command::Release => read_release(line, end),
         Command::Strips => read_strips(line, end),
         Command::Show => read_show(line, end),

@@ -3,8 +3,8 @@
 --   slotArt r zs k      the strip in the renter's slot k, counted from 0 for each of them; nothing where the slot is free
 --   slotArts r zs n     the strips in his first n slots
 --   look r              his colours: dark blue with plain lines, or brown on amber with dashed lines, which differ on a grey printer too
---   sampleTop r         how far below the middle of the table the sample of his colours begins: 6 hundredths of the table's width below the table, and
---                       4.5 hundredths more for renter 1
+--   sampleTop r         how far below the middle of the table the sample of his colours begins: about 6 hundredths of the table's width below the
+--                       table, and 4.5 hundredths more for renter 1
 --   groupStart r        the start of the group in which his strips stand, in his colours and with lines 1 mm wide; and in it the sample, which the
 --                       legend explains: 62 hundredths of the table's width from its left side, 5 wide and 3 high
 --   renterArt r zs      the group: the sample, and the strips of his 32 slots

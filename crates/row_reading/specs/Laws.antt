@@ -1,5 +1,5 @@
 -- A law of a strip's line, proved in proofs/Unique.antt.
---   OneRow   one line is the line of one strip in one slot: no two strips and no two slots have the same
+--   OneRow   a line that is not the text's first is the line of one strip in one slot: no two strips and no two slots have the same
 use mathlib.Core.Path.{_≡_}
 use mathlib.Core.List.{List}
 use Prim.Native.Nat.{ℕ, _≤_}

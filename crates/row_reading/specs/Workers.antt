@@ -1,5 +1,5 @@
--- What the workers behind the finding of a line promise each other. The first two promise something only of numbers that are a strip's: whatever they
--- say of others, the comparison finds that the line is none.
+-- What the workers behind the finding of a line promise each other. What `read_six` and `row_of` find matters only where a strip's line stands there:
+-- whatever they find elsewhere, the comparison shows that the line is none.
 --   rowNumbers k w      the six numbers of a line: the renter, his slot, and the strip's own
 --   NumbersAt t i ns r   of a line that stands at the place i, `read_six` reads the six numbers
 --   RowOf ns r          of six numbers that are a strip's, `row_of` says which; and whatever it says is a slot of the table and a good strip

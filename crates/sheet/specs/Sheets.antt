@@ -1,6 +1,6 @@
 -- What becomes of a text.
---   Draws t page r   what `draw` promises: the text t is that of a book, and its sheet is the page up to where r says; or r is the line from which on t is
---                    no book's
+--   Draws t page r   what `draw` promises: the text t is that of a book, and its sheet is the page up to where r says; or r is the first line at which t is
+--                    not a book's
 use mathlib.Core.Path.{_≡_}
 use mathlib.Core.List.{List}
 use Prim.Native.Nat.{ℕ, _≤_}

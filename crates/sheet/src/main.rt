@@ -6,7 +6,7 @@ ghost use Rattle.bookkeeping.specs.Runs.{emptyBook};
 ghost use Rattle.sheet.specs.Sheets.{Draws};
 use book_text::Verdict;
 
-// What became of a text: where its sheet ends on the page, or the line that is not a strip book's.
+// What became of a text: where its sheet ends on the page, or the first line at which it is not a strip book's.
 enum Drawn {
     Sheet(usize),
     Faulty(usize),

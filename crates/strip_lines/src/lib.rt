@@ -1,4 +1,4 @@
-// A strip's line, as the book's file and the bookkeeper's answers have it: 0 3 0 0 640 320 = 0 0 20 10 mm. It is put on a page, and found in a text.
+// A strip's line, or row, as the book's file and the bookkeeper's answers have it: 0 3 0 0 640 320 = 0 0 20 10 mm.
 ghost use Prim.Native.Nat.{_+_, _≤_, _<_};
 ghost use lib.ListN.{length};
 ghost use Rattle.text.specs.Pages.{Put};

@@ -1,6 +1,6 @@
 -- The lines so far are a book's, and so is the table; a line that does not follow them is the only one that could.
 use mathlib.Core.Path.{_≡_, refl, sym, ap, _∙_, subst}
-use Prim.Native.Nat.{_+_, _-_, _≤_, _<_}
+use Prim.Native.Nat.{_+_, _-_, _≤_}
 use native.Mathlib.Omega.{arith}
 use borrow.Author.Needs.{needs}
 use borrow.Author.Tests.{not-true, not-false}
@@ -11,7 +11,7 @@ use Rattle.row_reading.specs.Rows.{RowAt}
 use Rattle.row_reading.proofs.Unique.{row-long, stands-within}
 use Rattle.book_text.specs.Texts.{headText}
 use Rattle.book_text.specs.Readings.{Lines, first, one-more, no-first, no-line}
-use Rattle.book_text.proofs.Lines.{is-row, no-row, row-within, no-end, text-over, no-end-over, too-early, no-book, empty-long, with-long, ended}
+use Rattle.book_text.proofs.Lines.{is-row, no-row, row-within, no-end, text-over, no-room, too-early, no-book, empty-long, with-long, ended}
 use Rattle.book_text.proofs.read_book.Statement.{statement}
 use Rattle.book_text.proofs.read_book.Tie as tie
 
@@ -56,7 +56,7 @@ enum-told : tie.Need-enum-told Inv-loop μ-loop
 enum-told c = search needs
 
 ends-at-requires : tie.Need-ends-at-requires Inv-loop μ-loop
-ends-at-requires c κs = c .before .before .before .before .loop .inv .1
+ends-at-requires c κs = let i = c .before .before .before .before .loop .inv in (i .1, omega (arith, i .2, i .3))
 
 same-length : tie.Need-same-length Inv-loop μ-loop
 same-length c = c .before .before .before .before .before .loop .inv .4 ∙ sym (empty-length (c .before .before .before .before .before .before .before .before .before))
@@ -145,8 +145,9 @@ same-length-4 c = c .before .loop .inv .4 ∙ sym (empty-length (c .before .befo
 
 returns-5 : tie.Need-returns-5 Inv-loop μ-loop
 returns-5 c =
+    let text = now (c .before .before .before .before .before .args .text) in
     let l = c .before .loop in
-    no-line (l .inv .5) (text-over _ _ (c .loop-test .left) _ _) (no-end-over _ _ (c .loop-test .left))
+    no-line (l .inv .5) (text-over _ _ (c .loop-test .left) _ _) (no-room text (l .at) (omega (arith, c .loop-test .left)))
 
 pub read-book-spec : {M : Type 1} → statement M
 read-book-spec =

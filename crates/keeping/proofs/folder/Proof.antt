@@ -43,8 +43,7 @@ loop-less c = search needs
 loop-again : tie.Need-loop-again Inv-loop μ-loop
 loop-again c =
     let l = c .before .before .before .loop in
-    let t = c .before .before .loop-test .taken in
-    (
+    let t = c .before .before .loop-test .taken in (
       omega (arith, l .inv .0),
       λ j h i e. ⊎-elim
           (λ (p : l .end - 1 ≡ j). c .if1 .left (ap (λ (k : ℕ). getD (now (c .before .before .before .before .args .file)) k 0) p ∙ e))

@@ -57,8 +57,8 @@ command-of-requires c κs = search needs
 enum-told : tie.Need-enum-told
 enum-told c = search needs
 
-read-book-requires : tie.Need-read-book-requires
-read-book-requires c κs = begun (c .before .before) (named (c .before .before) (c .enum-told .given .1))
+read-booking-requires : tie.Need-read-booking-requires
+read-booking-requires c κs = begun (c .before .before) (named (c .before .before) (c .enum-told .given .1))
 
 enum-told-2 : tie.Need-enum-told-2
 enum-told-2 c = search needs
@@ -111,7 +111,7 @@ read-words-spec =
     part-command-of-end
     command-of-requires
     enum-told
-    read-book-requires
+    read-booking-requires
     enum-told-2
     read-release-requires
     enum-told-3

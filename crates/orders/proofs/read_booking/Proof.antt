@@ -1,4 +1,4 @@
--- `orders::read_book` meets its contract: a whole number and four lengths follow and nothing more, or the first that fails shows it. Assumes nothing.
+-- `orders::read_booking` meets its contract: a whole number and four lengths follow and nothing more, or the first that fails shows it. Assumes nothing.
 use mir.Syntax.{w32}
 use mir.Facts.{toZ-ofZ}
 use borrow.Author.Tests.{not-true, not-false}
@@ -9,8 +9,8 @@ use Rattle.orders.specs.declared.Whole.the-variants as Whole
 use Rattle.orders.specs.declared.Length.the-variants as Length
 use Rattle.orders.proofs.Readings.{whole-at, length-at, is-over, not-over}
 use borrow.Author.Needs.{needs}
-use Rattle.orders.proofs.read_book.Statement.{statement}
-use Rattle.orders.proofs.read_book.Tie as tie
+use Rattle.orders.proofs.read_booking.Statement.{statement}
+use Rattle.orders.proofs.read_booking.Tie as tie
 
 -- ---- where it all began, from each word that was read
 
@@ -153,8 +153,8 @@ returns-7 c =
       over = is-over _ 6 (top t .1) (c .before .over .ensures) (not-false _ (c .if1 .left));
     }))
 
-pub read-book-spec : {M : Type 1} → statement M
-read-book-spec =
+pub read-booking-spec : {M : Type 1} → statement M
+read-booking-spec =
     tie.close
     (tie.spec
     whole-from-requires
