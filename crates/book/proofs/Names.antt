@@ -6,7 +6,7 @@ use native.Mathlib.Omega.{arith}
 use lib.ListN.{length, take, drop, length-append}
 use lib.Seq.{drop-at, length-take-le}
 use Rattle.text.specs.Pages.{Put, ascii}
-use Rattle.sittings.specs.Sittings.{IsNewName}
+use Rattle.storing.specs.Storing.{IsNewName}
 
 pub new-name : {a b c word : List ℕ} {middle end : ℕ} (long : ℕ) → long ≡ length word → Put a b 0 middle word → Put b c middle end (ascii ".new")
     → IsNewName (take end c) long

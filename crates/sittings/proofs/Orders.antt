@@ -10,14 +10,10 @@ use Rattle.intake.specs.declared.WindowMm.{WindowMm}
 use Rattle.clerk.specs.Commands.{BooksAs}
 use Rattle.bookkeeping.specs.Runs as Runs
 use Rattle.book_text.specs.Texts.{Sound}
-use Rattle.book_text.specs.Readings.{ReadsAs}
-use Rattle.book_text.specs.declared.Verdict.{Verdict}
-use Rattle.book_text.specs.declared.Verdict.the-variants.{Book}
-use Rattle.book_text.proofs.Theorems.{writes-back, stays-sound, sound-empty}
-use Rattle.keeping.specs.declared.Held.{Held}
+use Rattle.book_text.proofs.Theorems.{stays-sound}
 use Rattle.text.specs.Pages.{ascii}
 use Rattle.sittings.specs.Laws.{ServesSound}
-use Rattle.sittings.specs.Sittings.{lineOf, Understands, no-file, a-text}
+use Rattle.sittings.specs.Sittings.{lineOf}
 use Rattle.orders.specs.declared.Order.{Order}
 use Rattle.counter.specs.Serving.{Does, blank, book, release, strips, show, wrong, Serves}
 use Rattle.counter.specs.declared.Service.{Service}
@@ -67,10 +63,3 @@ kept-line l n e = rw (ne-eqb n 400001 e) refl
 module _ {l l′ : List ℕ} {before after : List ℤ} {page : List ℕ} {r : Service} where
   pub serves-as : l ≡ l′ → Serves l before after page r → Serves l′ before after page r
   serves-as e s = subst (λ (x : List ℕ). Serves x before after page r) e s
-
--- ---- a text that is read
-
-pub understood-sound : {h : Held} {text : List ℕ} {v : Verdict} {zs : List ℤ} → v ≡ Book → Understands h text v zs → Sound zs
-understood-sound e (no-file m) = sound-empty
-understood-sound {h} {text} {v} {zs} e (a-text m r) =
-    let t = take (h .count) text in writes-back t zs (subst (λ (x : Verdict). ReadsAs t x zs) e r) .0

@@ -1,21 +1,15 @@
 // A sitting of the bookkeeper: the book is taken in hand and read from its file, his lines are answered, and a book that a line has changed is on disk
 // before that line's answer is written.
 ghost use mathlib.Core.Path.{_≡_};
-ghost use mathlib.Core.Bool.{true};
 ghost use Prim.Native.Nat.{_≤_};
 ghost use lib.ListN.{length};
-ghost use Rattle.bookkeeping.specs.Runs.{emptyBook};
-ghost use Rattle.book_text.specs.Texts.{Sound, bookText};
+ghost use Rattle.book_text.specs.Texts.{Sound};
 ghost use Rattle.counter.specs.Serving.{Serves};
-ghost use Rattle.sittings.specs.Sittings.{IsNewName, lineOf, Understands};
-use book_text::Verdict;
+ghost use Rattle.storing.specs.Storing.{IsNewName};
+ghost use Rattle.sittings.specs.Sittings.{lineOf};
 use counter::Service;
 use input::Chunk;
 use input::Line;
-use keeping::Held;
-
-// What holds a book's text: the longest has some 5,000 bytes, and the proofs are content with more.
-type Text = [u8; 40000];
 
 // The answer to one line.
 pub type Page = [u8; 40000];
@@ -24,58 +18,6 @@ pub type Page = [u8; 40000];
 struct Turn {
     done: bool,
     refused: bool,
-}
-
-// Understands what was read of the book's file: one that is missing is the empty book.
-fn understand(held: Held, text: &[u8], table: &mut [i32]) -> Verdict
-    requires { ⌜ held .count ≤ length (now text) ⌝ }
-    requires { ⌜ now table ≡ emptyBook ⌝ }
-    ensures { λ r. ⌜ Understands held (now (text .entry)) r (now (table .exit)) ⌝ }
-{
-    if held.missing {
-        return Verdict::Book;
-    }
-    book_text::read_book(&text[..held.count], table)
-}
-
-// Reads the book's file into an empty table, and says whether it is a book. Else standard error says why not.
-fn load(file: &[u8], table: &mut [i32; 320]) -> bool
-    requires { ⌜ now table ≡ emptyBook ⌝ }
-    ensures { λ r. ⌜ (r ≡ true → Sound (now (table .exit))) ⌝ }
-{
-    let mut text: Text = [0u8; 40000];
-    let held = keeping::read(file, &mut text);
-    if held.failed {
-        return false;
-    }
-    match understand(held, &text, table) {
-        Verdict::Book => true,
-        Verdict::Faulty(line) => {
-            streams::tell(file);
-            streams::tell(b": ");
-            faults::tell(line, b"; the file is left alone\n");
-            false
-        }
-    }
-}
-
-// Keeps the text of a table in the book's file, which is in hand. It is a sound book's, so it will be read back as that book (`ReadsBack` of book_text).
-fn keep_text(new: &[u8], long: usize, table: &[i32; 320], text: &[u8]) -> bool
-    requires { ⌜ IsNewName (now new) long ⌝ }
-    requires { ⌜ Sound (now table) ⌝ }
-    requires { ⌜ now text ≡ bookText (now table) ⌝ }
-{
-    keeping::keep(new, long, text)
-}
-
-// Keeps a table in the book's file.
-fn save(new: &[u8], long: usize, table: &[i32; 320]) -> bool
-    requires { ⌜ IsNewName (now new) long ⌝ }
-    requires { ⌜ Sound (now table) ⌝ }
-{
-    let mut text: Text = [0u8; 40000];
-    let end = book_text::put_book(&mut text, table);
-    keep_text(new, long, table, &text[..end])
 }
 
 // Answers a line. One that is too long is no order.
@@ -116,7 +58,7 @@ fn serve(
 {
     let service = answer(line, have, table, page);
     if service.changed {
-        if !save(new, long, table) {
+        if !storing::save(new, long, table) {
             return Turn {
                 done: false,
                 refused: false,
@@ -169,7 +111,7 @@ fn hold(new: &[u8], long: usize, chunk: &mut Chunk, line: &mut Line, page: &mut 
         return;
     }
     let mut table = [0i32; 320];
-    if !load(&new[..long], &mut table) {
+    if !storing::load(&new[..long], &mut table) {
         return;
     }
     if sit(new, long, chunk, line, &mut table, page) {

@@ -59,7 +59,9 @@ ends-at-requires : tie.Need-ends-at-requires Inv-loop μ-loop
 ends-at-requires c κs = let i = c .before .before .before .before .loop .inv in (i .1, omega (arith, i .2, i .3))
 
 same-length : tie.Need-same-length Inv-loop μ-loop
-same-length c = c .before .before .before .before .before .loop .inv .4 ∙ sym (empty-length (c .before .before .before .before .before .before .before .before .before))
+same-length c =
+    let l = c .before .before .before .before .before in
+    l .loop .inv .4 ∙ sym (empty-length (l .before .before .before .before))
 
 returns-2 : tie.Need-returns-2 Inv-loop μ-loop
 returns-2 c =
@@ -68,7 +70,9 @@ returns-2 c =
     ended (l .inv .5) (no-row _ _ (subst (RowAt _ _) (c .before .enum-told .given .1) (r .row-at .ensures)) _ _) (c .ends-at .ensures)
 
 same-length-2 : tie.Need-same-length-2 Inv-loop μ-loop
-same-length-2 c = c .before .before .before .before .before .before .loop .inv .4 ∙ sym (empty-length (c .before .before .before .before .before .before .before .before .before .before))
+same-length-2 c =
+    let l = c .before .before .before .before .before .before in
+    l .loop .inv .4 ∙ sym (empty-length (l .before .before .before .before))
 
 returns-3 : tie.Need-returns-3 Inv-loop μ-loop
 returns-3 c =
@@ -90,7 +94,8 @@ same-length-3 c =
     let e = c .before .before in
     let l = e .before .before .before .before .before .before .before .before .loop in
     let m = e .before .before .before .before in
-    ap length (e .enter .ensures .0) ∙ with-long (l .book) (m .k .given .0 .0) (m .k .given .0 .1 .0) ∙ l .inv .4 ∙ sym (empty-length (e .before .before .before .before .before .before .before .before .before .before .before .before))
+    let s = e .before .before .before .before .before .before .before .before .before .before .before .before in
+    ap length (e .enter .ensures .0) ∙ with-long (l .book) (m .k .given .0 .0) (m .k .given .0 .1 .0) ∙ l .inv .4 ∙ sym (empty-length s)
 
 returns-4 : tie.Need-returns-4 Inv-loop μ-loop
 returns-4 c =

@@ -2,8 +2,8 @@
 use mathlib.Core.Path.{sym}
 use lib.Seq.{length-take-le}
 use borrow.Author.Needs.{needs}
-use Rattle.sittings.proofs.save.Statement.{statement}
-use Rattle.sittings.proofs.save.Tie as tie
+use Rattle.storing.proofs.save.Statement.{statement}
+use Rattle.storing.proofs.save.Tie as tie
 
 slice-aggregate-put-book : tie.Need-slice-aggregate-put-book
 slice-aggregate-put-book c = search needs

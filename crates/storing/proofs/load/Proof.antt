@@ -1,9 +1,9 @@
 -- What is understood as a book is a sound one.
 use Rattle.whole.proofs.Comparisons.{ff-tt}
-use Rattle.sittings.proofs.Orders.{understood-sound}
+use Rattle.storing.proofs.Loading.{understood-sound}
 use borrow.Author.Needs.{needs}
-use Rattle.sittings.proofs.load.Statement.{statement}
-use Rattle.sittings.proofs.load.Tie as tie
+use Rattle.storing.proofs.load.Statement.{statement}
+use Rattle.storing.proofs.load.Tie as tie
 
 slice-aggregate-read : tie.Need-slice-aggregate-read
 slice-aggregate-read c = search needs

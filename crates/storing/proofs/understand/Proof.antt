@@ -2,10 +2,10 @@
 use mathlib.Core.Path.{_≡_, sym, subst}
 use lib.Seq.{length-take-le}
 use Rattle.book_text.specs.declared.Verdict.the-variants.{Book}
-use Rattle.sittings.specs.Sittings.{Understands, no-file, a-text}
+use Rattle.storing.specs.Storing.{Understands, no-file, a-text}
 use borrow.Author.Needs.{needs}
-use Rattle.sittings.proofs.understand.Statement.{statement}
-use Rattle.sittings.proofs.understand.Tie as tie
+use Rattle.storing.proofs.understand.Statement.{statement}
+use Rattle.storing.proofs.understand.Tie as tie
 
 returns : tie.Need-returns
 returns c = subst (Understands _ _ Book) (sym (c .before .before .pre .1)) (no-file (c .if1 .taken))
