@@ -66,6 +66,18 @@ pub fn is_clear(new: &[u8]) -> bool {
     false
 }
 
+// A file that could not be read, or that the disk does not say it holds: standard error says why, and nothing is to be answered from it.
+fn not_read(file: &[u8]) -> Held
+    ensures { λ r. ⌜ r .count ≡ 0 ⌝ }
+{
+    os::fail(file);
+    Held {
+        count: 0,
+        missing: false,
+        failed: true,
+    }
+}
+
 // Why a file could not be opened: there is none, or standard error says it.
 fn unopened(file: &[u8]) -> Held
     ensures { λ r. ⌜ r .count ≡ 0 ⌝ }
@@ -77,29 +89,7 @@ fn unopened(file: &[u8]) -> Held
             failed: false,
         };
     }
-    os::fail(file);
-    Held {
-        count: 0,
-        missing: false,
-        failed: true,
-    }
-}
-
-// Reads a file until it ends or buf is full.
-pub fn read(file: &[u8], buf: &mut [u8]) -> Held
-    ensures { λ r. ⌜ r .count ≤ length (now (buf .exit)) ⌝ }
-{
-    let from = os::open_read(file);
-    if from < 0 {
-        return unopened(file);
-    }
-    let taken = streams::read_file(from, buf);
-    libc::close(from);
-    Held {
-        count: taken.count,
-        missing: false,
-        failed: taken.failed,
-    }
+    not_read(file)
 }
 
 // How many bytes of a file's name are its folder's: up to the last slash, and that too; none where it has no slash.
@@ -134,6 +124,31 @@ fn sync_folder(file: &[u8]) -> bool {
     let done = libc::fsync(at);
     libc::close(at);
     done == 0
+}
+
+// Reads a file until it ends or buf is full, and has the disk hold it under its name: a program that was stopped may have written it and not seen to
+// that, and what is answered from it must not be lost.
+pub fn read(file: &[u8], buf: &mut [u8]) -> Held
+    ensures { λ r. ⌜ r .count ≤ length (now (buf .exit)) ⌝ }
+{
+    let from = os::open_read(file);
+    if from < 0 {
+        return unopened(file);
+    }
+    let taken = streams::read_file(from, buf);
+    let held = libc::fsync(from);
+    libc::close(from);
+    if held != 0 {
+        return not_read(file);
+    }
+    if !sync_folder(file) {
+        return not_read(file);
+    }
+    Held {
+        count: taken.count,
+        missing: false,
+        failed: taken.failed,
+    }
 }
 
 // Writes a whole text to a file, has the disk hold it, closes the file, and says whether all of that could be done.
