@@ -1,4 +1,5 @@
-/* The order of the system calls of `book`: FILE.busy is made first and removed last, and the disk holds each change before it is answered. */
+/* The order of the system calls of `book`: FILE.busy is made first and removed last, and the disk holds what was found, and each change, before it is
+   answered. */
 #include "tests.h"
 #include "tracing.h"
 
@@ -9,18 +10,21 @@
 #include <sys/syscall.h>
 #include <unistd.h>
 
-/* Where a change stands: what was done to FILE.new since it was made, and to the folder since the last renaming; and FILE.busy. */
+/* Where a change stands: what was done to FILE.new since it was made, and to the folder since the last renaming; FILE.busy; and what was done to FILE
+   and to the folder since FILE was found at the start. */
 enum making { NOT_MADE, MADE, WRITTEN, HELD };
 enum naming { NOT_NAMED, NAMED, FOLDER_OPEN, FOLDER_HELD };
 enum locking { NOT_YET, BUSY, NO_MORE };
+enum finding { NOT_FOUND, FOUND, FOUND_HELD, FOUND_IN_FOLDER, ALL_HELD };
 
-/* What was seen of a program that is traced: the descriptors of FILE.new and of the folder, or -1, and the changes that were named. */
+/* What was seen of a program that is traced: the descriptors of FILE, of FILE.new and of the folder, or -1, and the changes that were named. */
 struct seen {
     const struct traced *traced;
-    int new_open, folder_open, changes;
+    int file_open, new_open, folder_open, changes;
     enum making making;
     enum naming naming;
     enum locking locking;
+    enum finding finding;
 };
 
 /* The file that a descriptor of the program stands for. */
@@ -30,6 +34,12 @@ static void file_of(const struct traced *traced, unsigned long long descriptor, 
     snprintf(place, sizeof place, "/proc/%d/fd/%llu", traced->child.id, descriptor);
     got = readlink(place, name, room - 1);
     name[got < 0 ? 0 : got] = 0;
+}
+
+static void folder_opened(struct seen *seen, int descriptor) {
+    seen->folder_open = descriptor;
+    if (seen->naming == NAMED) seen->naming = FOLDER_OPEN;
+    if (seen->finding == FOUND_HELD) seen->finding = FOUND_IN_FOLDER;
 }
 
 static int opened(struct seen *seen, unsigned long long flags) {
@@ -50,10 +60,8 @@ static int opened(struct seen *seen, unsigned long long flags) {
         seen->new_open = descriptor;
     }
     if (strcmp(name, file) == 0 && to_write) return wrong("FILE itself is opened to be written");
-    if (strcmp(name, folder) == 0 && seen->naming == NAMED) {
-        seen->naming = FOLDER_OPEN;
-        seen->folder_open = descriptor;
-    }
+    if (strcmp(name, file) == 0) seen->finding = FOUND, seen->file_open = descriptor;
+    if (strcmp(name, folder) == 0) folder_opened(seen, descriptor);
     return 1;
 }
 
@@ -68,9 +76,12 @@ static int written(struct seen *seen) {
 }
 
 static void held(struct seen *seen) {
-    const struct traced *traced = seen->traced;
-    if ((int)traced->call.rdi == seen->new_open && seen->making == WRITTEN) seen->making = HELD;
-    else if ((int)traced->call.rdi == seen->folder_open && seen->naming == FOLDER_OPEN) seen->naming = FOLDER_HELD;
+    int descriptor = (int)seen->traced->call.rdi;
+    if (descriptor == seen->new_open && seen->making == WRITTEN) seen->making = HELD;
+    if (descriptor == seen->file_open && seen->finding == FOUND) seen->finding = FOUND_HELD;
+    if (descriptor != seen->folder_open) return;
+    if (seen->naming == FOLDER_OPEN) seen->naming = FOLDER_HELD;
+    if (seen->finding == FOUND_IN_FOLDER) seen->finding = ALL_HELD;
 }
 
 /* At the entry of a call that names a file: FILE and FILE.new are touched, or looked at, only while FILE.busy is there, and it is removed last. */
@@ -114,6 +125,7 @@ static int about_to_answer(struct seen *seen) {
     while (i < script->count && (i == 0 ? 0 : script->answer_end[i - 1]) < traced->heard.length) i++;
     if (i == script->count || (i == 0 ? 0 : script->answer_end[i - 1]) != traced->heard.length) return 1;
     if (seen->locking != BUSY) return wrong("command %d is answered without FILE.busy", i + 1);
+    if (seen->finding != NOT_FOUND && seen->finding != ALL_HELD) return wrong("command %d is answered before the disk holds what was found", i + 1);
     if (seen->making != NOT_MADE) return wrong("FILE.new is made before command %d is answered, and not renamed", i + 1);
     if (!script->changed[i]) return seen->naming == NOT_NAMED || wrong("a change is made for command %d, which is none", i + 1);
     if (seen->naming != FOLDER_HELD) return wrong("the answer to command %d comes before %s", i + 1, lacking[seen->naming]);
@@ -153,7 +165,7 @@ static int left(struct seen *seen) {
 static int in_order(const char *name, int one_by_one) {
     static struct script script;
     static struct traced traced;
-    struct seen seen = {.traced = &traced, .new_open = -1, .folder_open = -1};
+    struct seen seen = {.traced = &traced, .file_open = -1, .new_open = -1, .folder_open = -1};
     int good = 1, made;
     three_bookings(&script, one_by_one);
     if (!lay(&script) || !start_traced(&traced, name, said, &script, one_by_one)) return 0;
