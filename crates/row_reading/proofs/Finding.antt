@@ -96,7 +96,10 @@ module _ (ns : List ℤ) where
   a-row k w ek ew h g =
       record {
         finds = λ j v i f e. ap₂ Row (ek ∙ told-slot ns j v e) (ew ∙ told-strip ns j v e);
-        sound = λ j v e. let ej : k ≡ j = cc in let ev : w ≡ v = cc in (subst (λ (n : ℕ). n < 64) ej h, ap goodStrip (sym ev) ∙ eq-eqb (windowRefusal w .number) 0 g);
+        sound = λ j v e.
+            let ej : k ≡ j = cc in
+            let ev : w ≡ v = cc in
+            (subst (λ (n : ℕ). n < 64) ej h, ap goodStrip (sym ev) ∙ eq-eqb (windowRefusal w .number) 0 g);
       }
 
 -- ---- the comparison

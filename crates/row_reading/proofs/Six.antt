@@ -37,7 +37,10 @@ unfolding arguments
 first-word z rest =
     let l = integer z ++ 32 ∷ rest in
     let far : length (integer z) ≡ toSpace l = omega (arith, over-number 32 (inl (omega arith)) z (32 ∷ rest), no-space rest) in
-    words-cut l ∙ ap₂ (λ (w r : List ℕ). w ∷ arguments r) (take-at (integer z) (32 ∷ rest) (toSpace l) far) (drop-at (integer z) (32 ∷ rest) (toSpace l) far)
+    words-cut l
+    ∙ ap₂ (λ (w r : List ℕ). w ∷ arguments r)
+    (take-at (integer z) (32 ∷ rest) (toSpace l) far)
+    (drop-at (integer z) (32 ∷ rest) (toSpace l) far)
 
 last-word : (z : ℤ) → words (integer z) ≡ integer z ∷ []
 unfolding arguments run
@@ -150,7 +153,8 @@ module _ (t : List ℕ) (i end : ℕ) (k : ℕ) (w : Window) (one : 1 ≤ i) (st
       ap length (listed-joined (pos (k / 32)) (pos (k % 32) ∷ sides w)) ∙ length-append front (32 ∷ []) in
       let many : end - 1 - (i - 1) ≡ suc (length front) = omega (arith, sign-at) in
       let at : suc (i - 1) ≡ i = omega arith in
-      ap₂ (λ (n : ℕ) (l : List ℕ). arguments (take n l)) many (drop-cons t (i - 1) 0 (omega (arith, sign-at)) ∙ ap (λ (n : ℕ). getD t (i - 1) 0 ∷ drop n t) at)
+      ap₂ (λ (n : ℕ) (l : List ℕ). arguments (take n l)) many
+      (drop-cons t (i - 1) 0 (omega (arith, sign-at)) ∙ ap (λ (n : ℕ). getD t (i - 1) 0 ∷ drop n t) at)
       ∙ ap words (ap (take (length front)) front-is ∙ take-at front (32 ∷ 61 ∷ behind) (length front) refl)
 
   pub six-are : Small (rowNumbers k w) → end ≤ length t → integers (arguments (take (end - 1 - (i - 1)) (drop (i - 1) t))) ≡ some (rowNumbers k w)

@@ -45,4 +45,5 @@ one-row t i j k v w h a b =
     let that = six-are t i end k w h (b .line) refl (small-row k w (b .slot) (b .good)) most in
     let both : some (rowNumbers j v) ≡ some (rowNumbers k w) = sym this ∙ that in
     let same : rowNumbers j v ≡ rowNumbers k w = cc in
-    (sym (told-slot (rowNumbers j v) j v refl) ∙ told-slot (rowNumbers j v) k w same, sym (told-strip (rowNumbers j v) j v refl) ∙ told-strip (rowNumbers j v) k w same)
+    let ns = rowNumbers j v in
+    (sym (told-slot ns j v refl) ∙ told-slot ns k w same, sym (told-strip ns j v refl) ∙ told-strip ns k w same)

@@ -85,8 +85,9 @@ same-length-4 c = search needs
 returns-3 : tie.Need-returns-3
 returns-3 c =
     let b = c .before .before .before .before in
+    let k = b .before .before .before .known-told2 in
     known (b .before .before .before .before .order2 .given .1) (c .changing2 .ensures)
-    (release (rw (read-back (b .before .before .before .known-told2 .given .0 .1), read-back (b .before .before .before .known-told2 .given .1 .0 .1)) at (b .release .ensures)))
+    (release (rw (read-back (k .given .0 .1), read-back (k .given .1 .0 .1)) at (b .release .ensures)))
 
 same-length-5 : tie.Need-same-length-5
 same-length-5 c = search needs
