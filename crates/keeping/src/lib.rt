@@ -34,6 +34,28 @@ fn tell_left(new: &[u8]) {
     );
 }
 
+// Whether a name is a link's.
+fn is_link(name: &[u8]) -> bool {
+    if 4095 < name.len() {
+        return false;
+    }
+    let mut path = [0u8; 4096];
+    text::put(&mut path, 0, name);
+    path[4095] = 0;
+    let mut target = [0u8; 1];
+    libc::readlink(&path, &mut target) >= 0
+}
+
+// Whether a name is a file's own. A link's is not: the new file would take its place, and there would be two books. Standard error then says so.
+pub fn is_own(name: &[u8]) -> bool {
+    if !is_link(name) {
+        return true;
+    }
+    streams::tell(name);
+    streams::tell(b" is a link: name the file itself, so that the book has one name\n");
+    false
+}
+
 // Takes a file in hand: makes the file that says so, and answers its descriptor, or a negative number, of which standard error then says why.
 pub fn take(busy: &[u8]) -> i32 {
     let held = os::create(busy);

@@ -131,6 +131,9 @@ pub fn keep_book(
 )
     requires { ⌜ IsNewName (now new) long ⌝ }
 {
+    if !keeping::is_own(&new[..long]) {
+        return;
+    }
     let held = keeping::take(busy);
     if held < 0 {
         return;
