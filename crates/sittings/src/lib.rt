@@ -107,6 +107,9 @@ fn sit(
 fn hold(new: &[u8], long: usize, chunk: &mut Chunk, line: &mut Line, page: &mut Page)
     requires { ⌜ IsNewName (now new) long ⌝ }
 {
+    if !keeping::is_own(&new[..long]) {
+        return;
+    }
     if !keeping::is_clear(new) {
         return;
     }
@@ -131,9 +134,6 @@ pub fn keep_book(
 )
     requires { ⌜ IsNewName (now new) long ⌝ }
 {
-    if !keeping::is_own(&new[..long]) {
-        return;
-    }
     let held = keeping::take(busy);
     if held < 0 {
         return;
