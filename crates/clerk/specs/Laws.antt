@@ -1,5 +1,4 @@
--- Laws of the answers, proved in proofs/Unique.antt. What strips and show answer is a function of the
--- renter and the table.
+-- Laws of the answers, proved in proofs/Unique.antt. What `strips` and `show` answer needs none: it is a function of the renter and the table.
 --   OneBookingAnswer   two results of one booking on one table are equal: the number, the text, and the table after it
 --   OneReleaseAnswer   so are those of one release
 use mathlib.Core.Path.{_≡_}

@@ -1,5 +1,5 @@
 -- What is said of a text that is not a strip book's.
---   faultText n   that its line n is the first that is none of a book's
+--   faultText n   its line n is the first at which it goes wrong
 use mathlib.Core.List.{List, _++_}
 use Prim.Native.Nat.{ℕ}
 use Rattle.text.specs.Pages.{ascii, natural}

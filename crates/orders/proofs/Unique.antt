@@ -9,7 +9,7 @@ use Rattle.words.specs.declared.Integer.the-variants as Integer
 use Rattle.decimal.specs.declared.Reading.the-variants.{Number}
 use Rattle.decimal.proofs.Unique.{reads-unique}
 use Rattle.intake.specs.declared.WindowMm.{WindowMm}
-use Rattle.orders.specs.Orders.{wordAfter, Over, IsWhole, IsLength, nearest, Books, Releases, Lists, Unknown}
+use Rattle.orders.specs.Orders.{wordAfter, Over, IsWhole, IsLength, nearest, BookWords, ReleaseWords, StripsWords, Unknown}
 use Rattle.orders.specs.Orders.{Orders, blank, unknown, book, no-book, release, no-release, strips, no-strips, show, no-show}
 use Rattle.orders.specs.Laws.{OneOrder}
 use Rattle.orders.specs.declared.Fault.the-variants as Fault
@@ -29,7 +29,7 @@ length-unique (nearest {bits = a} p) (nearest {bits = b} q) =
     let bits : a ≡ b = cc in
     ap (ofBits binary32) bits
 
-strip-unique : {l : List ℕ} {r q : ℤ} {s t : WindowMm} → Books l r s → Books l q t → s ≡ t
+strip-unique : {l : List ℕ} {r q : ℤ} {s t : WindowMm} → BookWords l r s → BookWords l q t → s ≡ t
 strip-unique a b =
     λ i. record {
       left = length-unique (a .left) (b .left) i;
@@ -42,12 +42,12 @@ strip-unique a b =
 
 data Ordered (l : List ℕ) : ℕ → Order → Type 0 where
   nothing : Ordered l 0 Order.Blank
-  booked : {r : ℤ} {s : WindowMm} → Books l r s → Ordered l 111 (Order.Book r s)
-  not-booked : ((r : ℤ) (s : WindowMm) → Books l r s → ⊥) → Ordered l 111 (Order.Wrong Fault.Book)
-  released : {r k : ℤ} → Releases l r k → Ordered l 101 (Order.Release r k)
-  not-released : ((r k : ℤ) → Releases l r k → ⊥) → Ordered l 101 (Order.Wrong Fault.Release)
-  listed : {r : ℤ} → Lists l r → Ordered l 116 (Order.Strips r)
-  not-listed : ((r : ℤ) → Lists l r → ⊥) → Ordered l 116 (Order.Wrong Fault.Strips)
+  booked : {r : ℤ} {s : WindowMm} → BookWords l r s → Ordered l 111 (Order.Book r s)
+  not-booked : ((r : ℤ) (s : WindowMm) → BookWords l r s → ⊥) → Ordered l 111 (Order.Wrong Fault.Book)
+  released : {r k : ℤ} → ReleaseWords l r k → Ordered l 101 (Order.Release r k)
+  not-released : ((r k : ℤ) → ReleaseWords l r k → ⊥) → Ordered l 101 (Order.Wrong Fault.Release)
+  listed : {r : ℤ} → StripsWords l r → Ordered l 116 (Order.Strips r)
+  not-listed : ((r : ℤ) → StripsWords l r → ⊥) → Ordered l 116 (Order.Wrong Fault.Strips)
   shown : Over l 1 → Ordered l 104 Order.Show
   not-shown : (Over l 1 → ⊥) → Ordered l 104 (Order.Wrong Fault.Show)
 

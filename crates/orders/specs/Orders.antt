@@ -1,14 +1,14 @@
 -- What a line of the bookkeeper's text orders.
---   placeAfter l n    the place in the line l where its first n words end
---   wordAfter l n     the word that follows the first n words of l; it is empty where l has no more
---   Over l n          nothing but spaces follows the first n words of l
---   IsWhole w z       the word w is the whole number z, one that an i32 holds
---   IsLength w x      the word w is a decimal number, and x is the f32 nearest to it
---   Books l r s       after the first word of l come the renter r and the left, bottom, right and top of the strip s, and no more
---   Releases l r k    after the first word of l come the renter r and the slot k, and no more
---   Lists l r         after the first word of l comes the renter r, and no more
---   Unknown w         the word w is no command
---   Orders l o        the promise of `read`, for what a line says: the line l orders o
+--   placeAfter l n       the place in the line l where its first n words end
+--   wordAfter l n        the word that follows the first n words of l; it is empty where l has no more
+--   Over l n             nothing but spaces follows the first n words of l
+--   IsWhole w z          the word w is the whole number z, one that an i32 holds
+--   IsLength w x         the word w is a decimal number, and x is the f32 nearest to it
+--   BookWords l r s      after the first word of l come the renter r and the left, bottom, right and top of the strip s, and no more
+--   ReleaseWords l r k   after the first word of l come the renter r and the slot k, and no more
+--   StripsWords l r      after the first word of l comes the renter r, and no more
+--   Unknown w            the word w is no command
+--   Orders l o           the promise of `read`, for what a line says: the line l orders o
 use mathlib.Core.Path.{_≡_}
 use mathlib.Core.List.{List, []}
 use Prim.Native.Nat.{ℕ, zero, suc}
@@ -46,7 +46,7 @@ pub data IsLength (w : List ℕ) : Float → Type 0 where
 
 -- ---- what follows a command
 
-pub record Books (l : List ℕ) (renter : ℤ) (strip : WindowMm) : Type 0 where
+pub record BookWords (l : List ℕ) (renter : ℤ) (strip : WindowMm) : Type 0 where
   pub by : IsWhole (wordAfter l 1) renter
   pub left : IsLength (wordAfter l 2) (strip .left)
   pub bottom : IsLength (wordAfter l 3) (strip .bottom)
@@ -54,12 +54,12 @@ pub record Books (l : List ℕ) (renter : ℤ) (strip : WindowMm) : Type 0 where
   pub top : IsLength (wordAfter l 5) (strip .top)
   pub over : Over l 6
 
-pub record Releases (l : List ℕ) (renter slot : ℤ) : Type 0 where
+pub record ReleaseWords (l : List ℕ) (renter slot : ℤ) : Type 0 where
   pub by : IsWhole (wordAfter l 1) renter
   pub which : IsWhole (wordAfter l 2) slot
   pub over : Over l 3
 
-pub record Lists (l : List ℕ) (renter : ℤ) : Type 0 where
+pub record StripsWords (l : List ℕ) (renter : ℤ) : Type 0 where
   pub by : IsWhole (wordAfter l 1) renter
   pub over : Over l 2
 
@@ -75,11 +75,11 @@ pub record Unknown (w : List ℕ) : Type 0 where
 pub data Orders (l : List ℕ) : Order → Type 0 where
   blank : wordAfter l 0 ≡ [] → Orders l Order.Blank
   unknown : (wordAfter l 0 ≡ [] → ⊥) → Unknown (wordAfter l 0) → Orders l (Order.Wrong Fault.Word)
-  book : {r : ℤ} {s : WindowMm} → wordAfter l 0 ≡ ascii "book" → Books l r s → Orders l (Order.Book r s)
-  no-book : wordAfter l 0 ≡ ascii "book" → ((r : ℤ) (s : WindowMm) → Books l r s → ⊥) → Orders l (Order.Wrong Fault.Book)
-  release : {r k : ℤ} → wordAfter l 0 ≡ ascii "release" → Releases l r k → Orders l (Order.Release r k)
-  no-release : wordAfter l 0 ≡ ascii "release" → ((r k : ℤ) → Releases l r k → ⊥) → Orders l (Order.Wrong Fault.Release)
-  strips : {r : ℤ} → wordAfter l 0 ≡ ascii "strips" → Lists l r → Orders l (Order.Strips r)
-  no-strips : wordAfter l 0 ≡ ascii "strips" → ((r : ℤ) → Lists l r → ⊥) → Orders l (Order.Wrong Fault.Strips)
+  book : {r : ℤ} {s : WindowMm} → wordAfter l 0 ≡ ascii "book" → BookWords l r s → Orders l (Order.Book r s)
+  no-book : wordAfter l 0 ≡ ascii "book" → ((r : ℤ) (s : WindowMm) → BookWords l r s → ⊥) → Orders l (Order.Wrong Fault.Book)
+  release : {r k : ℤ} → wordAfter l 0 ≡ ascii "release" → ReleaseWords l r k → Orders l (Order.Release r k)
+  no-release : wordAfter l 0 ≡ ascii "release" → ((r k : ℤ) → ReleaseWords l r k → ⊥) → Orders l (Order.Wrong Fault.Release)
+  strips : {r : ℤ} → wordAfter l 0 ≡ ascii "strips" → StripsWords l r → Orders l (Order.Strips r)
+  no-strips : wordAfter l 0 ≡ ascii "strips" → ((r : ℤ) → StripsWords l r → ⊥) → Orders l (Order.Wrong Fault.Strips)
   show : wordAfter l 0 ≡ ascii "show" → Over l 1 → Orders l Order.Show
   no-show : wordAfter l 0 ≡ ascii "show" → (Over l 1 → ⊥) → Orders l (Order.Wrong Fault.Show)
