@@ -27,8 +27,8 @@ extern "C" {
 /* ---- version */
 
 /* As one number, major * 10000 + minor * 100 + patch, and as text. A change of a struct or of an answer raises it. */
-#define GERLYANTU_VERSION 20000
-#define GERLYANTU_VERSION_TEXT "2.0.0"
+#define GERLYANTU_VERSION 30000
+#define GERLYANTU_VERSION_TEXT "3.0.0"
 
 /* ---- limits */
 
@@ -173,8 +173,9 @@ typedef struct {
     float mm;
 } gerlyantu_back_answer;
 
-/* The kept part goes from t0 to t1 of the stroke's way; (ax, ay) and (bx, by) are its two ends, rounded to the grid. A missed stroke is done with
- * kept false, both fractions 0/1 and the points 0. */
+/* The kept part goes from t0 to t1 of the stroke's way; (ax, ay) and (bx, by) are its two ends, rounded to the grid, halves
+ * to the even number; so the stroke turned round has the same two, exchanged. A missed stroke is done with kept false, both fractions 0/1 and the
+ * points 0. */
 typedef struct {
     gerlyantu_refusal number;
     size_t place;

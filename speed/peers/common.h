@@ -114,8 +114,8 @@ inline double ours_outlines(const std::vector<OutlineInput> &in) {
 
 struct P { double x, y; };
 
-// The nearest grid number, a half towards where the stroke starts.
-inline i32 to_grid(double z, i32 start) { return (i32)(z >= start ? std::ceil(z - 0.5) : std::floor(z + 0.5)); }
+// The nearest grid number, a half to the even one, as a C program rounds unless it is told otherwise.
+inline i32 to_grid(double z) { return (i32)std::nearbyint(z); }
 
 // A peer's answers on strokes: kept or not, and the two ends.
 struct StrokeTally {
@@ -131,7 +131,7 @@ struct StrokeTally {
         auto at = [&](i32 from, i32 to, Fraction t) { return (double)((long double)((i64)from * t.den + (i64)(to - from) * t.num) / t.den); };
         P ea = { at(i.s.x1, i.s.x2, e.t0), at(i.s.y1, i.s.y2, e.t0) }, eb = { at(i.s.x1, i.s.x2, e.t1), at(i.s.y1, i.s.y2, e.t1) };
         if (a.x != ea.x || a.y != ea.y || b.x != eb.x || b.y != eb.y) inexact++;
-        if (to_grid(a.x, i.s.x1) != e.ax || to_grid(a.y, i.s.y1) != e.ay || to_grid(b.x, i.s.x1) != e.bx || to_grid(b.y, i.s.y1) != e.by) grid++;
+        if (to_grid(a.x) != e.ax || to_grid(a.y) != e.ay || to_grid(b.x) != e.bx || to_grid(b.y) != e.by) grid++;
     }
     void print(const char *who, const char *what, double ns, double ours) const {
         std::printf("%-24s %-10s %9.1f ns, %7.1f times ours; of %zu: %zu kept or missed wrongly, %zu not the exact points, "

@@ -72,11 +72,10 @@ static inline struct Fraction lowest(u32 n, u32 d) {
     return (struct Fraction){ n, d };
 }
 
-// The coordinate at n/d of the way from a to b, to the nearest, a half towards a.
+// The coordinate at n/d of the way from a to b, to the nearest, a half to the even one. Lifted by an even number it is not negative.
 static inline i32 rounded(i32 a, i32 b, u32 n, u32 d) {
-    u32 far = b < a ? a - b : b - a;
-    i32 way = (2 * (far * n) + (d - 1)) / (2 * d);
-    return b < a ? a - way : a + way;
+    u32 lifted = (u32)(a + 16384) * d + (u32)(b - a) * n, quotient = lifted / d;
+    return (i32)(quotient + (d < 2 * (lifted % d) + (quotient & 1))) - 16384;
 }
 
 #endif

@@ -44,6 +44,22 @@ static void check_examples(void) {
     MISSED(ten, S(11, 10, 11, 10), 0);
 }
 
+/* A stroke cut at a half, and the same line drawn the other way round: 0.5, 1.5, 2.5 up the left side, -0.5 and -1.5, and both ends at once. */
+static void check_halves(void) {
+    const gerlyantu_window below = W(0, -10, 10, 10);
+    KEPT(ten, S(1, 1, -1, 0), 0, 1, 1, 2, 1, 1, 0, 0, 1);
+    KEPT(ten, S(-1, 1, 1, 2), 1, 2, 1, 1, 0, 2, 1, 2, 1);
+    KEPT(ten, S(1, 2, -1, 1), 0, 1, 1, 2, 1, 2, 0, 2, 1);
+    KEPT(ten, S(-1, 2, 1, 3), 1, 2, 1, 1, 0, 2, 1, 3, 1);
+    KEPT(ten, S(1, 3, -1, 2), 0, 1, 1, 2, 1, 3, 0, 2, 1);
+    KEPT(below, S(-1, 0, 1, -1), 1, 2, 1, 1, 0, 0, 1, -1, 1);
+    KEPT(below, S(1, -1, -1, 0), 0, 1, 1, 2, 1, -1, 0, 0, 1);
+    KEPT(below, S(-1, -1, 1, -2), 1, 2, 1, 1, 0, -2, 1, -2, 1);
+    KEPT(below, S(1, -2, -1, -1), 0, 1, 1, 2, 1, -2, 0, -2, 1);
+    KEPT(ten, S(-1, 0, 11, 6), 1, 12, 11, 12, 0, 0, 10, 6, 2);
+    KEPT(ten, S(11, 6, -1, 0), 1, 12, 11, 12, 10, 6, 0, 0, 2);
+}
+
 /* Missed after one shortening, though the shortened start has as many set bits as before. */
 static void check_same_bits(void) {
     MISSED(ten, S(5, 20, 40, 5), 1);
@@ -81,6 +97,7 @@ static void check_several(void) {
 
 void check_strokes(void) {
     check_examples();
+    check_halves();
     check_same_bits();
     check_largest();
     check_refusals();

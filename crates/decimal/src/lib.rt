@@ -16,21 +16,17 @@ pub enum Reading {
     Nothing,
 }
 
-// The whole number nearest to a / b, halves to the even one.
+// The whole number nearest to a / b, halves to the even one: an odd quotient adds one to twice the rest, so that its half goes up.
 fn closest(a: u64, b: u64) -> u64
     requires { ⌜ (0 < b) × (b < 2 ^ 62) ⌝ }
     requires { ⌜ a < 2 ^ 62 ⌝ }
     ensures { λ r. ⌜ Rounds toEven (pos a) (pos b) (pos r) ⌝ }
 {
-    let whole = a / b;
-    let twice = a % b * 2;
-    if twice < b {
-        return whole;
+    let quotient = a / b;
+    if b < a % b * 2 + quotient % 2 {
+        return quotient + 1;
     }
-    if b < twice {
-        return whole + 1;
-    }
-    whole + whole % 2
+    quotient
 }
 
 // The bits of the f32 nearest to n / d. It keeps 24 binary digits: n is doubled until n / 64 d, rounded, has as many.

@@ -5,7 +5,7 @@ use native.Mathlib.Nat.{mod-lt}
 use native.Mathlib.Omega.{arith}
 use lib.IntN.{ℤ, pos, negsuc, natAbs}
 use lib.Signed.{_<ℤ_, quotZ}
-use Rattle.whole.specs.Rounding.{towards}
+use Rattle.whole.specs.Rounding.{toEven}
 use Rattle.whole.proofs.Order.{zarith}
 use Rattle.whole.proofs.Rounding.{rounding, rounding-is}
 use Rattle.fraction.specs.Fraction.{GreatestCommon, LowestOf}
@@ -40,9 +40,9 @@ lowestOf-is n {d} h =
 
 -- ---- the coordinate at n/d of the way from a to b, rounded
 unfoldable pub roundedAt : ℤ → ℤ → ℤ → ℤ → ℤ
-roundedAt a b n d = rounding (towards a) (along a b n d) (natAbs d)
+roundedAt a b n d = rounding toEven (along a b n d) (natAbs d)
 
-pub roundedAt-is : (a b n : ℤ) {d : ℤ} → pos 0 <ℤ d → Rounded a (along a b n d) d (roundedAt a b n d)
+pub roundedAt-is : (a b n : ℤ) {d : ℤ} → pos 0 <ℤ d → Rounded (along a b n d) d (roundedAt a b n d)
 unfolding roundedAt
-roundedAt-is a b n {d = pos d} h = rounding-is (towards a) (along a b n (pos d)) (omega zarith)
+roundedAt-is a b n {d = pos d} h = rounding-is toEven (along a b n (pos d)) (omega zarith)
 roundedAt-is a b n {d = negsuc d} h = absurd (h .lt)

@@ -20,7 +20,7 @@ divides-zero : (g : ℕ) → Divides g (pos 0)
 divides-zero g = record { times = pos 0; is = ring ((pos g) ∷ []) (con (pos 0)) (x0 ⊗ con (pos 0)) tt }
 
 -- what divides x and y divides x·u + y·v
-divides-mix : {g : ℕ} {x y z : ℤ} (u v : ℤ) → Divides g x → Divides g y → z ≡ x *ℤ u +ℤ y *ℤ v → Divides g z
+pub divides-mix : {g : ℕ} {x y z : ℤ} (u v : ℤ) → Divides g x → Divides g y → z ≡ x *ℤ u +ℤ y *ℤ v → Divides g z
 divides-mix {g} {x} {y} {z} u v p q e = record {
   times = p .times *ℤ u +ℤ q .times *ℤ v;
   is =

@@ -1,20 +1,16 @@
--- The coordinate at n/d of the way from a to b: the way from the start is rounded, a half falling to 0, and then gone forward or back. The rounding at n/d is
--- that at n/d in lowest terms.
-use mathlib.Core.Path.{_≡_, subst}
-use mathlib.Core.Bool.{false}
+-- The coordinate at n/d of the way from a to b: lifted by an even number, rounded there and put back, as halves to even stay what they are. The
+-- rounding at n/d is that at n/d in lowest terms.
+use mathlib.Core.Path.{_≡_, ap, _∙_, subst₂}
 use mathlib.Core.List.{[], _∷_}
-use Prim.Native.Nat.{ℕ, _+_, _*_, _-_, _/_, _%_, _<_}
-use native.Mathlib.Nat.{div-add-mod, mod-lt}
-use native.Mathlib.Omega.{arith}
-use borrow.Author.Tests.{le-ltb}
-use lib.IntN.{ℤ, pos, negℤ, _+ℤ_, _-ℤ_, _*ℤ_}
+use Prim.Native.Nat.{ℕ, _%_}
+use lib.IntN.{ℤ, pos, negℤ, natAbs, _+ℤ_, _-ℤ_, _*ℤ_}
 use lib.Signed.{_<ℤ_}
-use Rattle.whole.specs.Rounding.{Rule, Rounds, towards}
+use Rattle.whole.specs.Rounding.{Rule, Rounds}
 use Rattle.whole.proofs.Expressions.{var, _⊕_, _⊖_, _⊗_, neg, x0, x1, x2, x3}
 use Rattle.whole.proofs.Polynomials.{ring}
-use Rattle.whole.proofs.Order.{zarith}
 use Rattle.whole.proofs.Certificates.{eqn, eq-by}
-use Rattle.whole.proofs.Rounding.{rounded-equal, rounded-moved, rounded-mirror, towards-from, towards-mirror}
+use Rattle.whole.proofs.Division.{abs-neg}
+use Rattle.whole.proofs.Rounding.{rounded-equal, rounded-moved, even-moved}
 use Rattle.fraction.specs.Fraction.{LowestOf}
 use Rattle.fraction.specs.Rounding.{along, Rounded}
 use Rattle.fraction.specs.declared.Fraction.{Fraction}
@@ -30,28 +26,15 @@ pub rounded-same : {up : Rule} {n d r : ℤ} {f : Fraction} (a b : ℤ) → pos 
     → Rounds up (along a b (f .num) (f .den)) (f .den) r
 rounded-same a b h l p = rounded-equal h (l .lowest .positive) (along-same a b l) p
 
--- ---- the way from the start, a half falling to 0
-abbrev pub halfDown : ℕ → ℕ → ℕ
-halfDown run d = (2 * run + (d - 1)) / (2 * d)
+-- ---- lifted by an even number k
+abbrev pub lifted : ℤ → ℤ → ℤ → ℤ → ℤ → ℤ
+lifted k a b n d = (a +ℤ k) *ℤ d +ℤ (b -ℤ a) *ℤ n
 
-pub half-down : (run : ℕ) {d : ℕ} → 0 < d → Rounded (pos 0) (pos run) (pos d) (pos (halfDown run d))
-unfolding towards
-half-down run {d} h =
-    let e : 2 * d * halfDown run d + (2 * run + (d - 1)) % (2 * d) ≡ 2 * run + (d - 1) = div-add-mod (2 * run + (d - 1)) (2 * d) in
-    let l : (2 * run + (d - 1)) % (2 * d) < 2 * d = mod-lt (2 * run + (d - 1)) (omega arith) in record {
-      nearest = record { low = omega zarith; high = omega zarith };
-      above = λ k. absurd (omega zarith);
-      below = λ k. not-below (halfDown run d);
-    }
-  where
-    not-below : (q : ℕ) → towards (pos 0) (pos q) ≡ false
-    not-below q = le-ltb q 0 (omega arith)
-
--- ---- n/d of the way from a to b, by their distance
-module _ {d q : ℤ} (a b n : ℤ) where
-  pub rounded-on : Rounded (pos 0) ((b -ℤ a) *ℤ n) d q → Rounded a (along a b n d) d (a +ℤ q)
-  rounded-on p = rounded-moved a (towards-from a) (subst (λ (x : ℤ). Rounded (pos 0) x d q) (ring (a ∷ b ∷ n ∷ []) ((x1 ⊖ x0) ⊗ x2) (x2 ⊗ (x1 ⊖ x0)) tt) p)
-
-  pub rounded-back : Rounded (pos 0) ((a -ℤ b) *ℤ n) d q → Rounded a (along a b n d) d (a -ℤ q)
-  rounded-back p = rounded-moved a (towards-from a)
-      (subst (λ (x : ℤ). Rounded (pos 0) x d (negℤ q)) (ring (a ∷ b ∷ n ∷ []) (neg ((x0 ⊖ x1) ⊗ x2)) (x2 ⊗ (x1 ⊖ x0)) tt) (rounded-mirror (towards-mirror (pos 0)) p))
+pub put-back : {d q : ℤ} (k a b n : ℤ) → natAbs k % 2 ≡ 0 → Rounded (lifted k a b n d) d q → Rounded (along a b n d) d (q -ℤ k)
+put-back {d} {q} k a b n even p =
+    let ρ = a ∷ b ∷ n ∷ d ∷ q ∷ k ∷ [] in
+    let x4 = var 4 in
+    let x5 = var 5 in
+    subst₂ (λ (x r : ℤ). Rounded x d r)
+    (ring ρ (neg x5 ⊗ x3 ⊕ ((x0 ⊕ x5) ⊗ x3 ⊕ (x1 ⊖ x0) ⊗ x2)) (x0 ⊗ x3 ⊕ x2 ⊗ (x1 ⊖ x0)) tt) (ring ρ (neg x5 ⊕ x4) (x4 ⊖ x5) tt)
+    (rounded-moved (negℤ k) (even-moved (negℤ k) (ap (λ (m : ℕ). m % 2) (abs-neg k) ∙ even)) p)

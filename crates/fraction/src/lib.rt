@@ -1,7 +1,7 @@
 // Exact fractions: brought to lowest terms, compared, and rounded to the grid.
 ghost use mathlib.Core.Path.{_≡_};
-ghost use Prim.Native.Nat.{_<_, _≤_};
-ghost use lib.IntN.{pos, _*ℤ_};
+ghost use Prim.Native.Nat.{_<_, _≤_, _^_};
+ghost use lib.IntN.{pos};
 ghost use lib.Signed.{_<ℤ_};
 ghost use Rattle.whole.specs.Within.{Within};
 ghost use Rattle.fraction.specs.Fraction.{GreatestCommon, LowestOf, lessThan, Comparable};
@@ -80,26 +80,27 @@ pub fn less(f: Fraction, g: Fraction) -> bool
     f.num * g.den < g.num * f.den
 }
 
-// n/d of a way of the length run, to the nearest whole number, a half falling to 0.
-fn part_of(run: u32, n: u32, d: u32) -> u32
-    requires { ⌜ run ≤ 32766 ⌝ }
+// The whole number nearest to x/d, halves to the even one: an odd quotient adds one to twice the rest, so that its half goes up.
+fn closest(x: u32, d: u32) -> u32
     requires { ⌜ (0 < d) × (d ≤ 32766) ⌝ }
-    requires { ⌜ n ≤ d ⌝ }
-    ensures { λ r. ⌜ Rounded (pos 0) (pos run *ℤ pos n) (pos d) (pos r) ⌝ }
+    requires { ⌜ x < 2 ^ 31 ⌝ }
+    ensures { λ r. ⌜ Rounded (pos x) (pos d) (pos r) ⌝ }
 {
-    (2 * (run * n) + (d - 1)) / (2 * d)
+    let quotient = x / d;
+    if d < x % d * 2 + quotient % 2 {
+        return quotient + 1;
+    }
+    quotient
 }
 
-// The coordinate at n/d of the way from a to b, rounded.
+// The coordinate at n/d of the way from a to b, rounded. It is lifted above 0 by an even number, which keeps even what is even.
 pub fn rounded(a: i32, b: i32, n: u32, d: u32) -> i32
     requires { ⌜ Within 16383 a ⌝ }
     requires { ⌜ Within 16383 b ⌝ }
     requires { ⌜ (0 < d) × (d ≤ 32766) ⌝ }
     requires { ⌜ n ≤ d ⌝ }
-    ensures { λ r. ⌜ Rounded a (along a b (pos n) (pos d)) (pos d) r ⌝ }
+    ensures { λ r. ⌜ Rounded (along a b (pos n) (pos d)) (pos d) r ⌝ }
 {
-    if b < a {
-        return a - part_of(whole::gap(b, a), n, d) as i32;
-    }
-    a + part_of(whole::gap(a, b), n, d) as i32
+    let lifted = (a + 16384) * d as i32 + (b - a) * n as i32;
+    closest(lifted as u32, d) as i32 - 16384
 }

@@ -68,7 +68,7 @@ module _ {s : Stroke} {x y : Way} (fx : WayAt (s .x1) (s .x2) x) (fy : WayAt (s 
     point = point-start {f = zeroth} (omega zarith) refl;
   }
 
-  pub start-x : {v : ℤ} → y .start * x .long ≤ x .start * y .long → Rounded (s .y1) (along (s .y1) (s .y2) (pos (x .start)) (pos (x .long))) (pos (x .long)) v
+  pub start-x : {v : ℤ} → y .start * x .long ≤ x .start * y .long → Rounded (along (s .y1) (s .y2) (pos (x .start)) (pos (x .long))) (pos (x .long)) v
       → StartOf s x y (record { t = record { num = pos (x .start); den = pos (x .long) }; x = x .at; y = v })
   start-x h r = let k = fx .proper in record {
     way = on-way (k .long) (k .small) (let o = k .order in let e = k .high in omega arith);
@@ -78,7 +78,7 @@ module _ {s : Stroke} {x y : Way} (fx : WayAt (s .x1) (s .x2) x) (fy : WayAt (s 
     point = record { across = rounded-exact (fx .at) (positive (k .long)); up = r };
   }
 
-  pub start-y : {v : ℤ} → x .start * y .long ≤ y .start * x .long → Rounded (s .x1) (along (s .x1) (s .x2) (pos (y .start)) (pos (y .long))) (pos (y .long)) v
+  pub start-y : {v : ℤ} → x .start * y .long ≤ y .start * x .long → Rounded (along (s .x1) (s .x2) (pos (y .start)) (pos (y .long))) (pos (y .long)) v
       → StartOf s x y (record { t = record { num = pos (y .start); den = pos (y .long) }; x = v; y = y .at })
   start-y h r = let k = fy .proper in record {
     way = on-way (k .long) (k .small) (let o = k .order in let e = k .high in omega arith);
@@ -99,7 +99,7 @@ module _ {s : Stroke} {x y : Way} (fx : WayAt (s .x1) (s .x2) x) (fy : WayAt (s 
     point = point-finish {f = unit} (omega zarith) refl;
   }
 
-  pub finish-x : {v : ℤ} → x .end * y .long ≤ y .end * x .long → Rounded (s .y1) (along (s .y1) (s .y2) (pos (x .end)) (pos (x .long))) (pos (x .long)) v
+  pub finish-x : {v : ℤ} → x .end * y .long ≤ y .end * x .long → Rounded (along (s .y1) (s .y2) (pos (x .end)) (pos (x .long))) (pos (x .long)) v
       → FinishOf s x y (record { t = record { num = pos (x .end); den = pos (x .long) }; x = x .to; y = v })
   finish-x h r = let k = fx .proper in record {
     way = on-way (k .long) (k .small) (k .high);
@@ -109,7 +109,7 @@ module _ {s : Stroke} {x y : Way} (fx : WayAt (s .x1) (s .x2) x) (fy : WayAt (s 
     point = record { across = rounded-exact (fx .to) (positive (k .long)); up = r };
   }
 
-  pub finish-y : {v : ℤ} → y .end * x .long ≤ x .end * y .long → Rounded (s .x1) (along (s .x1) (s .x2) (pos (y .end)) (pos (y .long))) (pos (y .long)) v
+  pub finish-y : {v : ℤ} → y .end * x .long ≤ x .end * y .long → Rounded (along (s .x1) (s .x2) (pos (y .end)) (pos (y .long))) (pos (y .long)) v
       → FinishOf s x y (record { t = record { num = pos (y .end); den = pos (y .long) }; x = v; y = y .to })
   finish-y h r = let k = fy .proper in record {
     way = on-way (k .long) (k .small) (k .high);

@@ -27,8 +27,8 @@ pub read-on-table : {z : ℤ} → Within farthest z → Within farthest (read z)
 read-on-table h = bits (Within farthest) (table-fits h) h
 
 -- what is rounded
-pub rounded-plain : {a b d r : ℤ} (n : ℤ) → Within farthest a → Within farthest b → Rounded (read a) (along (read a) (read b) n d) d r → Rounded a (along a b n d) d r
-rounded-plain {a} {b} {d} {r} n ha hb k = transport (λ i. Rounded (read-is ha i) (along (read-is ha i) (read-is hb i) n d) d r) k
+pub rounded-plain : {a b d r : ℤ} (n : ℤ) → Within farthest a → Within farthest b → Rounded (along (read a) (read b) n d) d r → Rounded (along a b n d) d r
+rounded-plain {a} {b} {d} {r} n ha hb k = transport (λ i. Rounded (along (read-is ha i) (read-is hb i) n d) d r) k
 
 -- four of them, for the places of a way
 pub ranged-read : {a b c d : ℤ} → Ranged a b c d → Ranged (read a) (read b) (read c) (read d)

@@ -46,8 +46,8 @@ blank r = record {
 }
 
 pub record PointAt (s : Stroke) (f : Fraction) (x y : ℤ) : Type 0 where
-  pub across : Rounded (s .x1) (along (s .x1) (s .x2) (f .num) (f .den)) (f .den) x
-  pub up : Rounded (s .y1) (along (s .y1) (s .y2) (f .num) (f .den)) (f .den) y
+  pub across : Rounded (along (s .x1) (s .x2) (f .num) (f .den)) (f .den) x
+  pub up : Rounded (along (s .y1) (s .y2) (f .num) (f .den)) (f .den) y
 
 pub record Clipped (w : Window) (s : Stroke) (a : StrokeAnswer) : Type 0 where
   pub number : a .number ≡ 0

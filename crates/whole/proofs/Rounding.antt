@@ -10,17 +10,17 @@ use native.Mathlib.Omega.{arith}
 use lib.Arith.{lt-of-le-ne}
 use lib.Dec.{T, isLe, isEq, eqb, leb→le, nleb→lt, eqb→eq, eqb-refl}
 use lib.IntN.{ℤ, pos, negsuc, negℤ, natAbs, _+ℤ_, _-ℤ_, _*ℤ_}
-use lib.Signed.{_≤ℤ_, _<ℤ_, ltZ}
+use lib.Signed.{_≤ℤ_, _<ℤ_}
 use lib.Ieee.{nearest}
 use lib.Ieee.Nearest.{closest}
 use Rattle.whole.specs.Choice.{if_then_else_}
-use Rattle.whole.specs.Rounding.{Rule, Rounds, towards, toEven}
+use Rattle.whole.specs.Rounding.{Rule, Rounds, toEven}
 use Rattle.whole.proofs.Naturals.{neg-plus, neg-minus, add-is, abs-is}
 use Rattle.whole.proofs.Expressions.{Expr, var, con, _⊕_, _⊖_, _⊗_, neg, x0, x1, x2, x3}
 use Rattle.whole.proofs.Polynomials.{ring}
 use Rattle.whole.proofs.Order.{zarith, sub-is, next-≤, ≤-antisym, ≤-total}
 use Rattle.whole.proofs.Certificates.{ge, ge-by, clash, eqn, _⊹_, eq-by, eq-cancel, eq, po, le, nat, nat⁺, _⊞_, _⊠_}
-use Rattle.whole.proofs.Comparisons.{tt-ff, by-test, lt-yes, lt-no, same-test}
+use Rattle.whole.proofs.Comparisons.{tt-ff, by-test}
 
 abbrev one : Expr
 one = con (pos 1)
@@ -133,27 +133,7 @@ rounded-mirror {up} {to} {x} {d} {r} other p =
           ∙ ap not (p .above (eq-by ρ (double (x2 ⊗ x1)) (higher x0 x1) (eqn one (double (neg x0)) (higher (neg x2 ⊗ x1) x1) e) tt));
     }
 
--- ---- how the two rules move and mirror
-pub towards-from : (a n : ℤ) → towards a (a +ℤ n) ≡ towards (pos 0) n
-unfolding towards
-towards-from a n = same-test {a = a +ℤ n} {b = a} {c = n} {d = pos 0} (λ h. omega (zarith, add-is a n)) (λ h. omega (zarith, add-is a n))
-
-pub towards-mirror : (a n : ℤ) → towards (negℤ a) (negℤ n -ℤ pos 1) ≡ not (towards a n)
-unfolding towards
-towards-mirror a n = go (ltZ (negℤ n -ℤ pos 1) (negℤ a)) (ltZ n a) refl refl
-  where
-    go : (s t : Bool) → ltZ (negℤ n -ℤ pos 1) (negℤ a) ≡ s → ltZ n a ≡ t → s ≡ not t
-    go true true p q =
-        let l : (negℤ n -ℤ pos 1) <ℤ negℤ a = lt-yes refl refl p in
-        let k : n <ℤ a = lt-yes refl refl q in
-        absurd (omega (zarith, sub-is (negℤ n) (pos 1), neg-plus n, neg-minus n, neg-plus a, neg-minus a))
-    go true false p q = refl
-    go false true p q = refl
-    go false false p q =
-        let l : negℤ a ≤ℤ (negℤ n -ℤ pos 1) = lt-no refl refl p in
-        let k : a ≤ℤ n = lt-no refl refl q in
-        absurd (omega (zarith, sub-is (negℤ n) (pos 1), neg-plus n, neg-minus n, neg-plus a, neg-minus a))
-
+-- ---- how halves to even move and mirror
 pub even-moved : (k : ℤ) → natAbs k % 2 ≡ 0 → (n : ℤ) → toEven (k +ℤ n) ≡ toEven n
 unfolding toEven
 even-moved k h n =
@@ -194,6 +174,28 @@ module _ (up : Rule) (n : ℕ) {d : ℕ} (h : 0 < d) where
       (λ t. record { nearest = record { low = omega zarith; high = omega zarith }; above = λ k. ap up back ∙ t; below = λ k. absurd (omega zarith) })
       (λ t. record { nearest = record { low = omega zarith; high = omega zarith }; above = λ k. absurd (omega zarith); below = λ k. t })
 
+-- ---- and by one comparison, with u for the quotient's half: 1 where it goes up, else 0
+module _ (up : Rule) (n : ℕ) {d u : ℕ} (h : 0 < d) (one : u ≤ 1) (goes : up (pos (n / d)) ≡ eqb u 1) where
+  where-half : (k : ℕ) → u ≡ k → up (pos (n / d)) ≡ eqb k 1
+  where-half k e = goes ∙ ap (λ (k : ℕ). eqb k 1) e
+
+  pub next-by : d < n % d * 2 + u → Rounds up (pos n) (pos d) (pos (n / d + 1))
+  next-by l =
+      let e = div-add-mod' n d in
+      let m = mod-lt n h in
+      let back : pos (n / d + 1) -ℤ pos 1 ≡ pos (n / d) = omega (zarith, sub-is (pos (n / d + 1)) (pos 1)) in record {
+        nearest = record { low = omega zarith; high = omega zarith };
+        above = λ k. ap up back ∙ where-half 1 (omega zarith);
+        below = λ k. absurd (omega zarith);
+      }
+
+  pub same-by : n % d * 2 + u ≤ d → Rounds up (pos n) (pos d) (pos (n / d))
+  same-by l = let e = div-add-mod' n d in record {
+    nearest = record { low = omega zarith; high = omega zarith };
+    above = λ k. absurd (omega zarith);
+    below = λ k. where-half 0 (omega zarith);
+  }
+
 -- by how the doubled remainder compares with d
 abbrev byHalf : Rule → ℕ → Ordering → ℕ
 byHalf up q Ordering·lt = q
@@ -229,7 +231,7 @@ rounding-is up (negsuc n) {d} h =
     rounded-mirror (λ (k : ℤ). sym (Bool·not-not (up (negℤ k -ℤ pos 1))))
     (by-half (λ k. not (up (negℤ k -ℤ pos 1))) (suc n) h (compare (suc n % d * 2) d) (compared (suc n % d * 2) d))
 
--- ---- halves to even: the odd number's remainder by 2 takes it up
+-- ---- halves to even: an odd quotient takes its half up
 pub to-even : (q : ℕ) → (if toEven (pos q) then suc q else q) ≡ q + q % 2
 unfolding toEven
 to-even q = go (q % 2) refl
@@ -238,6 +240,15 @@ to-even q = go (q % 2) refl
     go zero e = omega arith
     go (suc zero) e = omega arith
     go (suc (suc r)) e = absurd (omega arith)
+
+module _ (n : ℕ) {d : ℕ} (h : 0 < d) where
+  pub even-up : d < n % d * 2 + n / d % 2 → Rounds toEven (pos n) (pos d) (pos (n / d + 1))
+  unfolding toEven
+  even-up = next-by toEven n h (omega arith) refl
+
+  pub even-down : n % d * 2 + n / d % 2 ≤ d → Rounds toEven (pos n) (pos d) (pos (n / d))
+  unfolding toEven
+  even-down = same-by toEven n h (omega arith) refl
 
 pub closest-is : (a : ℕ) {b : ℕ} → 0 < b → Rounds toEven (pos a) (pos b) (pos (closest a b))
 closest-is a {b} h = subst (λ (r : ℕ). Rounds toEven (pos a) (pos b) (pos r)) (same (compare (a % b * 2) b))

@@ -15,7 +15,7 @@ use Rattle.convex.specs.Corners.{cornersOf, every, next, joins, isLeft, strictl
 use Rattle.convex.specs.Corners.{rightCount, countRefusal, convexRefusal}
 use Rattle.fraction.specs.Fraction.{lessThan}
 use Rattle.fraction.proofs.Computed.{euclid, lowestOf, roundedAt}
-use Rattle.whole.specs.Rounding.{towards}
+use Rattle.whole.specs.Rounding.{toEven}
 use Rattle.grid.specs.declared.Stroke.{Stroke}
 use Rattle.grid.specs.Calls.{written, answeredBy}
 use Rattle.grid.specs.Refusals.{first, offTable, noArea, windowRefusal, strokeRefusal, roomRefusal}
@@ -65,12 +65,12 @@ outline-holds {zs} {e} p q = record {
 
 pub worked : Worked
 unfolding table countedOf countOf stepOf meetingOf code decision trailingZeros
-    strokeCallRefusal strokeRefusal strokeAnswerOf clippedOf spanOf acrossOf cutBy lessThan roundedAt towards
+    strokeCallRefusal strokeRefusal strokeAnswerOf clippedOf spanOf acrossOf cutBy lessThan roundedAt toEven
     euclid lowestOf answerOf outputOf answeredBy roomRefusal written outlineOf passesOf passedOf countsOf ringOf cutsOf cutOf passOf
     keptOf addedOf meet isBefore leastOf startOf numbersOf outlineRefusal first windowRefusal noArea badOrder
     countRefusal rightCount offTable firstOff onTable convexRefusal strictlyConvex every next joins isLeft cornersOf
     value through sidesIn linesIn left-side right-side bottom-side top-side
 worked =
-    stroke-holds refl ◂ stroke-holds refl ◂ stroke-holds refl ◂ stroke-holds refl ◂ stroke-holds refl
+    stroke-holds refl ◂ stroke-holds refl ◂ stroke-holds refl ◂ stroke-holds refl ◂ stroke-holds refl ◂ stroke-holds refl
     ◂ stroke-holds refl ◂ stroke-holds refl ◂ outline-holds refl refl ◂ outline-holds refl refl
-    ◂ outline-holds refl refl ◂ outline-holds refl refl ◂ outline-holds refl refl ◂ ∅
+    ◂ outline-holds refl refl ◂ outline-holds refl refl ◂ outline-holds refl refl ◂ stroke-holds refl ◂ stroke-holds refl ◂ ∅

@@ -1,4 +1,4 @@
--- The worked examples A to L, all against the window 0 0 10 10, in one table.
+-- The worked examples A to M, and E and M turned round, all against the window 0 0 10 10, in one table.
 --   table         the examples in their order
 --   Example       a stroke, by its two ends, and what both stroke calls answer, the count of shortenings included;
 --                 or an outline, by its corners, and its verdict
@@ -132,6 +132,8 @@ table =
     ∷ stroke (- 1, + 24) (+ 11, - 14) (kept (7 over 19) (12 over 19) (3, 10) (7, 0) 4)
     -- E
     ∷ stroke (- 1, + 0) (+ 1, + 1) (kept (1 over 2) (1 over 1) (0, 0) (1, 1) 1)
+    -- E turned round
+    ∷ stroke (+ 1, + 1) (- 1, + 0) (kept (0 over 1) (1 over 2) (1, 1) (0, 0) 1)
     -- F
     ∷ stroke (+ 10, + 10) (+ 10, + 10) (kept (0 over 1) (1 over 1) (10, 10) (10, 10) 0)
     -- G
@@ -150,4 +152,8 @@ table =
     ∷ outline ((- 4, + 0) ∷ (+ 0, + 2) ∷ (- 4, + 4) ∷ []) no-area
     -- L
     ∷ outline ((+ 0, + 3) ∷ (- 2, - 3) ∷ (+ 3, + 1) ∷ (- 3, + 1) ∷ (+ 2, - 3) ∷ []) (refused 7)
+    -- M
+    ∷ stroke (- 1, + 1) (+ 1, + 2) (kept (1 over 2) (1 over 1) (0, 2) (1, 2) 1)
+    -- M turned round
+    ∷ stroke (+ 1, + 2) (- 1, + 1) (kept (0 over 1) (1 over 2) (1, 2) (0, 2) 1)
     ∷ []

@@ -1,5 +1,5 @@
 -- Laws over several calls, proved in proofs/Worked.antt and proofs/Agreement.antt.
---   Worked               the worked examples A to L: each answer in the table satisfies the statements, and no other does
+--   Worked               the worked examples A to M, and E and M turned round: each answer in the table satisfies the statements, and no other does
 --   SameAnswer a b       `corners::cyrus_beck` answers by a what `strokes::liang_barsky` answers by b, without points.
 --                        The place of 2 is an index in the numbers that the call was given, eight for four corners and
 --                        four for a rectangle, and may differ

@@ -2,9 +2,10 @@
 
 use crate::fraction::Fraction;
 use crate::kept::{self, Bound};
+use crate::point::Point;
 use crate::rectangle::{self, Rectangle};
 use crate::refusal::{at, lowest, Refusal};
-use crate::rounding::half_toward;
+use crate::rounding::half_to_even;
 use crate::stroke::Stroke;
 use crate::table;
 
@@ -28,8 +29,8 @@ pub fn clip(window: [i32; 4], stroke: [i32; 4]) -> Option<Kept> {
     Some(Kept {
         t0,
         t1,
-        first: rounded(stroke, t0),
-        last: rounded(stroke, t1),
+        first: rounded(stroke.at(t0)),
+        last: rounded(stroke.at(t1)),
     })
 }
 
@@ -44,11 +45,7 @@ fn bounds(window: Rectangle, stroke: Stroke) -> [Bound; 4] {
     pairs.map(|(p, q)| Bound { p, q })
 }
 
-/// Each coordinate by itself; a half falls toward the start of the whole stroke.
-fn rounded(stroke: Stroke, t: Fraction) -> [i128; 2] {
-    let point = stroke.at(t);
-    [
-        half_toward(stroke.x1, point.x),
-        half_toward(stroke.y1, point.y),
-    ]
+/// Each coordinate by its own value alone, so that it does not matter at which end the stroke starts.
+fn rounded(point: Point) -> [i128; 2] {
+    [point.x, point.y].map(half_to_even)
 }

@@ -85,9 +85,9 @@ rounded-requires-2 c κs =
 
 -- what `rounded` ensures of the numbers as they are read and cast, of the numbers themselves
 plain : (c : tie.Start) {a b r : ℤ} → Within farthest a → Within farthest b
-    → Rounded (read a) (along (read a) (read b) (pos (cast (c .args .t .num))) (pos (cast (c .args .t .den)))) (pos (cast (c .args .t .den))) r
-    → Rounded a (along a b (c .args .t .num) (c .args .t .den)) (c .args .t .den) r
-plain c {a} {b} {r} ha hb k = transport (λ i. Rounded a (along a b (num-is c i) (den-is c i)) (den-is c i) r) (rounded-plain (pos (cast (c .args .t .num))) ha hb k)
+    → Rounded (along (read a) (read b) (pos (cast (c .args .t .num))) (pos (cast (c .args .t .den)))) (pos (cast (c .args .t .den))) r
+    → Rounded (along a b (c .args .t .num) (c .args .t .den)) (c .args .t .den) r
+plain c {a} {b} {r} ha hb k = transport (λ i. Rounded (along a b (num-is c i) (den-is c i)) (den-is c i) r) (rounded-plain (pos (cast (c .args .t .num))) ha hb k)
 
 returns-3 : tie.Need-returns-3
 returns-3 c =

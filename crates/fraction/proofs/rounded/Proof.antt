@@ -1,110 +1,157 @@
--- `fraction::rounded` meets its contract: the distance of a and b, rounded at n/d of it, is gone back or forward from a. Assumes nothing.
-use mathlib.Core.Path.{_≡_, sym, subst}
+-- `fraction::rounded` meets its contract: the lifted coordinate is from 0 to 32,767, and what is closest to it is put back. Assumes nothing.
+use mathlib.Core.Path.{_≡_, refl, sym, subst, _∙_}
 use mathlib.Core.List.{List, [], _∷_}
-use Prim.Native.Nat.{ℕ, _*_, _<_, _≤_}
-use native.Mathlib.Nat.{mul-le-mul, le-refl}
+use Prim.Native.Nat.{ℕ, _≤_, _<_, _^_}
 use native.Mathlib.Omega.{arith}
-use lib.IntN.{ℤ, pos, _-ℤ_, _*ℤ_}
+use borrow.Author.Needs.{needs}
+use lib.Dec.{T}
+use lib.IntN.{ℤ, pos, negℤ, natAbs, _+ℤ_, _*ℤ_}
+use lib.Signed.{_≤ℤ_, nonNeg, yes-nonNeg, pos-natAbs}
 use mir.Syntax.{w32}
 use Rattle.whole.specs.Within.{Within}
-use Rattle.whole.proofs.Comparisons.{lt-taken, lt-left}
-use Rattle.whole.proofs.Expressions.{Env}
-use Rattle.whole.proofs.Gaps.{gap-asks, gap-is, gap-small}
-use Rattle.whole.proofs.Machine.{Code, par, add, sub, need, value}
-use Rattle.whole.proofs.Order.{zarith, <→≤}
-use Rattle.whole.proofs.Ranges.{Bounds, within-abs, abs-within}
+use Rattle.whole.proofs.Certificates.{ge, le, nn, _⊞_, _⊠_}
+use Rattle.whole.proofs.Expressions.{Env, con, _⊕_, _⊗_, x0, x1, x2, x3}
+use Rattle.whole.proofs.Machine.{Code, par, lit, add, sub, mul, erase, machine, need, value}
+use Rattle.whole.proofs.Naturals.{add-is}
+use Rattle.whole.proofs.Order.{zarith}
+use Rattle.whole.proofs.Ranges.{Bounds, within, within-abs, abs-within}
 use Rattle.fraction.specs.Rounding.{Rounded}
-use Rattle.fraction.proofs.Rounding.{rounded-inside, rounded-on, rounded-back}
+use Rattle.fraction.proofs.Rounding.{rounded-inside, lifted, put-back}
 use Rattle.fraction.proofs.rounded.Statement.{statement}
 use Rattle.fraction.proofs.rounded.Tie as tie
 
--- the first of two numbers less the second, or both together
-abbrev less : Code
-less = sub w32 (par w32 0) (par w32 1)
+-- ---- the lifted coordinate, from a, b, n and d
+abbrev lift : ℤ
+lift = pos 16384
 
-abbrev more : Code
-more = add w32 (par w32 0) (par w32 1)
+abbrev high : Code
+high = add w32 (par w32 0) (lit lift)
 
--- ---- what n/d of a distance on the table is at the most
-part-small : {g n d q : ℕ} → g ≤ 32766 → 0 < d → n ≤ d → Rounded (pos 0) (pos g *ℤ pos n) (pos d) (pos q) → Within 32766 (pos q)
-part-small {g} {n} {d} {q} h p l r =
-    let part : g * n ≤ g * d = mul-le-mul (le-refl g) l in
-    let at-most = rounded-inside (pos 0) (pos g) (omega zarith) (omega zarith) (omega zarith) r .1 in
-    abs-within (omega zarith)
+abbrev far : Code
+far = sub w32 (par w32 1) (par w32 0)
 
--- the way from the start, and the start
+abbrev one : Code
+one = mul w32 high (par w32 3)
+
+abbrev two : Code
+two = mul w32 far (par w32 2)
+
+abbrev all : Code
+all = add w32 one two
+
 abbrev β : List ℕ
-β = 16383 ∷ 32766 ∷ []
+β = 16383 ∷ 16383 ∷ 32766 ∷ 32766 ∷ []
 
--- ---- back from the start
-gap-requires : tie.Need-gap-requires
-gap-requires c κs =
-    let a = c .before in
-    gap-asks (a .fits .b) (a .fits .a) (omega arith) (a .pre .1 .0) (a .pre .0) (<→≤ (lt-taken w32 (a .fits .b) (a .fits .a) (c .if1 .taken)))
+abbrev env : tie.Start → Env
+env c = c .args .a ∷ c .args .b ∷ pos (c .args .n) ∷ pos (c .args .d) ∷ []
 
-back-far : (c : tie.After-gap) → let a = c .before .before .args in pos (c .gap .result) ≡ a .a -ℤ a .b
-back-far c = let f = c .before .before .fits in gap-is (f .b) (f .a) (c .gap .ensures)
+bounds : (c : tie.Start) → Bounds β (env c)
+bounds c =
+    let p = c .pre in
+    (p .0, (p .1 .0, (abs-within (omega (arith, p .1 .1 .1, p .1 .1 .0 .1)), (abs-within (p .1 .1 .0 .1), tt))))
 
-back-small : (c : tie.After-gap) → c .gap .result ≤ 32766
-back-small c = let p = c .before .before .pre in gap-small (p .1 .0) (p .0) (back-far c)
+add-lifted : tie.Need-add-lifted
+add-lifted c = need β (env c) (bounds c) high tt
 
-part-of-requires : tie.Need-part-of-requires
-part-of-requires c κs = (back-small c, c .before .before .pre .1 .1)
+cast-lifted : tie.Need-cast-lifted
+cast-lifted c = search needs
 
-abbrev back-env : tie.After-part-of → Env
-back-env c = c .before .before .before .args .a ∷ pos (c .part-of .result) ∷ []
+mul-lifted : tie.Need-mul-lifted
+mul-lifted c = need β (env c) (bounds c) one tt
 
-back-bounds : (c : tie.After-part-of) → Bounds β (back-env c)
-back-bounds c = let p = c .before .before .before .pre in (p .0, (part-small (back-small (c .before)) (p .1 .1 .0 .0) (p .1 .1 .1) (c .part-of .ensures), tt))
+sub-lifted : tie.Need-sub-lifted
+sub-lifted c = need β (env c) (bounds c) far tt
+
+cast-lifted-2 : tie.Need-cast-lifted-2
+cast-lifted-2 c = search needs
+
+mul-lifted-2 : tie.Need-mul-lifted-2
+mul-lifted-2 c = need β (env c) (bounds c) two tt
+
+add-lifted-2 : tie.Need-add-lifted-2
+add-lifted-2 c = need β (env c) (bounds c) all tt
+
+-- ---- it is from 0 to 32,767
+abbrev top : ℕ
+top = 32767
+
+abbrev meant : tie.Start → ℤ
+meant c = lifted lift (c .args .a) (c .args .b) (pos (c .args .n)) (pos (c .args .d))
+
+abbrev made : tie.Start → ℤ
+made c = machine (env c) all
+
+made-is : (c : tie.Start) → made c ≡ meant c
+made-is c = value β (env c) (bounds c) all tt
+
+not-below : (c : tie.Start) → pos 0 ≤ℤ meant c
+not-below c =
+    let a = c .args in
+    let from : negℤ lift ≤ℤ a .a = omega (zarith, c .pre .0 .low) in
+    let to : negℤ lift ≤ℤ a .b = omega (zarith, c .pre .1 .0 .low) in
+    let done : pos 0 ≤ℤ pos (a .n) = omega zarith in
+    let left : pos (a .n) ≤ℤ pos (a .d) = omega (zarith, c .pre .1 .1 .1) in
+    ge (env c) (con (pos 0)) (erase all) (le x2 x3 left ⊠ le (con (negℤ lift)) x0 from ⊞ nn x2 done ⊠ le (con (negℤ lift)) x1 to) tt
+
+not-above : (c : tie.Start) → meant c ≤ℤ (pos top *ℤ pos (c .args .d))
+not-above c =
+    let a = c .args in
+    let from : (a .a +ℤ lift) ≤ℤ pos top = omega (zarith, add-is (a .a) lift, c .pre .0 .high) in
+    let to : (a .b +ℤ lift) ≤ℤ pos top = omega (zarith, add-is (a .b) lift, c .pre .1 .0 .high) in
+    let done : pos 0 ≤ℤ pos (a .n) = omega zarith in
+    let left : pos (a .n) ≤ℤ pos (a .d) = omega (zarith, c .pre .1 .1 .1) in
+    let most = con (pos top) in
+    ge (env c) (erase all) (most ⊗ x3) (le x2 x3 left ⊠ le (x0 ⊕ con lift) most from ⊞ nn x2 done ⊠ le (x1 ⊕ con lift) most to) tt
+
+-- as it is cast
+size : (c : tie.Start) → natAbs (made c) < 2 ^ 31
+size c =
+    let h : Within 2147254278 (meant c) = within β (env c) (bounds c) (erase all) tt in
+    subst (λ (y : ℤ). natAbs y < 2 ^ 31) (sym (made-is c)) (omega (arith, within-abs h))
+
+positive : (c : tie.Start) → T (nonNeg (made c))
+positive c = subst (λ (y : ℤ). T (nonNeg y)) (sym (made-is c)) (yes-nonNeg (not-below c))
+
+cast-closest : tie.Need-cast-closest
+cast-closest c = (positive c, record { fits = omega (arith, size c) })
+
+closest-requires : tie.Need-closest-requires
+closest-requires c κs = (c .pre .1 .1 .0, size c)
+
+-- ---- what is closest to it
+found : (c : tie.After-closest) → Rounded (meant (c .before)) (pos (c .before .args .d)) (pos (c .closest .result))
+found c =
+    let s = c .before in
+    subst (λ (x : ℤ). Rounded x (pos (s .args .d)) (pos (c .closest .result))) (pos-natAbs (made s) (positive s) ∙ made-is s) (c .closest .ensures)
+
+small : (c : tie.After-closest) → c .closest .result ≤ top
+small c =
+    let s = c .before in
+    let d = s .pre .1 .1 .0 .0 in
+    let low = not-below s in
+    omega (zarith, rounded-inside (pos 0) (pos top) (omega zarith) (omega zarith) (not-above s) (found c) .1)
+
+abbrev back : Code
+back = sub w32 (par w32 0) (lit lift)
+
+abbrev found-env : tie.After-closest → Env
+found-env c = pos (c .closest .result) ∷ []
+
+found-bounds : (c : tie.After-closest) → Bounds (top ∷ []) (found-env c)
+found-bounds c = (abs-within (small c), tt)
 
 cast-result : tie.Need-cast-result
-cast-result c = record { sfits = omega (arith, within-abs (back-bounds c .1 .0)) }
+cast-result c = record { sfits = omega (arith, small c) }
 
 sub-result : tie.Need-sub-result
-sub-result c = need β (back-env c) (back-bounds c) less tt
+sub-result c = need (top ∷ []) (found-env c) (found-bounds c) back tt
 
 returns : tie.Need-returns
 returns c =
-    let a = c .before .before .before .args in
-    subst (Rounded _ _ _) (sym (value β (back-env c) (back-bounds c) less tt))
-    (rounded-back (a .a) (a .b) (pos (a .n))
-    (subst (λ (z : ℤ). Rounded (pos 0) (z *ℤ pos (a .n)) (pos (a .d)) (pos (c .part-of .result))) (back-far (c .before)) (c .part-of .ensures)))
-
--- ---- forward from the start
-gap-requires-2 : tie.Need-gap-requires-2
-gap-requires-2 c κs =
-    let a = c .before in
-    gap-asks (a .fits .a) (a .fits .b) (omega arith) (a .pre .0) (a .pre .1 .0) (lt-left w32 (a .fits .b) (a .fits .a) (c .if1 .left))
-
-on-far : (c : tie.After-gap2) → let a = c .before .before .args in pos (c .gap2 .result) ≡ a .b -ℤ a .a
-on-far c = let f = c .before .before .fits in gap-is (f .a) (f .b) (c .gap2 .ensures)
-
-on-small : (c : tie.After-gap2) → c .gap2 .result ≤ 32766
-on-small c = let p = c .before .before .pre in gap-small (p .0) (p .1 .0) (on-far c)
-
-part-of-requires-2 : tie.Need-part-of-requires-2
-part-of-requires-2 c κs = (on-small c, c .before .before .pre .1 .1)
-
-abbrev on-env : tie.After-part-of2 → Env
-on-env c = c .before .before .before .args .a ∷ pos (c .part-of2 .result) ∷ []
-
-on-bounds : (c : tie.After-part-of2) → Bounds β (on-env c)
-on-bounds c = let p = c .before .before .before .pre in (p .0, (part-small (on-small (c .before)) (p .1 .1 .0 .0) (p .1 .1 .1) (c .part-of2 .ensures), tt))
-
-cast-result-2 : tie.Need-cast-result-2
-cast-result-2 c = record { sfits = omega (arith, within-abs (on-bounds c .1 .0)) }
-
-add-result : tie.Need-add-result
-add-result c = need β (on-env c) (on-bounds c) more tt
-
-returns-2 : tie.Need-returns-2
-returns-2 c =
-    let a = c .before .before .before .args in
-    subst (Rounded _ _ _) (sym (value β (on-env c) (on-bounds c) more tt))
-    (rounded-on (a .a) (a .b) (pos (a .n))
-    (subst (λ (z : ℤ). Rounded (pos 0) (z *ℤ pos (a .n)) (pos (a .d)) (pos (c .part-of2 .result))) (on-far (c .before)) (c .part-of2 .ensures)))
+    let a = c .before .args in
+    subst (Rounded _ _) (sym (value (top ∷ []) (found-env c) (found-bounds c) back tt)) (put-back lift (a .a) (a .b) (pos (a .n)) refl (found c))
 
 pub rounded-spec : {M : Type 1} → statement M
 rounded-spec =
     tie.close
-    (tie.spec gap-requires part-of-requires cast-result sub-result returns gap-requires-2 part-of-requires-2 cast-result-2 add-result returns-2)
+    (tie.spec add-lifted cast-lifted mul-lifted sub-lifted cast-lifted-2 mul-lifted-2 add-lifted-2 cast-closest closest-requires cast-result sub-result returns)

@@ -3,7 +3,7 @@
 use super::line::Line;
 use super::numbers::spoil;
 use super::room::{every, room};
-use super::stroke_kinds::stroke;
+use super::stroke_kinds::{stroke, turned};
 use super::windows::{self, Window};
 use crate::batch::kept_strokes;
 use crate::random::Random;
@@ -51,13 +51,17 @@ pub fn line(random: &mut Random) -> Vec<u8> {
     of(room, window, &list)
 }
 
+/// At times each is followed by itself turned round.
 pub fn many(random: &mut Random, window: Window) -> Vec<i32> {
     let count = match random.below(6) {
         0 => random.below(2),
         1 => 20 + random.below(20),
         _ => 2 + random.below(8),
     };
-    let strokes: Vec<[i32; 4]> = (0..count).map(|_| stroke(random, window)).collect();
+    let mut strokes: Vec<[i32; 4]> = (0..count).map(|_| stroke(random, window)).collect();
+    if random.one_in(3) {
+        strokes = strokes.into_iter().flat_map(|s| [s, turned(s)]).collect();
+    }
     strokes.concat()
 }
 

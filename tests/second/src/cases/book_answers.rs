@@ -2,10 +2,8 @@
 //! A refused call gives the book back as it was.
 
 use super::books::{Book, Slot};
+pub use super::line::Answered;
 use super::windows::Window;
-
-/// A line and its answer.
-pub type Answered = (Vec<u8>, String);
 
 /// What most of these are about, and one that lies far from it.
 pub const STRIP: Window = [0, 0, 10, 10];

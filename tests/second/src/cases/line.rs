@@ -36,6 +36,9 @@ impl Line {
     }
 }
 
+/// A line and its answer.
+pub type Answered = (Vec<u8>, String);
+
 /// Lines written out in full.
 pub fn all(text: &[&str]) -> Vec<Vec<u8>> {
     text.iter().map(|line| line.as_bytes().to_vec()).collect()

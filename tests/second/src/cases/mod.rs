@@ -1,7 +1,8 @@
 //! The lines on which the two programs are compared. First come the worked examples, the same for every
-//! seed, then each family's fixed list, the few long lines, runs of a strip book, and random lines up to the count.
+//! seed, then each family's fixed list, the few long lines, runs of a strip book, and random lines up to the count;
+//! at times the next line has a stroke turned round.
 
-mod batches;
+pub mod batches;
 mod book_answers;
 pub mod book_asked;
 pub mod book_by_hand;
@@ -25,6 +26,7 @@ mod examples;
 mod flaws;
 mod floats;
 pub mod grounds;
+pub mod halves;
 mod line;
 mod long;
 mod malformed;
@@ -37,9 +39,10 @@ mod shapes;
 pub mod sides;
 mod sketch;
 mod slips;
-mod stroke_kinds;
-mod strokes;
-mod windows;
+mod stroke_answers;
+pub mod stroke_kinds;
+pub mod strokes;
+pub mod windows;
 
 use crate::random::Random;
 
@@ -53,7 +56,7 @@ pub fn lot(seed: u64, count: usize) -> Vec<Vec<u8>> {
     lot.extend(long::lines(&mut random));
     lot.extend(book_runs::lines(&mut random, IN_RUNS));
     while lot.len() + 1 < count {
-        let line = any(&mut random);
+        let line = next(&mut random, lot.last());
         lot.push(line);
     }
     // The last line has no newline, so it must not be an empty one.
@@ -66,6 +69,7 @@ fn fixed() -> Vec<Vec<u8>> {
         examples::lines(),
         floats::fixed(),
         strokes::fixed(),
+        halves::lines(),
         corner_windows::fixed(),
         batches::fixed(),
         outline_limits::lines(),
@@ -74,6 +78,16 @@ fn fixed() -> Vec<Vec<u8>> {
         malformed::lines(),
     ];
     lists.concat()
+}
+
+/// At times the stroke of the line before, turned round.
+fn next(random: &mut Random, before: Option<&Vec<u8>>) -> Vec<u8> {
+    if random.one_in(4) {
+        if let Some(line) = before.and_then(|line| strokes::turned_round(random, line)) {
+            return line;
+        }
+    }
+    any(random)
 }
 
 /// A line of some family; every twentieth or so is spoiled as a line of the desk.

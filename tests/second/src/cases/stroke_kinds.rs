@@ -3,11 +3,12 @@
 use super::numbers::{extreme, near, on_table, onto_table};
 use super::windows::Window;
 use crate::random::Random;
+use crate::table::holds;
 
 pub type Stroke = [i32; 4];
 
 pub fn stroke(random: &mut Random, window: Window) -> Stroke {
-    match random.below(14) {
+    match random.below(16) {
         0 => [(); 4].map(|_| on_table(random)),
         1 | 2 => around(random, window),
         3 => near_borders(random, window),
@@ -15,8 +16,8 @@ pub fn stroke(random: &mut Random, window: Window) -> Stroke {
         5 => along(random, window),
         6 => no_length(random, window),
         7..=9 => across(random, window),
-        10 | 11 => by_halves(random, window),
-        12 => to_a_side(random, window),
+        10..=13 => by_halves(random, window),
+        14 => to_a_side(random, window),
         _ => [(); 4].map(|_| extreme(random)),
     }
 }
@@ -55,7 +56,7 @@ fn touching(random: &mut Random, window: Window) -> Stroke {
     let step = [if right { -x } else { x }, if top { y } else { -y }];
     let (before, after) = (random.between(0, 30), random.between(0, 30));
     let along = |k: i32| [corner[0] + k * step[0], corner[1] + k * step[1]].map(onto_table);
-    let mut stroke = turned(random, along(-before), along(after));
+    let mut stroke = either_way(random, along(-before), along(after));
     if random.one_in(3) {
         let place = random.below(4);
         stroke[place] = near(random, stroke[place], 1);
@@ -110,27 +111,47 @@ fn across(random: &mut Random, window: Window) -> Stroke {
     let start = [beyond(left, -1), beyond(bottom, -1)];
     let end = [beyond(right, 1), beyond(top, 1)];
     if random.one_in(2) {
-        turned(random, start, end)
+        either_way(random, start, end)
     } else {
-        turned(random, [start[0], end[1]], [end[0], start[1]])
+        either_way(random, [start[0], end[1]], [end[0], start[1]])
     }
 }
 
-/// Meets a side at a half: its ends lie as far from the side, their other coordinates add up to odd.
 fn by_halves(random: &mut Random, window: Window) -> Stroke {
-    let [left, bottom, right, top] = window;
-    let far = random.between(1, 9);
     if random.one_in(2) {
-        let x = random.pick(&[left, right]);
-        let y = random.between(bottom, top);
-        let slope = random.between(-9, 9);
-        turned(random, [x - far, y - slope], [x + far, y + slope + 1])
+        by_halves_of_y(random, window)
     } else {
-        let y = random.pick(&[bottom, top]);
-        let x = random.between(left, right);
-        let slope = random.between(-9, 9);
-        turned(random, [x - slope, y - far], [x + slope + 1, y + far])
+        mirrored(by_halves_of_y(random, mirrored(window)))
     }
+}
+
+/// Meets the left or the right side at a half, or both. From there it goes by steps that each rise by an odd
+/// number of halves, so that it is at a grid point after an odd number of steps.
+fn by_halves_of_y(random: &mut Random, window: Window) -> Stroke {
+    let [left, bottom, right, top] = window;
+    let (reach, most) = random.pick(&[(1, 1), (1, 999), (9, 5), (9, 5), (600, 3)]);
+    let rise = 2 * random.between(-reach, reach - 1) + 1;
+    let anywhere = random.between(bottom, top - 1);
+    let below = random.pick(&[bottom, top - 1, anywhere, anywhere, anywhere]);
+    let (side, step, before, after) = if (right - left) % 2 == 0 && random.one_in(4) {
+        // After two steps it meets the other side, at a half again.
+        (left, (right - left) / 2, 1, 3)
+    } else {
+        let side = random.pick(&[left, right]);
+        let step = random.between(1, reach);
+        let mut odd = || 2 * random.between(0, most / 2) + 1;
+        (side, step, odd(), odd())
+    };
+    let through = |step: i32, rise: i32, before: i32, after: i32| {
+        let at = |steps: i32| [side + steps * step, (2 * below + 1 + steps * rise) / 2];
+        [at(-before), at(after)]
+    };
+    let mut ends = through(step, rise, before, after);
+    if !ends.concat().into_iter().all(holds) {
+        // The shortest one stays on the table, unless the side is the table's end.
+        ends = through(1, rise.signum(), 1, 1);
+    }
+    either_way(random, ends[0], ends[1])
 }
 
 /// One end on a side, the other anywhere around.
@@ -143,7 +164,17 @@ fn to_a_side(random: &mut Random, window: Window) -> Stroke {
         [inner[0], random.pick(&[bottom, top])]
     };
     let [x, y, ..] = around(random, window);
-    turned(random, [x, y], end)
+    either_way(random, [x, y], end)
+}
+
+/// The end first.
+pub fn turned([x1, y1, x2, y2]: Stroke) -> Stroke {
+    [x2, y2, x1, y1]
+}
+
+/// x and y exchanged, of a stroke or of a window.
+pub fn mirrored([a, b, c, d]: [i32; 4]) -> [i32; 4] {
+    [b, a, d, c]
 }
 
 fn joined(start: [i32; 2], end: [i32; 2]) -> Stroke {
@@ -151,7 +182,7 @@ fn joined(start: [i32; 2], end: [i32; 2]) -> Stroke {
 }
 
 /// Either way round, and on the table.
-fn turned(random: &mut Random, start: [i32; 2], end: [i32; 2]) -> Stroke {
+fn either_way(random: &mut Random, start: [i32; 2], end: [i32; 2]) -> Stroke {
     let (start, end) = (start.map(onto_table), end.map(onto_table));
     if random.one_in(2) {
         joined(start, end)

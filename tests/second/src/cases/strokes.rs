@@ -2,8 +2,9 @@
 
 use super::line::Line;
 use super::numbers::{anywhere, spoil};
-use super::stroke_kinds::{stroke, Stroke};
+use super::stroke_kinds::{stroke, turned, Stroke};
 use super::windows::{self, Window};
+use crate::call::{read, Call};
 use crate::random::Random;
 
 /// Every refusal alone and several at once.
@@ -51,6 +52,17 @@ pub fn line(random: &mut Random) -> Vec<u8> {
             of(rule, window, off(random, stroke))
         }
         _ => of(rule, window, stroke),
+    }
+}
+
+/// The stroke of a line turned round, by either rule; none where the line is no call with a rectangle and a stroke.
+pub fn turned_round(random: &mut Random, line: &[u8]) -> Option<Vec<u8>> {
+    match read(line)? {
+        Call::LiangBarsky(window, stroke) | Call::CohenSutherland(window, stroke) => {
+            let rule = random.pick(&["lb", "cs"]);
+            Some(of(rule, window, turned(stroke)))
+        }
+        _ => None,
     }
 }
 

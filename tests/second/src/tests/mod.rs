@@ -10,6 +10,7 @@ mod disk_texts;
 mod heard;
 mod passes;
 mod plain_list;
+mod turned;
 mod two_runs;
 mod worked;
 

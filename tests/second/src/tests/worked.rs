@@ -1,4 +1,4 @@
-//! The worked examples, A to L, and the sources' vectors, with the answers as printed.
+//! The worked examples, A to M, and the sources' vectors, with the answers as printed.
 
 use super::expect;
 use crate::answer::answer;
@@ -7,12 +7,15 @@ use crate::cases::by_hand;
 const MISSED: &str = "0 0 0 0 1 0 1 0 0 0 0";
 
 /// By every rule: name, numbers, the answer's common part, the count of shortenings.
-const STROKES: [(&str, &str, &str, u8); 16] = [
+const STROKES: [(&str, &str, &str, u8); 19] = [
     ("0 0 10 10", "-5 5 15 5", "0 0 1 1 4 3 4 0 5 10 5", 2),
     ("0 0 10 10", "-5 5 5 -5", "0 0 1 1 2 1 2 0 0 0 0", 2),
     ("0 0 10 10", "-5 4 4 -5", MISSED, 1),
     ("0 0 10 10", "-1 24 11 -14", "0 0 1 7 19 12 19 3 10 7 0", 4),
     ("0 0 10 10", "-1 0 1 1", "0 0 1 1 2 1 1 0 0 1 1", 1),
+    ("0 0 10 10", "1 1 -1 0", "0 0 1 0 1 1 2 1 1 0 0", 1),
+    ("0 0 10 10", "-1 1 1 2", "0 0 1 1 2 1 1 0 2 1 2", 1),
+    ("0 0 10 10", "1 2 -1 1", "0 0 1 0 1 1 2 1 2 0 2", 1),
     ("0 0 10 10", "10 10 10 10", "0 0 1 0 1 1 1 10 10 10 10", 0),
     ("0 0 10 10", "11 10 11 10", MISSED, 0),
     ("0 0 10 10", "5 20 40 5", MISSED, 1),

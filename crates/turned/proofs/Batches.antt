@@ -1,0 +1,170 @@
+-- Many strokes, some of them turned round: row by row the points are exchanged or the same, so the rows are as many and stand where the others stood.
+use mathlib.Core.Path.{_≡_, refl, sym, ap, _∙_, subst}
+use mathlib.Core.Bool.{Bool, true, false}
+use mathlib.Core.List.{List, [], _∷_, _++_}
+use Prim.Native.Nat.{ℕ, suc}
+use borrow.Author.Tests.{eqb-true, eqb-false}
+use lib.Dec.{eqb, leb}
+use lib.IntN.{ℤ, pos, natAbs}
+use lib.ListN.{length, take, drop}
+use lib.Seq.{take-append-seam, drop-append-seam}
+use Rattle.whole.specs.Choice.{if_then_else_}
+use Rattle.grid.specs.declared.Answer.{Answer}
+use Rattle.grid.specs.declared.Stroke.{Stroke}
+use Rattle.grid.specs.declared.Window.{Window}
+use Rattle.grid.specs.Calls.{Given, written, answered, answeredBy, givesAll, refusedBy}
+use Rattle.grid.specs.Refusals.{none, refuse, noRoom, roomRefusal}
+use Rattle.grid.specs.Table.{strokesOf}
+use Rattle.strokes.specs.Strokes.{Clipped}
+use Rattle.strokes.specs.declared.StrokeAnswer.{StrokeAnswer}
+use Rattle.batch.specs.Batches.{Each, row, rows, RowsOf, batchRefusal}
+use Rattle.batch.specs.Batches as batches
+use Rattle.strokes.proofs.Unique.{clipped-unique}
+use Rattle.turned.specs.Turned.{turned, TurnedAnswer, swap, turnedStrokes, turnedRows, TurnedBatch, TurnedRoundInRows}
+use Rattle.turned.proofs.Refusing.{SameRefusal, batch-turned}
+use Rattle.turned.proofs.Strokes.{clipped-turned}
+
+-- ---- the strokes of the list
+unfoldable turnSome : (ℕ → Bool) → ℕ → List Stroke → List Stroke
+turnSome which k [] = []
+turnSome which k (s ∷ ss) = (if which k then turned s else s) ∷ turnSome which (suc k) ss
+
+strokes-turned : (which : ℕ → Bool) (k : ℕ) (zs : List ℤ) → strokesOf (turnedStrokes which k zs) ≡ turnSome which k (strokesOf zs)
+unfolding strokesOf turnedStrokes turnSome
+strokes-turned which k [] = refl
+strokes-turned which k (a ∷ []) = refl
+strokes-turned which k (a ∷ b ∷ []) = refl
+strokes-turned which k (a ∷ b ∷ c ∷ []) = refl
+strokes-turned which k (a ∷ b ∷ c ∷ d ∷ zs) = go (which k) (turnedStrokes which (suc k) zs) (strokes-turned which (suc k) zs)
+  where
+    this : Stroke
+    this = record { x1 = a; y1 = b; x2 = c; y2 = d }
+
+    go : (turn : Bool) (rest : List ℤ) {ss : List Stroke} → strokesOf rest ≡ ss
+        → strokesOf (swap turn a b c d ++ rest) ≡ (if turn then turned this else this) ∷ ss
+    go true rest e = ap (λ (ss : List Stroke). turned this ∷ ss) e
+    go false rest e = ap (λ (ss : List Stroke). this ∷ ss) e
+
+-- ---- their rows
+abbrev Turns : Bool → StrokeAnswer → StrokeAnswer → Type 0
+Turns true a b = TurnedAnswer a b
+Turns false a b = a ≡ b
+
+row-turned : (which : ℕ → Bool) (k : ℕ) (a b : StrokeAnswer) → Turns (which k) a b → (xs : List ℤ)
+    → turnedRows which (row k a ++ xs) ≡ row k b ++ turnedRows which xs
+unfolding turnedRows
+row-turned which k a b t xs = go (which k) refl t
+  where
+    five : Bool → StrokeAnswer → List ℤ
+    five kept c = if kept then pos k ∷ c .ax ∷ c .ay ∷ c .bx ∷ c .by ∷ [] else []
+
+    -- a row where the stroke is turned round, or not
+    said : {turn : Bool} → which k ≡ turn → (c : StrokeAnswer)
+        → turnedRows which (pos k ∷ c .ax ∷ c .ay ∷ c .bx ∷ c .by ∷ xs) ≡ pos k ∷ swap turn (c .ax) (c .ay) (c .bx) (c .by) ++ turnedRows which xs
+    said e c = ap (λ (turn : Bool). pos k ∷ swap turn (c .ax) (c .ay) (c .bx) (c .by) ++ turnedRows which xs) e
+
+    back : TurnedAnswer a b → which k ≡ true → (h : Bool) → b .kept ≡ h → turnedRows which (five h a ++ xs) ≡ five (b .kept) b ++ turnedRows which xs
+    back t w true e =
+        said w a ∙ (λ i. pos k ∷ sym (t .start .0) i ∷ sym (t .start .1) i ∷ sym (t .finish .0) i ∷ sym (t .finish .1) i ∷ turnedRows which xs)
+        ∙ ap (λ (h : Bool). five h b ++ turnedRows which xs) (sym e)
+    back t w false e = ap (λ (h : Bool). five h b ++ turnedRows which xs) (sym e)
+
+    alike : which k ≡ false → (h : Bool) → turnedRows which (five h a ++ xs) ≡ five h a ++ turnedRows which xs
+    alike w true = said w a
+    alike w false = refl
+
+    go : (turn : Bool) → which k ≡ turn → Turns turn a b → turnedRows which (row k a ++ xs) ≡ row k b ++ turnedRows which xs
+    go true w t = back t w (a .kept) (t .kept)
+    go false w t = alike w (a .kept) ∙ ap (λ (c : StrokeAnswer). row k c ++ turnedRows which xs) t
+
+each-turned : (which : ℕ → Bool) {w : Window} (k : ℕ) {ss : List Stroke} {answers others : List StrokeAnswer}
+    → Each (Clipped w) ss answers → Each (Clipped w) (turnSome which k ss) others
+    → turnedRows which (rows k answers) ≡ rows k others
+unfolding rows turnedRows turnSome
+each-turned which k batches.none batches.none = refl
+each-turned which {w} k (batches._and_ {x = s} {y = a} {ys = answers} p ps) (batches._and_ {y = b} {ys = others} q qs) =
+    row-turned which k a b (go (which k) q) (rows (suc k) answers) ∙ ap (λ (xs : List ℤ). row k b ++ xs) (each-turned which (suc k) ps qs)
+  where
+    go : (turn : Bool) → Clipped w (if turn then turned s else s) b → Turns turn a b
+    go true q = clipped-turned p q
+    go false q = clipped-unique p q
+
+rows-turned : (which : ℕ → Bool) {w : Window} {zs xs ys : List ℤ} → RowsOf w zs xs → RowsOf w (turnedStrokes which 0 zs) ys → ys ≡ turnedRows which xs
+rows-turned which {w} {zs} p q =
+    let back = subst (λ (ss : List Stroke). Each (Clipped w) ss (q .answers)) (strokes-turned which 0 zs) (q .clipped) in
+    q .are ∙ sym (each-turned which 0 (p .clipped) back) ∙ ap (turnedRows which) (sym (p .are))
+
+rows-length : (which : ℕ → Bool) (xs : List ℤ) → length (turnedRows which xs) ≡ length xs
+unfolding turnedRows
+rows-length which [] = refl
+rows-length which (k ∷ []) = refl
+rows-length which (k ∷ a ∷ []) = refl
+rows-length which (k ∷ a ∷ b ∷ []) = refl
+rows-length which (k ∷ a ∷ b ∷ c ∷ []) = refl
+rows-length which (k ∷ a ∷ b ∷ c ∷ d ∷ xs) = go (which (natAbs k)) ∙ ap (λ (n : ℕ). suc (suc (suc (suc (suc n))))) (rows-length which xs)
+  where
+    go : (turn : Bool) → length (k ∷ swap turn a b c d ++ turnedRows which xs) ≡ suc (suc (suc (suc (suc (length (turnedRows which xs))))))
+    go true = refl
+    go false = refl
+
+-- ---- what is written and answered, by how many numbers there are
+answered-turned : (which : ℕ → Bool) (xs : List ℤ) (room : ℕ) → answered (turnedRows which xs) room ≡ answered xs room
+unfolding answeredBy
+answered-turned which xs room = ap ofLength (rows-length which xs)
+  where
+    ofLength : ℕ → Answer
+    ofLength n = let r = roomRefusal n room in if eqb (r .number) 0 then record { number = 0; place = 0; count = n } else refusedBy r
+
+written-turned : (which : ℕ → Bool) (xs out : List ℤ) → let n = answered xs (length out) .count in
+    written (turnedRows which xs) out ≡ turnedRows which (take n (written xs out)) ++ drop n (written xs out)
+unfolding written answeredBy roomRefusal turnedRows
+written-turned which xs out =
+    ap (λ (n : ℕ). if leb n (length out) then turnedRows which xs ++ drop n out else out) (rows-length which xs) ∙ go (leb (length xs) (length out))
+  where
+    given : Bool → List ℤ
+    given t = if t then xs ++ drop (length xs) out else out
+
+    count : Bool → ℕ
+    count t = let r = if t then none else refuse noRoom (length xs) in (if eqb (r .number) 0 then givesAll xs else refusedBy r) .count
+
+    go : (t : Bool) → (if t then turnedRows which xs ++ drop (length xs) out else out) ≡ turnedRows which (take (count t) (given t)) ++ drop (count t) (given t)
+    go true = λ i. turnedRows which (sym (take-append-seam xs (drop (length xs) out)) i) ++ sym (drop-append-seam xs (drop (length xs) out)) i
+    go false = refl
+
+given-turned : (which : ℕ → Bool) {w : Window} {zs : List ℤ} {a b : Answer} {before after after′ : List ℤ}
+    → Given (RowsOf w zs) a before after → Given (RowsOf w (turnedStrokes which 0 zs)) b before after′ → TurnedBatch which a after b after′
+given-turned which {a = a} {b} {before} g h =
+    let e = rows-turned which (g .gives) (h .gives) in
+    let room = length before in
+    let same : b ≡ a = h .answer ∙ ap (λ (xs : List ℤ). answered xs room) e ∙ answered-turned which (g .numbers) room ∙ sym (g .answer) in record {
+      number = ap (λ (x : Answer). x .number) same;
+      place = λ _. ap (λ (x : Answer). x .place) same;
+      count = ap (λ (x : Answer). x .count) same;
+      rows =
+          h .output ∙ ap (λ (xs : List ℤ). written xs before) e ∙ written-turned which (g .numbers) before
+          ∙ (λ i. turnedRows which (take (sym (g .answer) i .count) (sym (g .output) i)) ++ drop (sym (g .answer) i .count) (sym (g .output) i));
+    }
+
+-- ---- the call
+pub turned-round-in-rows : TurnedRoundInRows
+unfolding turnedRows
+turned-round-in-rows which w zs a b before after after′ p q = go (eqb (batchRefusal w zs .number) 0) refl
+  where
+    same : SameRefusal (batchRefusal w zs) (batchRefusal w (turnedStrokes which 0 zs))
+    same = batch-turned which zs w
+
+    go : (z : Bool) → eqb (batchRefusal w zs .number) 0 ≡ z → TurnedBatch which a after b after′
+    go true t = let z = eqb-true (batchRefusal w zs .number) 0 t in given-turned which (p .done z) (q .done (same .number ∙ z))
+    go false t =
+        let n = eqb-false (batchRefusal w zs .number) 0 t in
+        let x = p .refused n in
+        let y = q .refused (λ z. n (sym (same .number) ∙ z)) in
+        record {
+          number = ap (λ (x : Answer). x .number) (y .answer) ∙ same .number ∙ sym (ap (λ (x : Answer). x .number) (x .answer));
+          place = λ k.
+              ap (λ (x : Answer). x .place) (y .answer)
+              ∙ same .place (λ e. k (ap (λ (x : Answer). x .number) (x .answer) ∙ e)) ∙ sym (ap (λ (x : Answer). x .place) (x .answer));
+          count = ap (λ (x : Answer). x .count) (y .answer) ∙ sym (ap (λ (x : Answer). x .count) (x .answer));
+          rows = y .untouched ∙ sym (x .untouched)
+              ∙ ap (λ (n : ℕ). turnedRows which (take n after) ++ drop n after) (sym (ap (λ (x : Answer). x .count) (x .answer)));
+        }

@@ -1,0 +1,5 @@
+pub mod Halves
+pub mod Parts
+pub mod Refusing
+pub mod Strokes
+pub mod Batches

@@ -1,0 +1,97 @@
+-- One stroke turned round: what answers it, made from the answer of the stroke, is right, and so it is the only answer that is.
+use mathlib.Core.Path.{_≡_, refl, sym, ap, _∙_, subst}
+use mathlib.Core.Bool.{Bool, true, false}
+use borrow.Author.Tests.{eqb-true, eqb-false}
+use lib.Dec.{eqb}
+use lib.IntN.{ℤ, _-ℤ_}
+use Rattle.whole.proofs.Comparisons.{ff-tt, tt-ff}
+use Rattle.grid.specs.declared.Refusal.{Refusal}
+use Rattle.grid.specs.declared.Stroke.{Stroke}
+use Rattle.grid.specs.declared.Window.{Window}
+use Rattle.grid.specs.Refusals.{none}
+use Rattle.strokes.specs.Strokes.{Keeps, Clipped, strokeCallRefusal, blank}
+use Rattle.strokes.specs.declared.StrokeAnswer.{StrokeAnswer}
+use Rattle.strokes.proofs.Answers.{nothing-kept}
+use Rattle.strokes.proofs.Unique.{clipped-unique}
+use Rattle.turned.specs.Turned.{turned, oneMinus, TurnedAnswer, TurnedRound, TurnedRoundByCodes}
+use Rattle.turned.proofs.Parts.{keeps-back, point-back, first-back, last-back}
+use Rattle.turned.proofs.Refusing.{SameRefusal, call-turned}
+
+-- ---- an answer that keeps nothing, and its like
+blank-turned : {r q : Refusal} → SameRefusal r q → TurnedAnswer (blank r) (blank q)
+blank-turned h = record {
+  number = h .number;
+  place = h .place;
+  kept = refl;
+  start = (refl, refl);
+  finish = (refl, refl);
+  fractions = λ e. absurd (ff-tt e);
+  missed = λ _. (refl, refl);
+}
+
+-- ---- a stroke in which nothing is refused
+abbrev exchanged : StrokeAnswer → StrokeAnswer
+exchanged a = record {
+  number = 0;
+  place = 0;
+  kept = true;
+  t0 = oneMinus (a .t1);
+  t1 = oneMinus (a .t0);
+  ax = a .bx;
+  ay = a .by;
+  bx = a .ax;
+  by = a .ay;
+}
+
+module _ {w : Window} {s : Stroke} {a : StrokeAnswer} (p : Clipped w s a) where
+  exchanged-is : a .kept ≡ true → Clipped w (turned s) (exchanged a)
+  exchanged-is e = record {
+    number = refl;
+    place = refl;
+    part = record {
+      keeps = λ n d k. refl;
+      first = λ _. first-back {K′ = Keeps w (turned s)} keeps-back keeps-back (p .part .last e);
+      last = λ _. last-back {K′ = Keeps w (turned s)} keeps-back keeps-back (p .part .first e);
+      missed = λ f. absurd (tt-ff f);
+    };
+    start = λ _. point-back (p .finish e);
+    finish = λ _. point-back (p .start e);
+    missed = λ f. absurd (tt-ff f);
+  }
+
+  pub clipped-turned : {b : StrokeAnswer} → Clipped w (turned s) b → TurnedAnswer a b
+  clipped-turned {b} q = go (a .kept) refl
+    where
+      go : (k : Bool) → a .kept ≡ k → TurnedAnswer a b
+      go true e = subst (TurnedAnswer a) (clipped-unique (exchanged-is e) q) (record {
+        number = sym (p .number);
+        place = λ _. sym (p .place);
+        kept = sym e;
+        start = (refl, refl);
+        finish = (refl, refl);
+        fractions = λ _. (refl, refl);
+        missed = λ f. absurd (tt-ff (sym e ∙ f));
+      })
+      go false e =
+          let never = nothing-kept (λ (n d : ℤ) (k : Keeps w (turned s) n d). ff-tt (sym e ∙ p .part .keeps (d -ℤ n) d (keeps-back n d k))) in
+          subst (λ (x : StrokeAnswer). TurnedAnswer x b) (sym (p .missed e))
+          (subst (TurnedAnswer (blank none)) (clipped-unique never q) (blank-turned (record { number = refl; place = λ _. refl })))
+
+-- ---- the calls
+pub turned-round : TurnedRound
+turned-round w s a b p q = go (eqb (strokeCallRefusal w s .number) 0) refl
+  where
+    same : SameRefusal (strokeCallRefusal w s) (strokeCallRefusal w (turned s))
+    same = call-turned w s
+
+    go : (z : Bool) → eqb (strokeCallRefusal w s .number) 0 ≡ z → TurnedAnswer a b
+    go true t =
+        let z = eqb-true (strokeCallRefusal w s .number) 0 t in
+        clipped-turned (p .done z) (q .done (same .number ∙ z))
+    go false t =
+        let n = eqb-false (strokeCallRefusal w s .number) 0 t in
+        subst (λ (x : StrokeAnswer). TurnedAnswer x b) (sym (p .refused n))
+        (subst (TurnedAnswer (blank (strokeCallRefusal w s))) (sym (q .refused (λ z. n (sym (same .number) ∙ z)))) (blank-turned same))
+
+pub turned-round-by-codes : TurnedRoundByCodes
+turned-round-by-codes w s a b p q = turned-round w s (a .answer) (b .answer) (p .clipping) (q .clipping)

@@ -1,0 +1,108 @@
+//! Lines of a stroke with their answers, put together from what is known by hand of it: by both rules, and turned round.
+
+use super::line::Answered;
+use super::stroke_kinds::{mirrored, turned, Stroke};
+use super::windows::Window;
+use super::{batches, strokes};
+
+/// A stroke of which something is kept.
+#[derive(Clone, Copy)]
+pub struct Kept {
+    pub stroke: Stroke,
+    /// t0 and t1, each its numerator before its denominator.
+    pub fractions: [i32; 4],
+    pub points: [i32; 4],
+    /// As many either way round, since each end of a kept stroke is shortened for itself.
+    pub shortenings: i32,
+}
+
+/// A stroke of which nothing is kept, with its shortenings this way round and turned round.
+pub type Missed = (Stroke, [i32; 2]);
+
+impl Kept {
+    fn turned(&self) -> Kept {
+        let [n0, d0, n1, d1] = self.fractions;
+        Kept {
+            stroke: turned(self.stroke),
+            fractions: [d1 - n1, d1, d0 - n0, d0],
+            points: turned(self.points),
+            ..*self
+        }
+    }
+
+    /// For strokes that are out at one side only: left and below, right and above change places.
+    pub fn mirrored(&self) -> Kept {
+        Kept {
+            stroke: mirrored(self.stroke),
+            points: mirrored(self.points),
+            ..*self
+        }
+    }
+
+    fn answered(&self, window: Window) -> [Answered; 2] {
+        let head = [0, 0, 1];
+        let numbers = [&head[..], &self.fractions, &self.points].concat();
+        by_both_rules(window, self.stroke, &numbers, self.shortenings)
+    }
+}
+
+/// Each stroke both ways round, by both rules and in one batch.
+pub fn both_ways(window: Window, missed: &[Missed], kept: &[Kept]) -> Vec<Answered> {
+    let mut cases = Vec::new();
+    for (stroke, [forth, back]) in missed {
+        let numbers = [0, 0, 0, 0, 1, 0, 1, 0, 0, 0, 0];
+        cases.extend(by_both_rules(window, *stroke, &numbers, *forth));
+        cases.extend(by_both_rules(window, turned(*stroke), &numbers, *back));
+    }
+    for kept in kept {
+        cases.extend(kept.answered(window));
+        cases.extend(kept.turned().answered(window));
+    }
+    cases.push(in_a_batch(window, missed, kept));
+    cases
+}
+
+/// Refused by 6: the places of the first number off the table, this way round and turned round.
+pub fn refused(window: Window, stroke: Stroke, [forth, back]: [i32; 2]) -> [Answered; 4] {
+    let numbers = |place: i32| [6, place, 0, 0, 1, 0, 1, 0, 0, 0, 0];
+    let [a, b] = by_both_rules(window, stroke, &numbers(forth), 0);
+    let [c, d] = by_both_rules(window, turned(stroke), &numbers(back), 0);
+    [a, b, c, d]
+}
+
+/// The batch that has a refused stroke behind a good one: nothing is written.
+pub fn refused_batch(window: Window, good: Stroke, bad: Stroke, place: i32) -> Answered {
+    let list = [good, bad].concat();
+    let answer = [6, 4 + place, 0, 7_000_000, 7_000_001];
+    (batches::of(2, window, &list), text(&answer))
+}
+
+fn by_both_rules(window: Window, stroke: Stroke, numbers: &[i32], count: i32) -> [Answered; 2] {
+    let common = text(numbers);
+    let counted = format!("{common} {count}");
+    [
+        (strokes::of("lb", window, stroke), common),
+        (strokes::of("cs", window, stroke), counted),
+    ]
+}
+
+/// The missed come first, so that an index is not the count of rows before it; the room is one number too long.
+fn in_a_batch(window: Window, missed: &[Missed], kept: &[Kept]) -> Answered {
+    let missed = missed.iter().flat_map(|(s, _)| [*s, turned(*s)]);
+    let mut list: Vec<Stroke> = missed.collect();
+    let mut rows = Vec::new();
+    for kept in kept.iter().flat_map(|kept| [*kept, kept.turned()]) {
+        rows.push(list.len() as i32);
+        rows.extend(kept.points);
+        list.push(kept.stroke);
+    }
+    let written = rows.len() as i32;
+    let answer = [&[0, 0, written], &rows[..], &[7_000_000 + written]].concat();
+    let line = batches::of(rows.len() + 1, window, &list.concat());
+    (line, text(&answer))
+}
+
+fn text(numbers: &[i32]) -> String {
+    let words: Vec<String> = numbers.iter().map(i32::to_string).collect();
+    words.join(" ")
+}
