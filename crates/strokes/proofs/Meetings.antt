@@ -10,8 +10,8 @@ use lib.IntN.{ℤ, pos, _*ℤ_}
 use lib.Signed.{_≤ℤ_, _<ℤ_}
 use mir.Syntax.{w32}
 use mir.Val.{Fits}
-use Rattle.whole.proofs.Certificates.{ge-by, clash, eq, po, le, lt, _⊞_, _⊠_}
-use Rattle.whole.proofs.Expressions.{var, con, _⊗_, neg, x0, x1, x2, x3}
+use Rattle.whole.proofs.Certificates.{ge-by, clash, eq, eqn, _⊹_, eq-cancel, po, le, lt, _⊞_, _⊠_}
+use Rattle.whole.proofs.Expressions.{var, con, _⊕_, _⊖_, _⊗_, neg, x0, x1, x2, x3}
 use Rattle.whole.proofs.Order.{zarith, ≤-total}
 use Rattle.whole.proofs.Ranges.{abs-within}
 use Rattle.fraction.specs.declared.Fraction.{Fraction}
@@ -27,7 +27,7 @@ use Rattle.strokes.specs.declared.End.{End}
 use Rattle.strokes.specs.declared.ways.Way.{Way}
 use Rattle.strokes.specs.Strokes.{Keeps}
 use Rattle.strokes.specs.Workers.{ProperWay, WayAt, FromStartToEnd, WayOf, Overlap, OnWay, StartOf, FinishOf}
-use Rattle.strokes.proofs.Points.{point-start, point-finish}
+use Rattle.strokes.proofs.Points.{point-start}
 
 positive : {k : ℕ} → 0 < k → pos 0 <ℤ pos k
 positive h = omega zarith
@@ -54,6 +54,13 @@ never-both {x} {y} f g l n d h i j =
 -- ---- a place on a way, as a fraction
 on-way : {n d : ℕ} → 0 < d → d ≤ 32766 → n ≤ d → OnWay (record { num = pos n; den = pos d })
 on-way h k l = record { time = record { den = omega zarith; low = omega zarith; high = omega zarith }; small = abs-within k }
+
+-- a way that is not left before its end goes to its end
+whole-way : {a b : ℤ} {r : Way} → WayAt a b r → r .end ≡ r .long → along a b (pos 1) (pos 1) ≡ r .to *ℤ pos 1
+whole-way {a} {b} {r} f e =
+    eq-cancel (a ∷ b ∷ (pos (r .long)) ∷ (pos (r .end)) ∷ (r .to) ∷ []) (po x2 (positive (f .proper .long)))
+    (x0 ⊗ con (pos 1) ⊕ con (pos 1) ⊗ (x1 ⊖ x0)) (var 4 ⊗ con (pos 1))
+    (eqn (con (pos 1)) (x0 ⊗ x2 ⊕ x3 ⊗ (x1 ⊖ x0)) (var 4 ⊗ x2) (f .to) ⊹ eqn (x0 ⊖ x1) x3 x2 (λ k. pos (e k))) tt
 
 -- ---- the later start and the earlier end
 module _ {s : Stroke} {x y : Way} (fx : WayAt (s .x1) (s .x2) x) (fy : WayAt (s .y1) (s .y2) y) where
@@ -88,7 +95,7 @@ module _ {s : Stroke} {x y : Way} (fx : WayAt (s .x1) (s .x2) x) (fy : WayAt (s 
     point = record { across = r; up = rounded-exact (fy .at) (positive (k .long)) };
   }
 
-  pub finish-none : x .end ≡ x .long → y .end ≡ y .long → FinishOf s x y (record { t = unit; x = s .x2; y = s .y2 })
+  pub finish-none : x .end ≡ x .long → y .end ≡ y .long → FinishOf s x y (record { t = unit; x = x .to; y = y .to })
   finish-none p q = record {
     way = on-way (omega arith) (omega arith) (omega arith);
     x-out = omega (zarith, p);
@@ -96,7 +103,7 @@ module _ {s : Stroke} {x y : Way} (fx : WayAt (s .x1) (s .x2) x) (fy : WayAt (s 
     greatest = λ n d h i j.
         ge-by ((pos (x .long)) ∷ n ∷ (pos (x .end)) ∷ d ∷ []) (po x0 (positive (fx .proper .long))) (x1 ⊗ con (pos 1)) (con (pos 1) ⊗ x3)
         (le (x1 ⊗ x0) (x2 ⊗ x3) i ⊞ eq (neg x3) x2 x0 (λ k. pos (p k))) tt;
-    point = point-finish {f = unit} (omega zarith) refl;
+    point = record { across = rounded-exact (whole-way fx p) (omega zarith); up = rounded-exact (whole-way fy q) (omega zarith) };
   }
 
   pub finish-x : {v : ℤ} → x .end * y .long ≤ y .end * x .long → Rounded (along (s .y1) (s .y2) (pos (x .end)) (pos (x .long))) (pos (x .long)) v

@@ -53,8 +53,8 @@ pub fn finish(s: Stroke, x: Way, y: Way) -> End
         if y.end == y.long {
             return End {
                 t: Fraction { num: 1, den: 1 },
-                x: s.x2,
-                y: s.y2,
+                x: x.to,
+                y: y.to,
             };
         }
     }

@@ -111,8 +111,8 @@ fn crossing(w: Window, s: Stroke) -> StrokeAnswer
     if ways::apart(x, y) {
         return blank(0, 0);
     }
-    let a = ends::start(s, x, y);
     let b = ends::finish(s, x, y);
+    let a = ends::start(s, x, y);
     kept_answer(a, b)
 }
 
@@ -178,8 +178,8 @@ fn cut_across(w: Window, s: Stroke) -> Cut
     if ways::apart(x, y) {
         return missed();
     }
-    let a = ends::start(s, x, y);
     let b = ends::finish(s, x, y);
+    let a = ends::start(s, x, y);
     Cut {
         kept: true,
         ax: a.x,

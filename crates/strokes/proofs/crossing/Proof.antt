@@ -39,32 +39,32 @@ returns c =
     let a = k .before .before .before .before .before .before .before .before .before .before .args in
     subst (Clipped (a .w) (a .s)) (sym (c .blank .ensures)) (nothing-kept (none-kept (way-x k) (way-y k) (c .before .before .apart .ensures .0 (c .before .if1 .taken))))
 
-start-requires : tie.Need-start-requires
-start-requires c κs = let k = c .before .before in
+finish-requires : tie.Need-finish-requires
+finish-requires c κs = let k = c .before .before in
     (k .before .before .before .before .before .before .before .before .before .before .pre .1 .0, (way-x k .way, way-y k .way))
 
-finish-requires : tie.Need-finish-requires
-finish-requires c κs = let k = c .before .before .before in
+start-requires : tie.Need-start-requires
+start-requires c κs = let k = c .before .before .before in
     (k .before .before .before .before .before .before .before .before .before .before .pre .1 .0, (way-x k .way, way-y k .way))
 
 kept-answer-requires : tie.Need-kept-answer-requires
-kept-answer-requires c κs = (c .before .start .ensures .way, c .finish .ensures .way)
+kept-answer-requires c κs = (c .start .ensures .way, c .before .finish .ensures .way)
 
 returns-2 : tie.Need-returns-2
 returns-2 c =
     let k = c .before .before .before .before .before in
     let w = k .before .before .before .before .before .before .before .before .before .before .args .w in
     let s = k .before .before .before .before .before .before .before .before .before .before .args .s in
-    let p = c .before .before .start .ensures in
-    let q = c .before .finish .ensures in
+    let p = c .before .start .ensures in
+    let q = c .before .before .finish .ensures in
     let r = c .kept-answer .ensures in
     let f = way-x k in
     let g = way-y k in
     subst (Clipped w s) (sym (r .answer))
     (span-kept (ends-span f g p q) (ends-meet f g p q (c .before .before .before .before .apart .ensures .1 (c .before .before .before .if1 .left)))
-    (c .before .before .start .result) (c .before .finish .result) (p .point) (q .point) (r .first) (r .last))
+    (c .before .start .result) (c .before .before .finish .result) (p .point) (q .point) (r .first) (r .last))
 
 pub crossing-spec : {M : Type 1} → statement M
 crossing-spec =
     tie.close
-    (tie.spec passage-requires passage-requires-2 apart-requires blank-requires returns start-requires finish-requires kept-answer-requires returns-2)
+    (tie.spec passage-requires passage-requires-2 apart-requires blank-requires returns finish-requires start-requires kept-answer-requires returns-2)

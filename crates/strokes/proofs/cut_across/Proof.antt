@@ -42,12 +42,12 @@ returns c =
     let a = k .before .before .before .before .before .before .before .before .before .before .args in
     subst (CutIs (a .w) (a .s)) (sym (c .missed .ensures)) (cut-missed (none-kept (way-x k) (way-y k) (c .before .before .apart .ensures .0 (c .before .if1 .taken))))
 
-start-requires : tie.Need-start-requires
-start-requires c κs = let k = c .before .before in
+finish-requires : tie.Need-finish-requires
+finish-requires c κs = let k = c .before .before in
     (k .before .before .before .before .before .before .before .before .before .before .pre .1 .0, (way-x k .way, way-y k .way))
 
-finish-requires : tie.Need-finish-requires
-finish-requires c κs = let k = c .before .before .before in
+start-requires : tie.Need-start-requires
+start-requires c κs = let k = c .before .before .before in
     (k .before .before .before .before .before .before .before .before .before .before .pre .1 .0, (way-x k .way, way-y k .way))
 
 returns-2 : tie.Need-returns-2
@@ -55,10 +55,10 @@ returns-2 c =
     let k = c .before .before .before .before .before .before in
     let w = k .before .before .before .before .before .before .before .before .before .before .args .w in
     let s = k .before .before .before .before .before .before .before .before .before .before .args .s in
-    let a = c .before .before .before .start .result in
-    let b = c .before .before .finish .result in
-    let p = c .before .before .before .start .ensures in
-    let q = c .before .before .finish .ensures in
+    let a = c .before .before .start .result in
+    let b = c .before .before .before .finish .result in
+    let p = c .before .before .start .ensures in
+    let q = c .before .before .before .finish .ensures in
     let f = way-x k in
     let g = way-y k in
     let ax = sym (back w32 (a .x) (c .before .struct-told9 .given .1 .0 .1)) in
@@ -72,4 +72,4 @@ returns-2 c =
     (lowestOf-is _ (p .way .time .den)) (lowestOf-is _ (q .way .time .den))))
 
 pub cut-across-spec : {M : Type 1} → statement M
-cut-across-spec = tie.close (tie.spec passage-requires passage-requires-2 apart-requires missed-requires returns start-requires finish-requires returns-2)
+cut-across-spec = tie.close (tie.spec passage-requires passage-requires-2 apart-requires missed-requires returns finish-requires start-requires returns-2)

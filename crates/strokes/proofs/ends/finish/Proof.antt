@@ -1,8 +1,8 @@
 -- `strokes::ends::finish` meets its contract: each case has its law in Meetings. Assumes nothing.
-use mathlib.Core.Path.{_≡_, sym, subst₂, transport}
+use mathlib.Core.Path.{_≡_, sym, transport}
 use Prim.Native.Nat.{ℕ, _*_, _≤_}
 use native.Mathlib.Omega.{arith}
-use lib.IntN.{ℤ, pos}
+use lib.IntN.{pos}
 use mir.Syntax.{w32, w64}
 use mir.Val.{toZ}
 use mir.Facts.{toZ-pos}
@@ -10,7 +10,7 @@ use Rattle.whole.proofs.Comparisons.{back}
 use Rattle.spans.specs.Parts.{unit}
 use Rattle.strokes.specs.Workers.{FinishOf}
 use Rattle.strokes.proofs.Meetings.{product-fits, end-small, finish-none, finish-x, finish-y}
-use Rattle.strokes.proofs.Reading.{read-is, read-on-table, rounded-plain}
+use Rattle.strokes.proofs.Reading.{read-on-table, rounded-plain}
 use Rattle.strokes.proofs.ends.finish.Statement.{statement}
 use Rattle.strokes.proofs.ends.finish.Tie as tie
 
@@ -21,10 +21,12 @@ wide {k} h = toZ-pos w64 (omega arith)
 -- ---- at the stroke's own end
 returns : tie.Need-returns
 returns c =
-    let a = c .before .before .before .before .before .args in
-    let p = c .before .before .before .before .before .pre in
-    subst₂ (λ (u v : ℤ). FinishOf (a .s) (a .x) (a .y) (record { t = unit; x = u; y = v })) (sym (read-is (p .0 .x2))) (sym (read-is (p .0 .y2)))
-    (finish-none (p .1 .0) (p .1 .1) (c .before .before .before .if1 .taken) (c .before .if2 .taken))
+    let a = c .before .before .before .before .before .before .args in
+    let p = c .before .before .before .before .before .before .pre in
+    let u = sym (back w32 (a .x .to) (c .before .struct-told .given .1 .1 .1 .1 .0 .1)) in
+    let v = sym (back w32 (a .y .to) (c .struct-told2 .given .1 .1 .1 .1 .0 .1)) in
+    transport (λ i. FinishOf (a .s) (a .x) (a .y) (record { t = unit; x = u i; y = v i }))
+    (finish-none (p .1 .0) (p .1 .1) (c .before .before .before .before .if1 .taken) (c .before .before .if2 .taken))
 
 mul-if3 : tie.Need-mul-if3
 mul-if3 c = let p = c .before .before .before .before .pre in product-fits (end-small (p .1 .0 .proper)) (p .1 .1 .proper .small)
@@ -52,7 +54,7 @@ returns-2 c =
     let k = p .1 .0 .proper in
     let n = sym (wide (end-small k)) in
     let d = sym (wide (k .small)) in
-    let u = sym (back w32 (a .x .to) (c .struct-told4 .given .1 .1 .1 .1 .0 .1)) in
+    let u = sym (back w32 (a .x .to) (c .struct-told5 .given .1 .1 .1 .1 .0 .1)) in
     let v = sym (back w32 _ (c .before .rounded .ok)) in
     transport (λ i. FinishOf (a .s) (a .x) (a .y) (record { t = record { num = n i; den = d i }; x = u i; y = v i }))
     (finish-x (p .1 .0) (p .1 .1) (c .before .before .before .before .before .before .if3 .taken)
@@ -79,7 +81,7 @@ returns-3 c =
     let n = sym (wide (end-small k)) in
     let d = sym (wide (k .small)) in
     let u = sym (back w32 _ (c .before .rounded2 .ok)) in
-    let v = sym (back w32 (a .y .to) (c .struct-told7 .given .1 .1 .1 .1 .0 .1)) in
+    let v = sym (back w32 (a .y .to) (c .struct-told8 .given .1 .1 .1 .1 .0 .1)) in
     let later : a .y .end * a .x .long ≤ a .x .end * a .y .long = omega (arith, c .before .before .before .before .before .before .if3 .left) in
     transport (λ i. FinishOf (a .s) (a .x) (a .y) (record { t = record { num = n i; den = d i }; x = u i; y = v i }))
     (finish-y (p .1 .0) (p .1 .1) later (rounded-plain (pos (a .y .end)) (p .0 .x1) (p .0 .x2) (c .before .rounded2 .ensures)))
