@@ -99,7 +99,7 @@ pub fn whole_answer(s: Stroke) -> StrokeAnswer
     }
 }
 
-// The answer of a stroke that is not plainly in or out.
+// The answer of a stroke that is not plainly in or out. Its end is found before its start: so the compiler has more registers free.
 fn crossing(w: Window, s: Stroke) -> StrokeAnswer
     requires { ⌜ WindowOnTable w ⌝ }
     requires { ⌜ StrokeOnTable s ⌝ }
@@ -166,7 +166,7 @@ fn whole_stroke(s: Stroke) -> Cut
     }
 }
 
-// What is left of a stroke that is not plainly in or out.
+// What is left of a stroke that is not plainly in or out; its end is found first, for the same reason.
 fn cut_across(w: Window, s: Stroke) -> Cut
     requires { ⌜ WindowOnTable w ⌝ }
     requires { ⌜ StrokeOnTable s ⌝ }

@@ -17,7 +17,7 @@ use Rattle.grid.specs.Refusals.{windowRefusal, strokeRefusal, strokesRefusal}
 use Rattle.grid.specs.Table.{onTable, firstOff, ends}
 use Rattle.strokes.specs.Strokes.{strokeCallRefusal}
 use Rattle.batch.specs.Batches.{batchRefusal}
-use Rattle.turned.specs.Turned.{turned, swap, turnedStrokes}
+use Rattle.turned_round.specs.Laws.{turnRound, swap, strokesTurnedRound}
 
 -- refused alike, but that a number off the table may have another place
 pub record SameRefusal (r q : Refusal) : Type 0 where
@@ -51,21 +51,22 @@ exchange false q true true t = refl
 exchange false q true false t = refl
 exchange false q false s t = refl
 
-all-on : (which : ℕ → Bool) (k : ℕ) (zs : List ℤ) → allOn (turnedStrokes which k zs) ≡ allOn zs
-unfolding allOn turnedStrokes
+all-on : (which : ℕ → Bool) (k : ℕ) (zs : List ℤ) → allOn (strokesTurnedRound which k zs) ≡ allOn zs
+unfolding allOn strokesTurnedRound
 all-on which k [] = refl
 all-on which k (a ∷ []) = refl
 all-on which k (a ∷ b ∷ []) = refl
 all-on which k (a ∷ b ∷ c ∷ []) = refl
 all-on which k (a ∷ b ∷ c ∷ d ∷ zs) =
-    go (which k) (turnedStrokes which (suc k) zs) ∙ ap (λ (t : Bool). onTable a && (onTable b && (onTable c && (onTable d && t)))) (all-on which (suc k) zs)
+    go (which k) (strokesTurnedRound which (suc k) zs)
+    ∙ ap (λ (t : Bool). onTable a && (onTable b && (onTable c && (onTable d && t)))) (all-on which (suc k) zs)
   where
     go : (turn : Bool) (rest : List ℤ) → allOn (swap turn a b c d ++ rest) ≡ onTable a && (onTable b && (onTable c && (onTable d && allOn rest)))
     go true rest = exchange (onTable a) (onTable b) (onTable c) (onTable d) (allOn rest)
     go false rest = refl
 
-turned-length : (which : ℕ → Bool) (k : ℕ) (zs : List ℤ) → length (turnedStrokes which k zs) ≡ length zs
-unfolding turnedStrokes
+turned-length : (which : ℕ → Bool) (k : ℕ) (zs : List ℤ) → length (strokesTurnedRound which k zs) ≡ length zs
+unfolding strokesTurnedRound
 turned-length which k [] = refl
 turned-length which k (a ∷ []) = refl
 turned-length which k (a ∷ b ∷ []) = refl
@@ -73,7 +74,7 @@ turned-length which k (a ∷ b ∷ c ∷ []) = refl
 turned-length which k (a ∷ b ∷ c ∷ d ∷ zs) = go (which k) ∙ ap (λ (n : ℕ). suc (suc (suc (suc n)))) (turned-length which (suc k) zs)
   where
     rest : List ℤ
-    rest = turnedStrokes which (suc k) zs
+    rest = strokesTurnedRound which (suc k) zs
 
     go : (turn : Bool) → length (swap turn a b c d ++ rest) ≡ suc (suc (suc (suc (length rest))))
     go true = refl
@@ -113,14 +114,14 @@ later-turned r rs qs h = go (eqb (r .number) 0)
     go true = h
     go false = same r
 
-pub call-turned : (w : Window) (s : Stroke) → SameRefusal (strokeCallRefusal w s) (strokeCallRefusal w (turned s))
+pub call-turned : (w : Window) (s : Stroke) → SameRefusal (strokeCallRefusal w s) (strokeCallRefusal w (turnRound s))
 unfolding strokeCallRefusal strokeRefusal allOn
-call-turned w s = later-turned (windowRefusal w) (strokeRefusal s ∷ []) (strokeRefusal (turned s) ∷ [])
-    (only-turned (off-alike (ends s) (ends (turned s)) (exchange (onTable (s .x1)) (onTable (s .y1)) (onTable (s .x2)) (onTable (s .y2)) true)))
+call-turned w s = later-turned (windowRefusal w) (strokeRefusal s ∷ []) (strokeRefusal (turnRound s) ∷ [])
+    (only-turned (off-alike (ends s) (ends (turnRound s)) (exchange (onTable (s .x1)) (onTable (s .y1)) (onTable (s .x2)) (onTable (s .y2)) true)))
 
 module _ (which : ℕ → Bool) (zs : List ℤ) where
   abbrev ys : List ℤ
-  ys = turnedStrokes which 0 zs
+  ys = strokesTurnedRound which 0 zs
 
   strokes-turned : SameRefusal (strokesRefusal zs) (strokesRefusal ys)
   unfolding strokesRefusal
@@ -128,6 +129,6 @@ module _ (which : ℕ → Bool) (zs : List ℤ) where
       subst (λ (r : Refusal). SameRefusal (strokesRefusal zs) (first (r ∷ offTable numberOff ys ∷ []))) (sym (bad-alike zs ys (turned-length which 0 zs)))
       (later-turned (badStrokes zs) (offTable numberOff zs ∷ []) (offTable numberOff ys ∷ []) (only-turned (off-alike zs ys (all-on which 0 zs))))
 
-  pub batch-turned : (w : Window) → SameRefusal (batchRefusal w zs) (batchRefusal w (turnedStrokes which 0 zs))
+  pub batch-turned : (w : Window) → SameRefusal (batchRefusal w zs) (batchRefusal w (strokesTurnedRound which 0 zs))
   unfolding batchRefusal
   batch-turned w = later-turned (windowRefusal w) (strokesRefusal zs ∷ []) (strokesRefusal ys ∷ []) (only-turned strokes-turned)

@@ -15,7 +15,7 @@ use Rattle.grid.specs.declared.Stroke.{Stroke}
 use Rattle.grid.specs.declared.Window.{Window}
 use Rattle.spans.specs.Parts.{Time, First, Last}
 use Rattle.strokes.specs.Strokes.{KeepsCoordinate, Keeps, PointAt}
-use Rattle.turned.specs.Turned.{turned, oneMinus}
+use Rattle.turned_round.specs.Laws.{turnRound, oneMinus}
 
 -- ---- the way back
 along-back : (a b n d : ℤ) → along a b n d ≡ along b a (d -ℤ n) d
@@ -30,10 +30,10 @@ keeps-coordinate {lo} {hi} {a} {b} {n} {d} k = record {
 time-back : {n d : ℤ} → Time n d → Time (d -ℤ n) d
 time-back {n} {d} t = record { den = t .den; low = omega (zarith, sub-is d n, t .high); high = omega (zarith, sub-is d n, t .low) }
 
-pub keeps-back : {w : Window} {s : Stroke} (n d : ℤ) → Keeps w s n d → Keeps w (turned s) (d -ℤ n) d
+pub keeps-back : {w : Window} {s : Stroke} (n d : ℤ) → Keeps w s n d → Keeps w (turnRound s) (d -ℤ n) d
 keeps-back n d k = record { time = time-back (k .time); x = keeps-coordinate (k .x); y = keeps-coordinate (k .y) }
 
-pub point-back : {s : Stroke} {f : Fraction} {x y : ℤ} → PointAt s f x y → PointAt (turned s) (oneMinus f) x y
+pub point-back : {s : Stroke} {f : Fraction} {x y : ℤ} → PointAt s f x y → PointAt (turnRound s) (oneMinus f) x y
 point-back {s} {f} {x} {y} p = record {
   across = subst (λ (z : ℤ). Rounded z (f .den) x) (along-back (s .x1) (s .x2) (f .num) (f .den)) (p .across);
   up = subst (λ (z : ℤ). Rounded z (f .den) y) (along-back (s .y1) (s .y2) (f .num) (f .den)) (p .up);

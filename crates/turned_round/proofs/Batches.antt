@@ -20,39 +20,39 @@ use Rattle.strokes.specs.declared.StrokeAnswer.{StrokeAnswer}
 use Rattle.batch.specs.Batches.{Each, row, rows, RowsOf, batchRefusal}
 use Rattle.batch.specs.Batches as batches
 use Rattle.strokes.proofs.Unique.{clipped-unique}
-use Rattle.turned.specs.Turned.{turned, TurnedAnswer, swap, turnedStrokes, turnedRows, TurnedBatch, TurnedRoundInRows}
-use Rattle.turned.proofs.Refusing.{SameRefusal, batch-turned}
-use Rattle.turned.proofs.Strokes.{clipped-turned}
+use Rattle.turned_round.specs.Laws.{turnRound, AnswerTurnedRound, swap, strokesTurnedRound, rowsTurnedRound, BatchTurnedRound, TurnedRoundInRows}
+use Rattle.turned_round.proofs.Refusing.{SameRefusal, batch-turned}
+use Rattle.turned_round.proofs.Strokes.{clipped-turned}
 
 -- ---- the strokes of the list
 unfoldable turnSome : (ℕ → Bool) → ℕ → List Stroke → List Stroke
 turnSome which k [] = []
-turnSome which k (s ∷ ss) = (if which k then turned s else s) ∷ turnSome which (suc k) ss
+turnSome which k (s ∷ ss) = (if which k then turnRound s else s) ∷ turnSome which (suc k) ss
 
-strokes-turned : (which : ℕ → Bool) (k : ℕ) (zs : List ℤ) → strokesOf (turnedStrokes which k zs) ≡ turnSome which k (strokesOf zs)
-unfolding strokesOf turnedStrokes turnSome
+strokes-turned : (which : ℕ → Bool) (k : ℕ) (zs : List ℤ) → strokesOf (strokesTurnedRound which k zs) ≡ turnSome which k (strokesOf zs)
+unfolding strokesOf strokesTurnedRound turnSome
 strokes-turned which k [] = refl
 strokes-turned which k (a ∷ []) = refl
 strokes-turned which k (a ∷ b ∷ []) = refl
 strokes-turned which k (a ∷ b ∷ c ∷ []) = refl
-strokes-turned which k (a ∷ b ∷ c ∷ d ∷ zs) = go (which k) (turnedStrokes which (suc k) zs) (strokes-turned which (suc k) zs)
+strokes-turned which k (a ∷ b ∷ c ∷ d ∷ zs) = go (which k) (strokesTurnedRound which (suc k) zs) (strokes-turned which (suc k) zs)
   where
     this : Stroke
     this = record { x1 = a; y1 = b; x2 = c; y2 = d }
 
     go : (turn : Bool) (rest : List ℤ) {ss : List Stroke} → strokesOf rest ≡ ss
-        → strokesOf (swap turn a b c d ++ rest) ≡ (if turn then turned this else this) ∷ ss
-    go true rest e = ap (λ (ss : List Stroke). turned this ∷ ss) e
+        → strokesOf (swap turn a b c d ++ rest) ≡ (if turn then turnRound this else this) ∷ ss
+    go true rest e = ap (λ (ss : List Stroke). turnRound this ∷ ss) e
     go false rest e = ap (λ (ss : List Stroke). this ∷ ss) e
 
 -- ---- their rows
 abbrev Turns : Bool → StrokeAnswer → StrokeAnswer → Type 0
-Turns true a b = TurnedAnswer a b
+Turns true a b = AnswerTurnedRound a b
 Turns false a b = a ≡ b
 
 row-turned : (which : ℕ → Bool) (k : ℕ) (a b : StrokeAnswer) → Turns (which k) a b → (xs : List ℤ)
-    → turnedRows which (row k a ++ xs) ≡ row k b ++ turnedRows which xs
-unfolding turnedRows
+    → rowsTurnedRound which (row k a ++ xs) ≡ row k b ++ rowsTurnedRound which xs
+unfolding rowsTurnedRound
 row-turned which k a b t xs = go (which k) refl t
   where
     five : Bool → StrokeAnswer → List ℤ
@@ -60,42 +60,43 @@ row-turned which k a b t xs = go (which k) refl t
 
     -- a row where the stroke is turned round, or not
     said : {turn : Bool} → which k ≡ turn → (c : StrokeAnswer)
-        → turnedRows which (pos k ∷ c .ax ∷ c .ay ∷ c .bx ∷ c .by ∷ xs) ≡ pos k ∷ swap turn (c .ax) (c .ay) (c .bx) (c .by) ++ turnedRows which xs
-    said e c = ap (λ (turn : Bool). pos k ∷ swap turn (c .ax) (c .ay) (c .bx) (c .by) ++ turnedRows which xs) e
+        → rowsTurnedRound which (pos k ∷ c .ax ∷ c .ay ∷ c .bx ∷ c .by ∷ xs) ≡ pos k ∷ swap turn (c .ax) (c .ay) (c .bx) (c .by) ++ rowsTurnedRound which xs
+    said e c = ap (λ (turn : Bool). pos k ∷ swap turn (c .ax) (c .ay) (c .bx) (c .by) ++ rowsTurnedRound which xs) e
 
-    back : TurnedAnswer a b → which k ≡ true → (h : Bool) → b .kept ≡ h → turnedRows which (five h a ++ xs) ≡ five (b .kept) b ++ turnedRows which xs
+    back : AnswerTurnedRound a b → which k ≡ true → (h : Bool) → b .kept ≡ h
+        → rowsTurnedRound which (five h a ++ xs) ≡ five (b .kept) b ++ rowsTurnedRound which xs
     back t w true e =
-        said w a ∙ (λ i. pos k ∷ sym (t .start .0) i ∷ sym (t .start .1) i ∷ sym (t .finish .0) i ∷ sym (t .finish .1) i ∷ turnedRows which xs)
-        ∙ ap (λ (h : Bool). five h b ++ turnedRows which xs) (sym e)
-    back t w false e = ap (λ (h : Bool). five h b ++ turnedRows which xs) (sym e)
+        said w a ∙ (λ i. pos k ∷ sym (t .start .0) i ∷ sym (t .start .1) i ∷ sym (t .finish .0) i ∷ sym (t .finish .1) i ∷ rowsTurnedRound which xs)
+        ∙ ap (λ (h : Bool). five h b ++ rowsTurnedRound which xs) (sym e)
+    back t w false e = ap (λ (h : Bool). five h b ++ rowsTurnedRound which xs) (sym e)
 
-    alike : which k ≡ false → (h : Bool) → turnedRows which (five h a ++ xs) ≡ five h a ++ turnedRows which xs
+    alike : which k ≡ false → (h : Bool) → rowsTurnedRound which (five h a ++ xs) ≡ five h a ++ rowsTurnedRound which xs
     alike w true = said w a
     alike w false = refl
 
-    go : (turn : Bool) → which k ≡ turn → Turns turn a b → turnedRows which (row k a ++ xs) ≡ row k b ++ turnedRows which xs
+    go : (turn : Bool) → which k ≡ turn → Turns turn a b → rowsTurnedRound which (row k a ++ xs) ≡ row k b ++ rowsTurnedRound which xs
     go true w t = back t w (a .kept) (t .kept)
-    go false w t = alike w (a .kept) ∙ ap (λ (c : StrokeAnswer). row k c ++ turnedRows which xs) t
+    go false w t = alike w (a .kept) ∙ ap (λ (c : StrokeAnswer). row k c ++ rowsTurnedRound which xs) t
 
 each-turned : (which : ℕ → Bool) {w : Window} (k : ℕ) {ss : List Stroke} {answers others : List StrokeAnswer}
     → Each (Clipped w) ss answers → Each (Clipped w) (turnSome which k ss) others
-    → turnedRows which (rows k answers) ≡ rows k others
-unfolding rows turnedRows turnSome
+    → rowsTurnedRound which (rows k answers) ≡ rows k others
+unfolding rows rowsTurnedRound turnSome
 each-turned which k batches.none batches.none = refl
 each-turned which {w} k (batches._and_ {x = s} {y = a} {ys = answers} p ps) (batches._and_ {y = b} {ys = others} q qs) =
     row-turned which k a b (go (which k) q) (rows (suc k) answers) ∙ ap (λ (xs : List ℤ). row k b ++ xs) (each-turned which (suc k) ps qs)
   where
-    go : (turn : Bool) → Clipped w (if turn then turned s else s) b → Turns turn a b
+    go : (turn : Bool) → Clipped w (if turn then turnRound s else s) b → Turns turn a b
     go true q = clipped-turned p q
     go false q = clipped-unique p q
 
-rows-turned : (which : ℕ → Bool) {w : Window} {zs xs ys : List ℤ} → RowsOf w zs xs → RowsOf w (turnedStrokes which 0 zs) ys → ys ≡ turnedRows which xs
+rows-turned : (which : ℕ → Bool) {w : Window} {zs xs ys : List ℤ} → RowsOf w zs xs → RowsOf w (strokesTurnedRound which 0 zs) ys → ys ≡ rowsTurnedRound which xs
 rows-turned which {w} {zs} p q =
     let back = subst (λ (ss : List Stroke). Each (Clipped w) ss (q .answers)) (strokes-turned which 0 zs) (q .clipped) in
-    q .are ∙ sym (each-turned which 0 (p .clipped) back) ∙ ap (turnedRows which) (sym (p .are))
+    q .are ∙ sym (each-turned which 0 (p .clipped) back) ∙ ap (rowsTurnedRound which) (sym (p .are))
 
-rows-length : (which : ℕ → Bool) (xs : List ℤ) → length (turnedRows which xs) ≡ length xs
-unfolding turnedRows
+rows-length : (which : ℕ → Bool) (xs : List ℤ) → length (rowsTurnedRound which xs) ≡ length xs
+unfolding rowsTurnedRound
 rows-length which [] = refl
 rows-length which (k ∷ []) = refl
 rows-length which (k ∷ a ∷ []) = refl
@@ -103,12 +104,12 @@ rows-length which (k ∷ a ∷ b ∷ []) = refl
 rows-length which (k ∷ a ∷ b ∷ c ∷ []) = refl
 rows-length which (k ∷ a ∷ b ∷ c ∷ d ∷ xs) = go (which (natAbs k)) ∙ ap (λ (n : ℕ). suc (suc (suc (suc (suc n))))) (rows-length which xs)
   where
-    go : (turn : Bool) → length (k ∷ swap turn a b c d ++ turnedRows which xs) ≡ suc (suc (suc (suc (suc (length (turnedRows which xs))))))
+    go : (turn : Bool) → length (k ∷ swap turn a b c d ++ rowsTurnedRound which xs) ≡ suc (suc (suc (suc (suc (length (rowsTurnedRound which xs))))))
     go true = refl
     go false = refl
 
 -- ---- what is written and answered, by how many numbers there are
-answered-turned : (which : ℕ → Bool) (xs : List ℤ) (room : ℕ) → answered (turnedRows which xs) room ≡ answered xs room
+answered-turned : (which : ℕ → Bool) (xs : List ℤ) (room : ℕ) → answered (rowsTurnedRound which xs) room ≡ answered xs room
 unfolding answeredBy
 answered-turned which xs room = ap ofLength (rows-length which xs)
   where
@@ -116,10 +117,10 @@ answered-turned which xs room = ap ofLength (rows-length which xs)
     ofLength n = let r = roomRefusal n room in if eqb (r .number) 0 then record { number = 0; place = 0; count = n } else refusedBy r
 
 written-turned : (which : ℕ → Bool) (xs out : List ℤ) → let n = answered xs (length out) .count in
-    written (turnedRows which xs) out ≡ turnedRows which (take n (written xs out)) ++ drop n (written xs out)
-unfolding written answeredBy roomRefusal turnedRows
+    written (rowsTurnedRound which xs) out ≡ rowsTurnedRound which (take n (written xs out)) ++ drop n (written xs out)
+unfolding written answeredBy roomRefusal rowsTurnedRound
 written-turned which xs out =
-    ap (λ (n : ℕ). if leb n (length out) then turnedRows which xs ++ drop n out else out) (rows-length which xs) ∙ go (leb (length xs) (length out))
+    ap (λ (n : ℕ). if leb n (length out) then rowsTurnedRound which xs ++ drop n out else out) (rows-length which xs) ∙ go (leb (length xs) (length out))
   where
     given : Bool → List ℤ
     given t = if t then xs ++ drop (length xs) out else out
@@ -127,12 +128,13 @@ written-turned which xs out =
     count : Bool → ℕ
     count t = let r = if t then none else refuse noRoom (length xs) in (if eqb (r .number) 0 then givesAll xs else refusedBy r) .count
 
-    go : (t : Bool) → (if t then turnedRows which xs ++ drop (length xs) out else out) ≡ turnedRows which (take (count t) (given t)) ++ drop (count t) (given t)
-    go true = λ i. turnedRows which (sym (take-append-seam xs (drop (length xs) out)) i) ++ sym (drop-append-seam xs (drop (length xs) out)) i
+    go : (t : Bool) → (if t then rowsTurnedRound which xs ++ drop (length xs) out else out)
+        ≡ rowsTurnedRound which (take (count t) (given t)) ++ drop (count t) (given t)
+    go true = λ i. rowsTurnedRound which (sym (take-append-seam xs (drop (length xs) out)) i) ++ sym (drop-append-seam xs (drop (length xs) out)) i
     go false = refl
 
 given-turned : (which : ℕ → Bool) {w : Window} {zs : List ℤ} {a b : Answer} {before after after′ : List ℤ}
-    → Given (RowsOf w zs) a before after → Given (RowsOf w (turnedStrokes which 0 zs)) b before after′ → TurnedBatch which a after b after′
+    → Given (RowsOf w zs) a before after → Given (RowsOf w (strokesTurnedRound which 0 zs)) b before after′ → BatchTurnedRound which a after b after′
 given-turned which {a = a} {b} {before} g h =
     let e = rows-turned which (g .gives) (h .gives) in
     let room = length before in
@@ -142,18 +144,18 @@ given-turned which {a = a} {b} {before} g h =
       count = ap (λ (x : Answer). x .count) same;
       rows =
           h .output ∙ ap (λ (xs : List ℤ). written xs before) e ∙ written-turned which (g .numbers) before
-          ∙ (λ i. turnedRows which (take (sym (g .answer) i .count) (sym (g .output) i)) ++ drop (sym (g .answer) i .count) (sym (g .output) i));
+          ∙ (λ i. rowsTurnedRound which (take (sym (g .answer) i .count) (sym (g .output) i)) ++ drop (sym (g .answer) i .count) (sym (g .output) i));
     }
 
 -- ---- the call
 pub turned-round-in-rows : TurnedRoundInRows
-unfolding turnedRows
+unfolding rowsTurnedRound
 turned-round-in-rows which w zs a b before after after′ p q = go (eqb (batchRefusal w zs .number) 0) refl
   where
-    same : SameRefusal (batchRefusal w zs) (batchRefusal w (turnedStrokes which 0 zs))
+    same : SameRefusal (batchRefusal w zs) (batchRefusal w (strokesTurnedRound which 0 zs))
     same = batch-turned which zs w
 
-    go : (z : Bool) → eqb (batchRefusal w zs .number) 0 ≡ z → TurnedBatch which a after b after′
+    go : (z : Bool) → eqb (batchRefusal w zs .number) 0 ≡ z → BatchTurnedRound which a after b after′
     go true t = let z = eqb-true (batchRefusal w zs .number) 0 t in given-turned which (p .done z) (q .done (same .number ∙ z))
     go false t =
         let n = eqb-false (batchRefusal w zs .number) 0 t in
@@ -166,5 +168,5 @@ turned-round-in-rows which w zs a b before after after′ p q = go (eqb (batchRe
               ∙ same .place (λ e. k (ap (λ (x : Answer). x .number) (x .answer) ∙ e)) ∙ sym (ap (λ (x : Answer). x .place) (x .answer));
           count = ap (λ (x : Answer). x .count) (y .answer) ∙ sym (ap (λ (x : Answer). x .count) (x .answer));
           rows = y .untouched ∙ sym (x .untouched)
-              ∙ ap (λ (n : ℕ). turnedRows which (take n after) ++ drop n after) (sym (ap (λ (x : Answer). x .count) (x .answer)));
+              ∙ ap (λ (n : ℕ). rowsTurnedRound which (take n after) ++ drop n after) (sym (ap (λ (x : Answer). x .count) (x .answer)));
         }

@@ -13,12 +13,12 @@ use Rattle.strokes.specs.Strokes.{Keeps, Clipped, strokeCallRefusal, blank}
 use Rattle.strokes.specs.declared.StrokeAnswer.{StrokeAnswer}
 use Rattle.strokes.proofs.Answers.{nothing-kept}
 use Rattle.strokes.proofs.Unique.{clipped-unique}
-use Rattle.turned.specs.Turned.{turned, oneMinus, TurnedAnswer, TurnedRound, TurnedRoundByCodes}
-use Rattle.turned.proofs.Parts.{keeps-back, point-back, first-back, last-back}
-use Rattle.turned.proofs.Refusing.{SameRefusal, call-turned}
+use Rattle.turned_round.specs.Laws.{turnRound, oneMinus, AnswerTurnedRound, TurnedRound, TurnedRoundByCodes}
+use Rattle.turned_round.proofs.Parts.{keeps-back, point-back, first-back, last-back}
+use Rattle.turned_round.proofs.Refusing.{SameRefusal, call-turned}
 
 -- ---- an answer that keeps nothing, and its like
-blank-turned : {r q : Refusal} → SameRefusal r q → TurnedAnswer (blank r) (blank q)
+blank-turned : {r q : Refusal} → SameRefusal r q → AnswerTurnedRound (blank r) (blank q)
 blank-turned h = record {
   number = h .number;
   place = h .place;
@@ -44,14 +44,14 @@ exchanged a = record {
 }
 
 module _ {w : Window} {s : Stroke} {a : StrokeAnswer} (p : Clipped w s a) where
-  exchanged-is : a .kept ≡ true → Clipped w (turned s) (exchanged a)
+  exchanged-is : a .kept ≡ true → Clipped w (turnRound s) (exchanged a)
   exchanged-is e = record {
     number = refl;
     place = refl;
     part = record {
       keeps = λ n d k. refl;
-      first = λ _. first-back {K′ = Keeps w (turned s)} keeps-back keeps-back (p .part .last e);
-      last = λ _. last-back {K′ = Keeps w (turned s)} keeps-back keeps-back (p .part .first e);
+      first = λ _. first-back {K′ = Keeps w (turnRound s)} keeps-back keeps-back (p .part .last e);
+      last = λ _. last-back {K′ = Keeps w (turnRound s)} keeps-back keeps-back (p .part .first e);
       missed = λ f. absurd (tt-ff f);
     };
     start = λ _. point-back (p .finish e);
@@ -59,11 +59,11 @@ module _ {w : Window} {s : Stroke} {a : StrokeAnswer} (p : Clipped w s a) where
     missed = λ f. absurd (tt-ff f);
   }
 
-  pub clipped-turned : {b : StrokeAnswer} → Clipped w (turned s) b → TurnedAnswer a b
+  pub clipped-turned : {b : StrokeAnswer} → Clipped w (turnRound s) b → AnswerTurnedRound a b
   clipped-turned {b} q = go (a .kept) refl
     where
-      go : (k : Bool) → a .kept ≡ k → TurnedAnswer a b
-      go true e = subst (TurnedAnswer a) (clipped-unique (exchanged-is e) q) (record {
+      go : (k : Bool) → a .kept ≡ k → AnswerTurnedRound a b
+      go true e = subst (AnswerTurnedRound a) (clipped-unique (exchanged-is e) q) (record {
         number = sym (p .number);
         place = λ _. sym (p .place);
         kept = sym e;
@@ -73,25 +73,25 @@ module _ {w : Window} {s : Stroke} {a : StrokeAnswer} (p : Clipped w s a) where
         missed = λ f. absurd (tt-ff (sym e ∙ f));
       })
       go false e =
-          let never = nothing-kept (λ (n d : ℤ) (k : Keeps w (turned s) n d). ff-tt (sym e ∙ p .part .keeps (d -ℤ n) d (keeps-back n d k))) in
-          subst (λ (x : StrokeAnswer). TurnedAnswer x b) (sym (p .missed e))
-          (subst (TurnedAnswer (blank none)) (clipped-unique never q) (blank-turned (record { number = refl; place = λ _. refl })))
+          let never = nothing-kept (λ (n d : ℤ) (k : Keeps w (turnRound s) n d). ff-tt (sym e ∙ p .part .keeps (d -ℤ n) d (keeps-back n d k))) in
+          subst (λ (x : StrokeAnswer). AnswerTurnedRound x b) (sym (p .missed e))
+          (subst (AnswerTurnedRound (blank none)) (clipped-unique never q) (blank-turned (record { number = refl; place = λ _. refl })))
 
 -- ---- the calls
 pub turned-round : TurnedRound
 turned-round w s a b p q = go (eqb (strokeCallRefusal w s .number) 0) refl
   where
-    same : SameRefusal (strokeCallRefusal w s) (strokeCallRefusal w (turned s))
+    same : SameRefusal (strokeCallRefusal w s) (strokeCallRefusal w (turnRound s))
     same = call-turned w s
 
-    go : (z : Bool) → eqb (strokeCallRefusal w s .number) 0 ≡ z → TurnedAnswer a b
+    go : (z : Bool) → eqb (strokeCallRefusal w s .number) 0 ≡ z → AnswerTurnedRound a b
     go true t =
         let z = eqb-true (strokeCallRefusal w s .number) 0 t in
         clipped-turned (p .done z) (q .done (same .number ∙ z))
     go false t =
         let n = eqb-false (strokeCallRefusal w s .number) 0 t in
-        subst (λ (x : StrokeAnswer). TurnedAnswer x b) (sym (p .refused n))
-        (subst (TurnedAnswer (blank (strokeCallRefusal w s))) (sym (q .refused (λ z. n (sym (same .number) ∙ z)))) (blank-turned same))
+        subst (λ (x : StrokeAnswer). AnswerTurnedRound x b) (sym (p .refused n))
+        (subst (AnswerTurnedRound (blank (strokeCallRefusal w s))) (sym (q .refused (λ z. n (sym (same .number) ∙ z)))) (blank-turned same))
 
 pub turned-round-by-codes : TurnedRoundByCodes
 turned-round-by-codes w s a b p q = turned-round w s (a .answer) (b .answer) (p .clipping) (q .clipping)

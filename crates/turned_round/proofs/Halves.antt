@@ -15,7 +15,7 @@ use Rattle.whole.proofs.Order.{zarith, sub-is, next-≤, ≤-antisym, ≤-total
 use Rattle.fraction.specs.Fraction.{Divides}
 use Rattle.fraction.specs.Rounding.{Rounded}
 use Rattle.fraction.proofs.Divisors.{abs-divides}
-use Rattle.turned.specs.Turned.{HalvesToEven}
+use Rattle.turned_round.specs.Laws.{HalvesToEven}
 
 even : (r : ℤ) → natAbs r % 2 ≡ 0 → Divides 2 r
 even r e = abs-divides r (record { times = pos (natAbs r / 2); is = omega zarith })
