@@ -4,8 +4,8 @@
  * is x y.
  *
  * Any numbers may be passed to any call: what it does not take it refuses. Every answer has the refusal's number, 0 where the call was done, and its
- * place. A refused call sets every other field to 0, fractions to 0/1, and writes nothing. Where several refusals apply, the first in the list that
- * stands beside the call is given.
+ * place. A refused call sets every other field to 0, fractions to 0/1 and sides to 255, and writes nothing. Where several refusals apply, the first
+ * in the list that stands beside the call is given.
  *
  * A list is a pointer to its first number and the count of its numbers (of a drawing, its bytes). The pointer is aligned for its type, and nothing
  * else changes what it points to during the call. For a list of length 0 any pointer will do, also a null pointer: nothing is read or written
@@ -27,8 +27,8 @@ extern "C" {
 /* ---- version */
 
 /* As one number, major * 10000 + minor * 100 + patch, and as text. A change of a struct or of an answer raises it. */
-#define GERLYANTU_VERSION 30000
-#define GERLYANTU_VERSION_TEXT "3.0.0"
+#define GERLYANTU_VERSION 40000
+#define GERLYANTU_VERSION_TEXT "4.0.0"
 
 /* ---- limits */
 
@@ -173,9 +173,22 @@ typedef struct {
     float mm;
 } gerlyantu_back_answer;
 
+/* The sides of a rectangle by their numbers. An edge of a corner window has the number of its first corner, 0 to 15. */
+enum {
+    GERLYANTU_LEFT = 0,
+    GERLYANTU_RIGHT = 1,
+    GERLYANTU_BOTTOM = 2,
+    GERLYANTU_TOP = 3,
+    GERLYANTU_NO_SIDE = 255 /* the stroke's own end remains; also where it is missed or refused */
+};
+
 /* The kept part goes from t0 to t1 of the stroke's way; (ax, ay) and (bx, by) are its two ends, rounded to the grid, halves
- * to the even number; so the stroke turned round has the same two, exchanged. A missed stroke is done with kept false, both fractions 0/1 and the
- * points 0. */
+ * to the even number; so the stroke turned round has the same two, exchanged. A missed stroke is done with kept false, both fractions 0/1, the
+ * points 0 and both sides 255.
+ *
+ * side0 is the side that fixed t0, of those that the stroke crosses inward; side1 the one that fixed t1, of those that it crosses outward. Where two
+ * such sides give the same fraction, as at a corner of the window, it is the one with the lower number. With t0 = 0/1 side0 is 255, and with t1 = 1/1
+ * side1 is; a t0 of 1/1 and a t1 of 0/1 have their side. */
 typedef struct {
     gerlyantu_refusal number;
     size_t place;
@@ -186,20 +199,24 @@ typedef struct {
     int32_t ay;
     int32_t bx;
     int32_t by;
+    uint8_t side0;
+    uint8_t side1;
 } gerlyantu_stroke_answer;
 
 typedef struct {
-    gerlyantu_stroke_answer answer;
     uint32_t shortenings; /* 0 to 4; counted for missed strokes too */
+    gerlyantu_stroke_answer answer;
 } gerlyantu_counted_answer;
 
-/* As for a rectangle, without points: rounded points may lie outside a slanted side. */
+/* As for a rectangle, without points: rounded points may lie outside a slanted side. The sides are the window's edges, by their first corners. */
 typedef struct {
     gerlyantu_refusal number;
     size_t place;
     bool kept;
     gerlyantu_fraction t0;
     gerlyantu_fraction t1;
+    uint8_t side0;
+    uint8_t side1;
 } gerlyantu_corner_answer;
 
 typedef struct {
@@ -255,7 +272,7 @@ gerlyantu_back_answer gerlyantu_to_millimetres(int32_t g);
  * Refusals: 2 (index in the window, 0 to 3), 3 (0), 6 (index in the stroke, 0 to 3). */
 gerlyantu_stroke_answer gerlyantu_liang_barsky(gerlyantu_window w, gerlyantu_stroke s);
 
-/* The same by the Cohen-Sutherland rule, with the count of its shortenings; fractions and points are those of gerlyantu_liang_barsky.
+/* The same by the Cohen-Sutherland rule, with the count of its shortenings; fractions, points and sides are those of gerlyantu_liang_barsky.
  * Refusals: 2 (index in the window, 0 to 3), 3 (0), 6 (index in the stroke, 0 to 3). */
 gerlyantu_counted_answer gerlyantu_cohen_sutherland(gerlyantu_window w, gerlyantu_stroke s);
 

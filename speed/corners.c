@@ -19,12 +19,30 @@ static void check_corner(const i32 *c, usize n, struct Stroke s) {
     if (traced) return;
     struct CornerAnswer a = gerlyantu_cyrus_beck(c, n, s), b = tuned_cyrus_beck(c, n, s);
     check(a.number == b.number && a.place == b.place && a.kept == b.kept && a.t0.num == b.t0.num && a.t0.den == b.t0.den
-        && a.t1.num == b.t1.num && a.t1.den == b.t1.den, "a corner window");
+        && a.t1.num == b.t1.num && a.t1.den == b.t1.den && a.side0 == b.side0 && a.side1 == b.side1, "a corner window");
+}
+
+// Every stroke with ends from -2 to 6 against the window's list begun at each of its corners: many go through a corner, where two edges give the same
+// fraction, and in turn each corner is the one where the closing edge meets edge 0.
+static void check_turns(const i32 *c, usize n) {
+    for (usize first = 0; first < n; first += 2) {
+        i32 turned[32];
+        for (usize i = 0; i < n; i++) turned[i] = c[(first + i) % n];
+        for (i32 x1 = -2; x1 <= 6; x1++)
+            for (i32 y1 = -2; y1 <= 6; y1++)
+                for (i32 x2 = -2; x2 <= 6; x2++)
+                    for (i32 y2 = -2; y2 <= 6; y2++) check_corner(turned, n, (struct Stroke){ x1, y1, x2, y2 });
+    }
 }
 
 // Small numbers, so that strokes touch edges and corners, and some that are refused.
 static void check_small(void) {
+    static const i32 triangle[] = { 0, 0, 4, 0, 0, 4 }, square[] = { 0, 0, 4, 0, 4, 4, 0, 4 };
+    static const i32 octagon[] = { 1, 0, 3, 0, 4, 1, 4, 3, 3, 4, 1, 4, 0, 3, 0, 1 };
     if (traced) return;
+    check_turns(triangle, 6);
+    check_turns(square, 8);
+    check_turns(octagon, 16);
     i32 c[40];
     for (int i = 0; i < 300000; i++) {
         for (int k = 0; k < 12; k++) c[k] = from(-6, 6);

@@ -80,7 +80,8 @@ static void run_batch(const void *inputs, Call *call) {
 
 static int same_stroke_answer(const struct StrokeAnswer *a, const struct StrokeAnswer *b) {
     return a->number == b->number && a->place == b->place && a->kept == b->kept && a->t0.num == b->t0.num && a->t0.den == b->t0.den
-        && a->t1.num == b->t1.num && a->t1.den == b->t1.den && a->ax == b->ax && a->ay == b->ay && a->bx == b->bx && a->by == b->by;
+        && a->t1.num == b->t1.num && a->t1.den == b->t1.den && a->ax == b->ax && a->ay == b->ay && a->bx == b->bx && a->by == b->by
+        && a->side0 == b->side0 && a->side1 == b->side1;
 }
 
 static void check_stroke(struct Window w, struct Stroke s) {
@@ -99,9 +100,19 @@ static void check_batch(struct Window w, const i32 *s, usize n, usize room) {
     check(a.number == b.number && a.place == b.place && a.count == b.count && !memcmp(out[0], out[1], sizeof out[0]), "a batch");
 }
 
+// Every stroke with ends from -4 to 8 against one window: many go through its corners, where two sides give the same fraction, or end on a side.
+static void check_corners(void) {
+    const struct Window w = { 0, 0, 4, 4 };
+    for (i32 x1 = -4; x1 <= 8; x1++)
+        for (i32 y1 = -4; y1 <= 8; y1++)
+            for (i32 x2 = -4; x2 <= 8; x2++)
+                for (i32 y2 = -4; y2 <= 8; y2++) check_stroke(w, (struct Stroke){ x1, y1, x2, y2 });
+}
+
 // Small numbers, so that strokes touch sides and corners, and some that are refused.
 static void check_small(void) {
     if (traced) return;
+    check_corners();
     for (int i = 0; i < 200000; i++) {
         struct Window w = { from(-4, 4), from(-4, 4), from(-2, 8), from(-2, 8) };
         struct Stroke s = { from(-8, 12), from(-8, 12), from(-8, 12), from(-8, 12) };

@@ -32,7 +32,10 @@ static inline void shorten(struct Window w, struct Stroke s, struct End *e) {
 }
 
 static inline struct CountedAnswer blank(u8 number, usize place, u32 shortenings) {
-    return (struct CountedAnswer){ { .number = number, .place = place, .t0.den = 1, .t1.den = 1 }, shortenings };
+    struct CountedAnswer r;
+    r.shortenings = shortenings;
+    fill_blank(&r.answer, number, place);
+    return r;
 }
 
 static COLD struct CountedAnswer refused(struct Window w, struct Stroke s) {
@@ -40,12 +43,14 @@ static COLD struct CountedAnswer refused(struct Window w, struct Stroke s) {
     return blank(r.number, r.place, 0);
 }
 
-// A shortened end, in lowest terms, with its rounded point.
-static inline void put(struct Stroke s, const struct End *e, struct Fraction *t, i32 *x, i32 *y) {
+// A shortened end, in lowest terms, with its rounded point, and its side: that of the last shortening.
+static inline void put(struct Window w, struct Stroke s, const struct End *e, struct Fraction *t, i32 *x, i32 *y, u8 *side) {
     if (e->across) {
+        *side = 2 + (e->line == w.top);
         *x = rounded(s.x1, s.x2, e->n, e->d);
         *y = e->line;
     } else {
+        *side = e->line == w.right;
         *x = e->line;
         *y = rounded(s.y1, s.y2, e->n, e->d);
     }
@@ -61,9 +66,14 @@ static __attribute__((noinline)) struct CountedAnswer crossing(struct Window w, 
         count++;
         if (a.code & b.code) return blank(0, 0, count);
     } while (a.code | b.code);
-    struct CountedAnswer r = { { .kept = 1, .t0 = { 0, 1 }, .t1 = { 1, 1 }, .ax = s.x1, .ay = s.y1, .bx = s.x2, .by = s.y2 }, count };
-    if (code_a) put(s, &a, &r.answer.t0, &r.answer.ax, &r.answer.ay);
-    if (code_b) put(s, &b, &r.answer.t1, &r.answer.bx, &r.answer.by);
+    struct CountedAnswer r;
+    r.shortenings = count;
+    struct StrokeAnswer *k = &r.answer;
+    k->number = 0; k->place = 0; k->kept = 1;
+    if (code_a) put(w, s, &a, &k->t0, &k->ax, &k->ay, &k->side0);
+    else { k->t0 = (struct Fraction){ 0, 1 }; k->ax = s.x1; k->ay = s.y1; k->side0 = NO_SIDE; }
+    if (code_b) put(w, s, &b, &k->t1, &k->bx, &k->by, &k->side1);
+    else { k->t1 = (struct Fraction){ 1, 1 }; k->bx = s.x2; k->by = s.y2; k->side1 = NO_SIDE; }
     return r;
 }
 
@@ -71,8 +81,12 @@ struct CountedAnswer tuned_cohen_sutherland(struct Window w, struct Stroke s) {
     if (!good_window(w)) return refused(w, s);
     u32 a = code_of(w, s.x1, s.y1), b = code_of(w, s.x2, s.y2);
     // what is inside a window that is on the table is on the table
-    if ((a | b) == 0)
-        return (struct CountedAnswer){ { .kept = 1, .t0 = { 0, 1 }, .t1 = { 1, 1 }, .ax = s.x1, .ay = s.y1, .bx = s.x2, .by = s.y2 }, 0 };
+    if ((a | b) == 0) {
+        struct CountedAnswer r;
+        r.shortenings = 0;
+        fill_whole(&r.answer, s);
+        return r;
+    }
     if (!good_stroke(s)) return refused(w, s);
     if (a & b) return blank(0, 0, 0);
     return crossing(w, s, a, b);

@@ -4,6 +4,8 @@
 #include "../calls.h"
 
 #define FARTHEST 16383
+// Where the stroke's own end remains; else sides are 0 left, 1 right, 2 bottom, 3 top, or the number of an edge's first corner.
+#define NO_SIDE 255
 #define LIKELY(x) __builtin_expect(!!(x), 1)
 #define UNLIKELY(x) __builtin_expect(!!(x), 0)
 #define COLD __attribute__((noinline, cold))
@@ -76,6 +78,22 @@ static inline struct Fraction lowest(u32 n, u32 d) {
 static inline i32 rounded(i32 a, i32 b, u32 n, u32 d) {
     u32 lifted = (u32)(a + 16384) * d + (u32)(b - a) * n, quotient = lifted / d;
     return (i32)(quotient + (d < 2 * (lifted % d) + (quotient & 1))) - 16384;
+}
+
+// Answers of a missed or refused stroke, and of one that is kept whole: field by field, so that the bytes behind the last are not written.
+static inline void fill_blank(struct StrokeAnswer *a, u8 number, usize place) {
+    __builtin_memset(a, 0, __builtin_offsetof(struct StrokeAnswer, t0.den));
+    a->number = number; a->place = place;
+    a->t0.den = 1; a->t1 = (struct Fraction){ 0, 1 };
+    a->ax = a->ay = a->bx = a->by = 0;
+    a->side0 = a->side1 = NO_SIDE;
+}
+
+static inline void fill_whole(struct StrokeAnswer *a, struct Stroke s) {
+    a->number = 0; a->place = 0; a->kept = 1;
+    a->t0 = (struct Fraction){ 0, 1 }; a->t1 = (struct Fraction){ 1, 1 };
+    a->ax = s.x1; a->ay = s.y1; a->bx = s.x2; a->by = s.y2;
+    a->side0 = a->side1 = NO_SIDE;
 }
 
 #endif

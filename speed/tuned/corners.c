@@ -2,7 +2,12 @@
 #include "common.h"
 
 static inline struct CornerAnswer blank(u8 number, usize place) {
-    return (struct CornerAnswer){ .number = number, .place = place, .t0.den = 1, .t1.den = 1 };
+    struct CornerAnswer a;
+    __builtin_memset(&a, 0, __builtin_offsetof(struct CornerAnswer, t0.den));
+    a.number = number; a.place = place;
+    a.t0.den = 1; a.t1 = (struct Fraction){ 0, 1 };
+    a.side0 = a.side1 = NO_SIDE;
+    return a;
 }
 
 // Whether all corners turn left and the ways begin to go up once.
@@ -32,24 +37,29 @@ struct CornerAnswer tuned_cyrus_beck(const i32 *c, usize n, struct Stroke s) {
     if (any_off(c, n)) return blank(2, first_off(c));
     if (!good_stroke(s)) return stroke_off(c, n, s);
     i32 dx = s.x2 - s.x1, dy = s.y2 - s.y1;
-    i32 x = c[n - 2], y = c[n - 1], ex = x - c[n - 4], ey = y - c[n - 3], rises = 0, missed = 0;
+    // down from the closing edge to edge 0: of edges with the same fraction the last one counts, which has the lowest number
+    i32 x = c[0], y = c[1], ex = c[2] - x, ey = c[3] - y, rises = 0, missed = 0;
     i64 n0 = 0, d0 = 1, n1 = 1, d1 = 1;
-    for (usize i = 0; i < n; i += 2) {
-        i32 fx = c[i] - x, fy = c[i + 1] - y;
-        if (UNLIKELY(ex * fy <= ey * fx)) return blank(3, 0);
-        rises += (ey & ~fy) < 0;
+    u32 i0 = 0, i1 = 0;
+    for (usize i = n; i > 0; i -= 2) {
+        i32 fx = x - c[i - 2], fy = y - c[i - 1];
+        if (UNLIKELY(fx * ey <= fy * ex)) return blank(3, 0);
+        rises += (fy & ~ey) < 0;
         // p t <= q on the edge's left
         i32 p = dx * fy - dy * fx, q = fx * (s.y1 - y) - fy * (s.x1 - x);
         if (q < 0) {
             if (p >= 0) missed = 1;
-            else if (n0 * -(i64)p < -(i64)q * d0) { n0 = -(i64)q; d0 = -(i64)p; }
-        } else if (q < p && q * d1 < n1 * p) { n1 = q; d1 = p; }
-        x = c[i]; y = c[i + 1]; ex = fx; ey = fy;
+            else if (n0 * -(i64)p <= -(i64)q * d0) { n0 = -(i64)q; d0 = -(i64)p; i0 = i; }
+        } else if (q < p && q * d1 <= n1 * p) { n1 = q; d1 = p; i1 = i; }
+        x = c[i - 2]; y = c[i - 1]; ex = fx; ey = fy;
     }
     if (UNLIKELY(rises != 1)) return blank(3, 0);
     if (missed || n1 * d0 < n0 * d1) return blank(0, 0);
-    struct CornerAnswer a = { .kept = 1, .t0 = { 0, 1 }, .t1 = { 1, 1 } };
-    if (n0 != 0) a.t0 = lowest((u32)n0, (u32)d0);
-    if (n1 != d1) a.t1 = lowest((u32)n1, (u32)d1);
+    struct CornerAnswer a;
+    a.number = 0; a.place = 0; a.kept = 1;
+    a.t0 = (struct Fraction){ 0, 1 }; a.t1 = (struct Fraction){ 1, 1 };
+    a.side0 = a.side1 = NO_SIDE;
+    if (n0 != 0) { a.t0 = lowest((u32)n0, (u32)d0); a.side0 = i0 / 2 - 1; }
+    if (n1 != d1) { a.t1 = lowest((u32)n1, (u32)d1); a.side1 = i1 / 2 - 1; }
     return a;
 }

@@ -3,8 +3,8 @@
 #define CUT_H
 #include "common.h"
 
-// From n0/d0 of its way to n1/d1, not in lowest terms, and the two rounded points.
-struct Cut { u32 n0, d0, n1, d1; i32 ax, ay, bx, by; };
+// From n0/d0 of its way to n1/d1, not in lowest terms, the two rounded points, and the sides that cut it there.
+struct Cut { u32 n0, d0, n1, d1; i32 ax, ay, bx, by; u8 side0, side1; };
 
 enum Place { INSIDE, OUTSIDE, NEITHER };
 
@@ -55,26 +55,26 @@ static inline __attribute__((always_inline)) i32 cut(struct Window w, struct Str
     if (dx == 0) dx = out_x = 1;
     if (dy == 0) dy = out_y = 1;
     if ((in_x | in_y) == 0) {
-        c->n0 = 0; c->d0 = 1; c->ax = s.x1; c->ay = s.y1;
+        c->n0 = 0; c->d0 = 1; c->ax = s.x1; c->ay = s.y1; c->side0 = NO_SIDE;
     } else {
         // missed where it goes out along one axis before it comes in along the other
         u32 x = in_x * dy, y = in_y * dx;
         if (x > out_y * dx || y > out_x * dy) return 0;
         if (x >= y) {
-            c->n0 = in_x; c->d0 = dx; c->ax = at_x;
+            c->n0 = in_x; c->d0 = dx; c->ax = at_x; c->side0 = s.x2 < s.x1;
             c->ay = rounded(s.y1, s.y2, in_x, dx);
         } else {
-            c->n0 = in_y; c->d0 = dy; c->ay = at_y;
+            c->n0 = in_y; c->d0 = dy; c->ay = at_y; c->side0 = 2 + (s.y2 < s.y1);
             c->ax = rounded(s.x1, s.x2, in_y, dy);
         }
     }
     if (out_x == dx && out_y == dy) {
-        c->n1 = 1; c->d1 = 1; c->bx = s.x2; c->by = s.y2;
+        c->n1 = 1; c->d1 = 1; c->bx = s.x2; c->by = s.y2; c->side1 = NO_SIDE;
     } else if (out_x * dy <= out_y * dx) {
-        c->n1 = out_x; c->d1 = dx; c->bx = to_x;
+        c->n1 = out_x; c->d1 = dx; c->bx = to_x; c->side1 = s.x1 < s.x2;
         c->by = rounded(s.y1, s.y2, out_x, dx);
     } else {
-        c->n1 = out_y; c->d1 = dy; c->by = to_y;
+        c->n1 = out_y; c->d1 = dy; c->by = to_y; c->side1 = 2 + (s.y1 < s.y2);
         c->bx = rounded(s.x1, s.x2, out_y, dy);
     }
     return 1;

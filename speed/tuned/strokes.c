@@ -2,7 +2,15 @@
 #include "cut.h"
 
 static inline struct StrokeAnswer blank(u8 number, usize place) {
-    return (struct StrokeAnswer){ .number = number, .place = place, .t0.den = 1, .t1.den = 1 };
+    struct StrokeAnswer a;
+    fill_blank(&a, number, place);
+    return a;
+}
+
+static inline struct StrokeAnswer whole(struct Stroke s) {
+    struct StrokeAnswer a;
+    fill_whole(&a, s);
+    return a;
 }
 
 static COLD struct StrokeAnswer refused(struct Window w, struct Stroke s) {
@@ -14,9 +22,12 @@ static COLD struct StrokeAnswer refused(struct Window w, struct Stroke s) {
 static __attribute__((noinline)) struct StrokeAnswer crossing(struct Window w, struct Stroke s) {
     struct Cut c;
     if (!cut(w, s, &c)) return blank(0, 0);
-    struct StrokeAnswer a = { .kept = 1, .t0 = { 0, 1 }, .t1 = { 1, 1 }, .ax = c.ax, .ay = c.ay, .bx = c.bx, .by = c.by };
-    if (c.n0 != 0) a.t0 = lowest(c.n0, c.d0);
-    if (c.n1 != c.d1) a.t1 = lowest(c.n1, c.d1);
+    struct StrokeAnswer a;
+    a.number = 0; a.place = 0; a.kept = 1;
+    a.ax = c.ax; a.ay = c.ay; a.bx = c.bx; a.by = c.by;
+    a.side0 = c.side0; a.side1 = c.side1;
+    a.t0 = c.n0 != 0 ? lowest(c.n0, c.d0) : (struct Fraction){ 0, 1 };
+    a.t1 = c.n1 != c.d1 ? lowest(c.n1, c.d1) : (struct Fraction){ 1, 1 };
     return a;
 }
 
@@ -24,8 +35,7 @@ struct StrokeAnswer tuned_liang_barsky(struct Window w, struct Stroke s) {
     if (!good_window(w)) return refused(w, s);
     enum Place p = place(w, s);
     // what is inside a window that is on the table is on the table
-    if (p == INSIDE)
-        return (struct StrokeAnswer){ .kept = 1, .t0 = { 0, 1 }, .t1 = { 1, 1 }, .ax = s.x1, .ay = s.y1, .bx = s.x2, .by = s.y2 };
+    if (p == INSIDE) return whole(s);
     if (!good_stroke(s)) return refused(w, s);
     if (p == OUTSIDE) return blank(0, 0);
     return crossing(w, s);

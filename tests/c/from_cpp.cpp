@@ -17,7 +17,9 @@ static bool alike(const char *a, const char *b) {
     return *a == *b;
 }
 
-static_assert(sizeof(gerlyantu_stroke_answer) == 72, "C++ lays the answers out as C does");
+static_assert(sizeof(gerlyantu_stroke_answer) == 80, "C++ lays the answers out as C does");
+static_assert(sizeof(gerlyantu_counted_answer) == 88, "C++ lays the answers out as C does");
+static_assert(sizeof(gerlyantu_corner_answer) == 64, "C++ lays the answers out as C does");
 static_assert(GERLYANTU_VERSION >= 10000, "the version is a constant");
 
 static const gerlyantu_window ten = {0, 0, 10, 10};
@@ -32,6 +34,24 @@ static void check_stroke() {
     SAME(a.t1.den, 4);
     SAME(a.bx, 10);
     SAME(a.by, 5);
+    SAME(a.side0, GERLYANTU_LEFT);
+    SAME(a.side1, GERLYANTU_RIGHT);
+    const gerlyantu_counted_answer c = gerlyantu_cohen_sutherland(ten, gerlyantu_stroke{-1, 24, 11, -14});
+    SAME(c.shortenings, 4);
+    SAME(c.answer.t1.num, 12);
+    SAME(c.answer.t1.den, 19);
+    SAME(c.answer.side0, GERLYANTU_TOP);
+    SAME(c.answer.side1, GERLYANTU_BOTTOM);
+}
+
+static void check_corner_window() {
+    const int32_t square[8] = {0, 0, 10, 0, 10, 10, 0, 10};
+    const gerlyantu_corner_answer a = gerlyantu_cyrus_beck(square, 8, gerlyantu_stroke{-1, 0, 1, 1});
+    SAME(a.number, GERLYANTU_DONE);
+    SAME(a.t0.num, 1);
+    SAME(a.t0.den, 2);
+    SAME(a.side0, 3);
+    SAME(a.side1, GERLYANTU_NO_SIDE);
 }
 
 static void check_outline() {
@@ -79,6 +99,7 @@ static void check_book() {
 
 int main() {
     check_stroke();
+    check_corner_window();
     check_outline();
     check_refused();
     check_book();

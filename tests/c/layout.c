@@ -56,7 +56,7 @@ FIELD(gerlyantu_back_answer, number, 0, 1);
 FIELD(gerlyantu_back_answer, place, 8, 8);
 FIELD(gerlyantu_back_answer, mm, 16, 4);
 
-SIZE(gerlyantu_stroke_answer, 72);
+SIZE(gerlyantu_stroke_answer, 80);
 FIELD(gerlyantu_stroke_answer, number, 0, 1);
 FIELD(gerlyantu_stroke_answer, place, 8, 8);
 FIELD(gerlyantu_stroke_answer, kept, 16, 1);
@@ -66,17 +66,22 @@ FIELD(gerlyantu_stroke_answer, ax, 56, 4);
 FIELD(gerlyantu_stroke_answer, ay, 60, 4);
 FIELD(gerlyantu_stroke_answer, bx, 64, 4);
 FIELD(gerlyantu_stroke_answer, by, 68, 4);
+FIELD(gerlyantu_stroke_answer, side0, 72, 1);
+FIELD(gerlyantu_stroke_answer, side1, 73, 1);
 
-SIZE(gerlyantu_counted_answer, 80);
-FIELD(gerlyantu_counted_answer, answer, 0, 72);
-FIELD(gerlyantu_counted_answer, shortenings, 72, 4);
+SIZE(gerlyantu_counted_answer, 88);
+FIELD(gerlyantu_counted_answer, shortenings, 0, 4);
+FIELD(gerlyantu_counted_answer, answer, 8, 80);
+FIELD(gerlyantu_counted_answer, answer.side1, 81, 1);
 
-SIZE(gerlyantu_corner_answer, 56);
+SIZE(gerlyantu_corner_answer, 64);
 FIELD(gerlyantu_corner_answer, number, 0, 1);
 FIELD(gerlyantu_corner_answer, place, 8, 8);
 FIELD(gerlyantu_corner_answer, kept, 16, 1);
 FIELD(gerlyantu_corner_answer, t0, 24, 16);
 FIELD(gerlyantu_corner_answer, t1, 40, 16);
+FIELD(gerlyantu_corner_answer, side0, 56, 1);
+FIELD(gerlyantu_corner_answer, side1, 57, 1);
 
 SIZE(gerlyantu_answer, 24);
 FIELD(gerlyantu_answer, number, 0, 1);
@@ -105,7 +110,13 @@ SIZE(gerlyantu_release_answer, 16);
 FIELD(gerlyantu_release_answer, number, 0, 1);
 FIELD(gerlyantu_release_answer, place, 8, 8);
 
-/* ---- limits and refusals */
+/* ---- sides, limits and refusals */
+
+NAMED(LEFT, 0);
+NAMED(RIGHT, 1);
+NAMED(BOTTOM, 2);
+NAMED(TOP, 3);
+NAMED(NO_SIDE, 255);
 
 NAMED(LARGEST, 16383);
 NAMED(STROKES, 4096);

@@ -1,10 +1,10 @@
 -- Where a stroke meets the line of a side: the fraction is (side − from) / (to − from), with the sign moved so that the denominator is positive.
-use mathlib.Core.Path.{_≡_, refl, sym}
+use mathlib.Core.Path.{_≡_, refl, sym, ap}
 use mathlib.Core.Logic.{⊎-elim}
 use mathlib.Core.List.{List, [], _∷_}
 use Prim.Native.Nat.{ℕ, zero, suc, _<_}
 use native.Mathlib.Omega.{arith}
-use lib.IntN.{ℤ, pos, _-ℤ_}
+use lib.IntN.{ℤ, pos, negℤ, _-ℤ_}
 use lib.Signed.{_≤ℤ_, _<ℤ_}
 use Rattle.whole.specs.Within.{Within}
 use Rattle.whole.proofs.Certificates.{clash, eq, po, le, _⊞_, _⊠_}
@@ -106,9 +106,9 @@ pub apart : (w : Window) (s : Stroke) (f g : Fraction) (k : Side) → pos 0 <ℤ
 apart w s f g k hf hg p q = ends k (not-level (slope w s k) (base w s k) f g hf hg (beyond-form w s k f p) (inside-form w s k g q))
   where
     ends : (k : Side) → (slope w s k ≡ pos 0 → ⊥) → Apart s k
-    ends left h = λ e. h (zero-diff e)
+    ends left h = λ e. h (ap negℤ (zero-diff (sym e)))
     ends right h = λ e. h (zero-diff (sym e))
-    ends bottom h = λ e. h (zero-diff e)
+    ends bottom h = λ e. h (ap negℤ (zero-diff (sym e)))
     ends top h = λ e. h (zero-diff (sym e))
 
 -- ---- a side and its number

@@ -36,6 +36,10 @@ first-only k a b = set k a && not (set k b)
 abbrev last-only : Side → ℕ → ℕ → Bool
 last-only k a b = not (set k a) && set k b
 
+-- no side of a lower number than that of k has its bit set
+abbrev lowest-set : Side → ℕ → Bool
+lowest-set k a = every-side (λ j. implies (ltb (placeOf j) (placeOf k)) (not (set j a)))
+
 abbrev is : ℕ → ℕ → ℕ → Bool
 is n a b = eqb (decision a b) n
 
@@ -65,6 +69,15 @@ module _ {a b : ℕ} (ha : a < 16) (hb : b < 16) where
   unfolding decision trailingZeros
   end-set k e = where-is (shortenEnd (placeOf k)) (last-only k) (sides (λ k. always (is (shortenEnd (placeOf k))) (last-only k)) tt k) e
 
+  -- of the bits that are set, that of a shortening is the lowest
+  start-lowest : (k : Side) → decision a b ≡ shortenStart (placeOf k) → T (lowest-set k a)
+  unfolding decision trailingZeros
+  start-lowest k e = where-is (shortenStart (placeOf k)) (λ a b. lowest-set k a) (sides (λ k. always (is (shortenStart (placeOf k))) (λ a b. lowest-set k a)) tt k) e
+
+  end-lowest : (k : Side) → decision a b ≡ shortenEnd (placeOf k) → T (lowest-set k b)
+  unfolding decision trailingZeros
+  end-lowest k e = where-is (shortenEnd (placeOf k)) (λ a b. lowest-set k b) (sides (λ k. always (is (shortenEnd (placeOf k))) (λ a b. lowest-set k b)) tt k) e
+
   -- a shortening is at the side whose number is the count of trailing zeros
   pub start-side : 2 ≤ decision a b → decision a b < 6 → decision a b ≡ shortenStart (placeOf (sideAt (lowestBit a)))
   unfolding decision trailingZeros
@@ -76,6 +89,17 @@ module _ {a b : ℕ} (ha : a < 16) (hb : b < 16) where
   unfolding decision trailingZeros
   end-side l = eqb→eq (decision a b) (shortenEnd (placeOf (sideAt (lowestBit b))))
       (found (λ a b. leb 6 (decision a b)) (λ a b. is (shortenEnd (placeOf (sideAt (lowestBit b)))) a b) tt (le→leb 6 (decision a b) l))
+
+  pub start-place : 2 ≤ decision a b → decision a b < 6 → placeOf (sideAt (lowestBit a)) ≡ lowestBit a
+  unfolding decision trailingZeros
+  start-place l h = eqb→eq (placeOf (sideAt (lowestBit a))) (lowestBit a)
+      (found (λ a b. leb 2 (decision a b) && ltb (decision a b) 6) (λ a b. eqb (placeOf (sideAt (lowestBit a))) (lowestBit a)) tt
+      (yes-and (leb 2 (decision a b)) (ltb (decision a b) 6) (le→leb 2 (decision a b) l) (lt→ltb (decision a b) 6 h)))
+
+  pub end-place : 6 ≤ decision a b → placeOf (sideAt (lowestBit b)) ≡ lowestBit b
+  unfolding decision trailingZeros
+  end-place l = eqb→eq (placeOf (sideAt (lowestBit b))) (lowestBit b)
+      (found (λ a b. leb 6 (decision a b)) (λ a b. eqb (placeOf (sideAt (lowestBit b))) (lowestBit b)) tt (le→leb 6 (decision a b) l))
 
   -- the plain cases
   pub or-keep : bitOr a b ≡ 0 → decision a b ≡ keep
@@ -165,3 +189,16 @@ module _ (w : Window) (s : Stroke) (f g : Fraction) where
   end-beyond k e =
       let t = and-yes (not (set k a)) (set k b) (end-set (code-small w s f) (code-small w s g) k e) in
       (clear-inside w s f k (t .0), set-beyond w s g k (t .1))
+
+  -- the point lies beyond no side of a lower number
+  lower-inside : (f : Fraction) (k : Side) → T (lowest-set k (code w s f)) → (j : Side) → placeOf j < placeOf k → past w s j f ≤ℤ pos 0
+  lower-inside f k t j l =
+      clear-inside w s f j
+      (implied (ltb (placeOf j) (placeOf k)) (not (set j (code w s f))) (sides (λ j. implies (ltb (placeOf j) (placeOf k)) (not (set j (code w s f)))) t j)
+      (lt→ltb (placeOf j) (placeOf k) l))
+
+  pub start-lower : (k : Side) → decided w s f g ≡ shortenStart (placeOf k) → (j : Side) → placeOf j < placeOf k → past w s j f ≤ℤ pos 0
+  start-lower k e = lower-inside f k (start-lowest (code-small w s f) (code-small w s g) k e)
+
+  pub end-lower : (k : Side) → decided w s f g ≡ shortenEnd (placeOf k) → (j : Side) → placeOf j < placeOf k → past w s j g ≤ℤ pos 0
+  end-lower k e = lower-inside g k (end-lowest (code-small w s f) (code-small w s g) k e)

@@ -14,6 +14,7 @@ use Rattle.fraction.specs.declared.Fraction.{Fraction}
 use Rattle.grid.specs.declared.Stroke.{Stroke}
 use Rattle.grid.specs.declared.Window.{Window}
 use Rattle.grid.specs.Sides.{Side, left, right, bottom, top}
+use Rattle.strokes.specs.Sides.{sideP, sideQ}
 use Rattle.codes.specs.Codes.{past}
 
 -- a linear form at a fraction, in the numbers and as it is quoted
@@ -89,7 +90,7 @@ module _ (x t : Fraction) where
 pub ≼-refl : (t : Fraction) → t ≼ t
 ≼-refl t = omega zarith
 
--- ---- the form of a side
+-- ---- the form of a side: its condition p·t ≤ q
 -- past a low side c, and past a high one, on the way from a to b: c ∷ a ∷ b ∷ n ∷ d
 abbrev low : Expr
 low = var 0 ⊗ var 4 ⊖ (var 1 ⊗ var 4 ⊕ var 3 ⊗ (var 2 ⊖ var 1))
@@ -99,22 +100,16 @@ high = var 1 ⊗ var 4 ⊕ var 3 ⊗ (var 2 ⊖ var 1) ⊖ var 0 ⊗ var 4
 
 module _ (w : Window) (s : Stroke) where
   abbrev pub slope : Side → ℤ
-  slope left = s .x1 -ℤ s .x2
-  slope right = s .x2 -ℤ s .x1
-  slope bottom = s .y1 -ℤ s .y2
-  slope top = s .y2 -ℤ s .y1
+  slope k = sideP s k
 
   abbrev pub base : Side → ℤ
-  base left = w .left -ℤ s .x1
-  base right = s .x1 -ℤ w .right
-  base bottom = w .bottom -ℤ s .y1
-  base top = s .y1 -ℤ w .top
+  base k = negℤ (sideQ w s k)
 
   past-form : (k : Side) (f : Fraction) → past w s k f ≡ form (slope k) (base k) f
-  past-form left f = ring (w .left ∷ s .x1 ∷ s .x2 ∷ f .num ∷ f .den ∷ []) low ((var 1 ⊖ var 2) ⊗ var 3 ⊕ (var 0 ⊖ var 1) ⊗ var 4) tt
-  past-form right f = ring (w .right ∷ s .x1 ∷ s .x2 ∷ f .num ∷ f .den ∷ []) high ((var 2 ⊖ var 1) ⊗ var 3 ⊕ (var 1 ⊖ var 0) ⊗ var 4) tt
-  past-form bottom f = ring (w .bottom ∷ s .y1 ∷ s .y2 ∷ f .num ∷ f .den ∷ []) low ((var 1 ⊖ var 2) ⊗ var 3 ⊕ (var 0 ⊖ var 1) ⊗ var 4) tt
-  past-form top f = ring (w .top ∷ s .y1 ∷ s .y2 ∷ f .num ∷ f .den ∷ []) high ((var 2 ⊖ var 1) ⊗ var 3 ⊕ (var 1 ⊖ var 0) ⊗ var 4) tt
+  past-form left f = ring (w .left ∷ s .x1 ∷ s .x2 ∷ f .num ∷ f .den ∷ []) low (neg (var 2 ⊖ var 1) ⊗ var 3 ⊕ neg (var 1 ⊖ var 0) ⊗ var 4) tt
+  past-form right f = ring (w .right ∷ s .x1 ∷ s .x2 ∷ f .num ∷ f .den ∷ []) high ((var 2 ⊖ var 1) ⊗ var 3 ⊕ neg (var 0 ⊖ var 1) ⊗ var 4) tt
+  past-form bottom f = ring (w .bottom ∷ s .y1 ∷ s .y2 ∷ f .num ∷ f .den ∷ []) low (neg (var 2 ⊖ var 1) ⊗ var 3 ⊕ neg (var 1 ⊖ var 0) ⊗ var 4) tt
+  past-form top f = ring (w .top ∷ s .y1 ∷ s .y2 ∷ f .num ∷ f .den ∷ []) high ((var 2 ⊖ var 1) ⊗ var 3 ⊕ neg (var 0 ⊖ var 1) ⊗ var 4) tt
 
   module _ (k : Side) (f : Fraction) where
     pub beyond-form : pos 0 <ℤ past w s k f → pos 0 <ℤ form (slope k) (base k) f

@@ -4,6 +4,7 @@ pub mod Forms
 pub mod Sides
 pub mod Crossings
 pub mod Shortenings
+pub mod Named
 pub mod Pieces
 pub mod Runs
 pub mod Computed

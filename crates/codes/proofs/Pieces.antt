@@ -18,8 +18,10 @@ use Rattle.grid.specs.declared.Window.{Window}
 use Rattle.grid.specs.Refusals.{none}
 use Rattle.grid.specs.Sides.{Side, placeOf, sideAt}
 use Rattle.spans.specs.Parts.{zeroth, unit}
+use Rattle.spans.specs.Sides.{noSide, StartSide, EndSide}
 use Rattle.spans.proofs.Cutting.{one-within}
 use Rattle.spans.proofs.Parts.{lowest-zeroth, lowest-unit}
+use Rattle.strokes.specs.Sides.{conditions}
 use Rattle.strokes.specs.Strokes.{blank}
 use Rattle.strokes.specs.Workers.{wholeAnswer}
 use Rattle.strokes.proofs.Answers.{nothing-kept, span-kept}
@@ -30,7 +32,8 @@ use Rattle.codes.specs.Workers.{outsideOf, marksOf, endCode, PartOfWay, 
 use Rattle.codes.specs.declared.CountedAnswer.{CountedAnswer}
 use Rattle.codes.specs.declared.Piece.{Piece}
 use Rattle.codes.proofs.Crossings.{apart}
-use Rattle.codes.proofs.Decided.{code-small, start-side, end-side, start-beyond, end-beyond}
+use Rattle.codes.proofs.Decided.{code-small, start-side, end-side, start-place, end-place, start-beyond, end-beyond}
+use Rattle.codes.proofs.Named.{start-named, end-named}
 use Rattle.codes.proofs.Shortenings.{Ordered, first-ordered, first-time, last-time, shortened-ordered, Reached, reached-keep, reached-missed, reached-end}
 
 part-ordered : {f g : Fraction} → PartOfWay f g → Ordered f g
@@ -65,6 +68,12 @@ module _ {w : Window} {s : Stroke} {p : Piece} (h : PieceOf w s p) where
     pub decided-start : 2 ≤ d → d < 6 → decided w s f g ≡ shortenStart (placeOf (sideAt (lowestBit (p .a))))
     decided-start l u = sym decided-is ∙ start-side small-a small-b (subst (λ (n : ℕ). 2 ≤ n) own l) (subst (λ (n : ℕ). n < 6) own u)
 
+    pub place-start : 2 ≤ d → d < 6 → placeOf (sideAt (lowestBit (p .a))) ≡ lowestBit (p .a)
+    place-start l u = start-place small-a small-b (subst (λ (n : ℕ). 2 ≤ n) own l) (subst (λ (n : ℕ). n < 6) own u)
+
+    pub place-end : 6 ≤ d → placeOf (sideAt (lowestBit (p .b))) ≡ lowestBit (p .b)
+    place-end l = end-place small-a small-b (subst (λ (n : ℕ). 6 ≤ n) own l)
+
     pub decided-end : 6 ≤ d → decided w s f g ≡ shortenEnd (placeOf (sideAt (lowestBit (p .b))))
     decided-end l = sym decided-is ∙ end-side small-a small-b (subst (λ (n : ℕ). 6 ≤ n) own l)
 
@@ -72,12 +81,18 @@ module _ {w : Window} {s : Stroke} {p : Piece} (h : PieceOf w s p) where
     pub start-apart : Apart s k
     start-apart = let b = start-beyond w s f g k e in apart w s f g k (h .part .start .time .den) (h .part .end .time .den) (b .0) (b .1)
 
+    pub start-fixed : {c : Fraction} → StrokeMeets w s k c → StartSide (conditions w s) c (placeOf k)
+    start-fixed {c} m = start-named w s c k (part-ordered (h .part)) (m .line) e
+
     pub start-part : {c : Fraction} → StrokeMeets w s k c → PartOfWay c g
     start-part m = ordered-part (shortened-ordered (part-ordered (h .part)) (start k e (m .line))) (m .small) (h .part .end .small)
 
   module _ (k : Side) (e : decided w s f g ≡ shortenEnd (placeOf k)) where
     pub end-apart : Apart s k
     end-apart = let b = end-beyond w s f g k e in apart w s g f k (h .part .end .time .den) (h .part .start .time .den) (b .1) (b .0)
+
+    pub end-fixed : {c : Fraction} → StrokeMeets w s k c → EndSide (conditions w s) c (placeOf k)
+    end-fixed {c} m = end-named w s c k (part-ordered (h .part)) (m .line) e
 
     pub end-part : {c : Fraction} → StrokeMeets w s k c → PartOfWay f c
     end-part m = ordered-part (shortened-ordered (part-ordered (h .part)) (end k e (m .line))) (h .part .start .small) (m .small)
@@ -109,20 +124,24 @@ module _ (w : Window) (s : Stroke) where
 pub whole-part : PartOfWay zeroth unit
 whole-part = ordered-part first-ordered (one-within (omega arith)) (one-within (omega arith))
 
-pub whole-kept : {s : Stroke} {q : CountedAnswer} → q ≡ record { answer = wholeAnswer s; shortenings = 0 } → KeptFrom s zeroth unit 0 q
-whole-kept {s} e = subst (KeptFrom s zeroth unit 0) (sym e) (record {
-  clipped = λ w g.
-      span-kept g (omega zarith) (record { t = zeroth; x = s .x1; y = s .y1 }) (record { t = unit; x = s .x2; y = s .y2 })
-      (point-start {f = zeroth} (omega zarith) refl) (point-finish {f = unit} (omega zarith) refl) (lowest-zeroth refl) (lowest-unit refl);
+-- with the codes of its ends
+abbrev pub whole-piece : ℕ → ℕ → Piece
+whole-piece a b = record { start = zeroth; end = unit; a = a; b = b; side0 = noSide; side1 = noSide }
+
+pub whole-kept : {s : Stroke} {q : CountedAnswer} (a b : ℕ) → q ≡ record { answer = wholeAnswer s; shortenings = 0 } → KeptFrom s (whole-piece a b) 0 q
+whole-kept {s} a b e = subst (KeptFrom s (whole-piece a b) 0) (sym e) (record {
+  clipped = λ w g i o.
+      span-kept g (omega zarith) (record { t = zeroth; x = s .x1; y = s .y1; side = noSide }) (record { t = unit; x = s .x2; y = s .y2; side = noSide })
+      (point-start {f = zeroth} (omega zarith) refl) (point-finish {f = unit} (omega zarith) refl) i o (lowest-zeroth refl) (lowest-unit refl);
   count = refl;
 })
 
-module _ {w : Window} {s : Stroke} {f g : Fraction} {n : ℕ} {q : CountedAnswer} (r : Reached w s f g n) where
-  pub finished-kept : PartOfWay f g → decided w s f g ≡ keep → KeptFrom s f g n q → Finished w s q
-  finished-kept h e k = record {
-    clipped = k .clipped w (reached-keep r e (h .start .small) (h .end .small));
+module _ {w : Window} {s : Stroke} {p : Piece} {n : ℕ} {q : CountedAnswer} (h : PieceOf w s p) (r : Reached w s (p .start) (p .end) n) where
+  pub finished-kept : decided w s (p .start) (p .end) ≡ keep → KeptFrom s p n q → Finished w s q
+  finished-kept e k = record {
+    clipped = k .clipped w (reached-keep r e (h .part .start .small) (h .part .end .small)) (h .start-side) (h .end-side);
     run = subst (Run w s zeroth unit) (sym (k .count)) (reached-end r (kept e));
   }
 
-  pub finished-missed : decided w s f g ≡ missed → q ≡ record { answer = blank none; shortenings = n } → Finished w s q
+  pub finished-missed : decided w s (p .start) (p .end) ≡ missed → q ≡ record { answer = blank none; shortenings = n } → Finished w s q
   finished-missed e b = subst (Finished w s) (sym b) (record { clipped = nothing-kept (reached-missed r e); run = reached-end r (lost e) })

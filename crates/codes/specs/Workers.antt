@@ -7,10 +7,10 @@
 --   Apart s k           the stroke's two ends are not equally far from the line of the side k, so that it meets the line at one fraction
 --   WayMeets c a b f    at the fraction f the way from a to b is at c
 --   StrokeMeets w s k f   at the fraction f the stroke is on the line of the side k
---   PieceOf w s p       the piece p is a part of the stroke, with the codes of its two points
+--   PieceOf w s p       the piece p is a part of the stroke, with the codes of its two points and the sides that fixed them
 --   Shortened w s p q   the piece q is what one shortening leaves of p
---   EndAt s f e         e is the stroke's point at the fraction f, rounded
---   KeptFrom s f g n r  r is right, after n shortenings, for any window that keeps of the stroke what is from f to g
+--   EndAt s f k e       e is the stroke's point at the fraction f, rounded, fixed by the side k
+--   KeptFrom s p n r    r is right, after n shortenings, for any window that keeps of the stroke what the piece p has, with its sides
 --   Finished w s r      r is right for a window and a stroke in which nothing is refused
 use mathlib.Core.Path.{_≡_}
 use Prim.Native.Nat.{ℕ}
@@ -25,8 +25,10 @@ use Rattle.grid.specs.declared.Stroke.{Stroke}
 use Rattle.grid.specs.declared.Window.{Window}
 use Rattle.grid.specs.Sides.{Side, left, right, bottom, top}
 use Rattle.spans.specs.Parts.{zeroth, unit}
+use Rattle.spans.specs.Sides.{StartSide, EndSide}
 use Rattle.spans.specs.Spans.{SpanOf}
 use Rattle.strokes.specs.declared.End.{End}
+use Rattle.strokes.specs.Sides.{conditions}
 use Rattle.strokes.specs.Strokes.{Keeps, PointAt, Clipped}
 use Rattle.strokes.specs.Workers.{OnWay}
 use Rattle.codes.specs.Codes.{code}
@@ -69,17 +71,21 @@ pub record PieceOf (w : Window) (s : Stroke) (p : Piece) : Type 0 where
   pub part : PartOfWay (p .start) (p .end)
   pub a : p .a ≡ code w s (p .start)
   pub b : p .b ≡ code w s (p .end)
+  pub start-side : StartSide (conditions w s) (p .start) (p .side0)
+  pub end-side : EndSide (conditions w s) (p .end) (p .side1)
 
 pub record Shortened (w : Window) (s : Stroke) (p q : Piece) : Type 0 where
   pub step : Shortening w s (p .start) (p .end) (q .start) (q .end)
   pub piece : PieceOf w s q
 
-pub record EndAt (s : Stroke) (f : Fraction) (e : End) : Type 0 where
+pub record EndAt (s : Stroke) (f : Fraction) (k : ℕ) (e : End) : Type 0 where
   pub t : e .t ≡ f
   pub point : PointAt s f (e .x) (e .y)
+  pub side : e .side ≡ k
 
-pub record KeptFrom (s : Stroke) (f g : Fraction) (n : ℕ) (r : CountedAnswer) : Type 0 where
-  pub clipped : (w : Window) → SpanOf 32766 (Keeps w s) (record { first = f; last = g }) → Clipped w s (r .answer)
+pub record KeptFrom (s : Stroke) (p : Piece) (n : ℕ) (r : CountedAnswer) : Type 0 where
+  pub clipped : (w : Window) → SpanOf 32766 (Keeps w s) (record { first = p .start; last = p .end })
+      → StartSide (conditions w s) (p .start) (p .side0) → EndSide (conditions w s) (p .end) (p .side1) → Clipped w s (r .answer)
   pub count : r .shortenings ≡ n
 
 pub record Finished (w : Window) (s : Stroke) (r : CountedAnswer) : Type 0 where

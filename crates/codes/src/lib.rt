@@ -9,6 +9,7 @@ use fraction::Fraction;
 use grid::Refusal;
 use grid::Stroke;
 use grid::Window;
+use spans::NO_SIDE;
 use strokes::End;
 use strokes::StrokeAnswer;
 ghost use mathlib.Core.Path.{_≡_};
@@ -33,19 +34,21 @@ const BELOW: u8 = 4;
 
 const ABOVE: u8 = 8;
 
-// A stroke call's answer, and how often the rule shortened the stroke.
+// How often the rule shortened the stroke, and a stroke call's answer, so that the sides come last here too.
 #[repr(C)]
 pub struct CountedAnswer {
-    pub answer: StrokeAnswer,
     pub shortenings: u32,
+    pub answer: StrokeAnswer,
 }
 
-// The part of a stroke from one fraction of its way to another, with the codes a and b of its two points.
+// The part of a stroke from one fraction of its way to another, with the codes a and b of its two points, and the sides that these were shortened at last.
 struct Piece {
     start: Fraction,
     end: Fraction,
     a: u8,
     b: u8,
+    side0: u8,
+    side1: u8,
 }
 
 // One bit of a code: set where the point lies beyond the bit's side.
@@ -143,22 +146,28 @@ fn shortened(w: Window, s: Stroke, p: Piece, decided: u8) -> Piece
     ensures { λ r. ⌜ Shortened w s p r ⌝ }
 {
     if decided < SHORTEN_END {
-        let start = crossing(w, s, u8::trailing_zeros(p.a));
+        let side = u8::trailing_zeros(p.a);
+        let start = crossing(w, s, side);
         let end = p.end;
         return Piece {
             start,
             end,
             a: code(w, s, start),
             b: p.b,
+            side0: side as u8,
+            side1: p.side1,
         };
     }
+    let side = u8::trailing_zeros(p.b);
     let start = p.start;
-    let end = crossing(w, s, u8::trailing_zeros(p.b));
+    let end = crossing(w, s, side);
     Piece {
         start,
         end,
         a: p.a,
         b: code(w, s, end),
+        side0: p.side0,
+        side1: side as u8,
     }
 }
 
@@ -167,8 +176,8 @@ fn refused(r: Refusal) -> CountedAnswer
     ensures { λ q. ⌜ q ≡ record { answer = Strokes·blank r; shortenings = 0 } ⌝ }
 {
     CountedAnswer {
-        answer: strokes::blank(r.number, r.place),
         shortenings: 0,
+        answer: strokes::blank(r.number, r.place),
     }
 }
 
@@ -177,22 +186,23 @@ fn missed(shortenings: u32) -> CountedAnswer
     ensures { λ q. ⌜ q ≡ record { answer = Strokes·blank none; shortenings = shortenings } ⌝ }
 {
     CountedAnswer {
-        answer: strokes::blank(0, 0),
         shortenings,
+        answer: strokes::blank(0, 0),
     }
 }
 
-// The stroke's point at a fraction of its way, rounded to the grid.
-fn end_at(s: Stroke, t: Fraction) -> End
+// The stroke's point at a fraction of its way, rounded to the grid, with the side that fixed it.
+fn end_at(s: Stroke, t: Fraction, side: u8) -> End
     requires { ⌜ StrokeOnTable s ⌝ }
     requires { ⌜ OnWay t ⌝ }
-    ensures { λ r. ⌜ EndAt s t r ⌝ }
+    ensures { λ r. ⌜ EndAt s t side r ⌝ }
 {
     if t.num == 0 {
         return End {
             t,
             x: s.x1,
             y: s.y1,
+            side,
         };
     }
     if t.num == t.den {
@@ -200,6 +210,7 @@ fn end_at(s: Stroke, t: Fraction) -> End
             t,
             x: s.x2,
             y: s.y2,
+            side,
         };
     }
     let n = t.num as u32;
@@ -208,21 +219,22 @@ fn end_at(s: Stroke, t: Fraction) -> End
         t,
         x: fraction::rounded(s.x1, s.x2, n, d),
         y: fraction::rounded(s.y1, s.y2, n, d),
+        side,
     }
 }
 
-// A stroke that is kept from start to end.
-fn kept(s: Stroke, start: Fraction, end: Fraction, shortenings: u32) -> CountedAnswer
+// A stroke that is kept as far as the piece p goes.
+fn kept(s: Stroke, p: Piece, shortenings: u32) -> CountedAnswer
     requires { ⌜ StrokeOnTable s ⌝ }
-    requires { ⌜ PartOfWay start end ⌝ }
-    ensures { λ q. ⌜ KeptFrom s start end shortenings q ⌝ }
+    requires { ⌜ PartOfWay (p .start) (p .end) ⌝ }
+    ensures { λ q. ⌜ KeptFrom s p shortenings q ⌝ }
 {
-    let a = end_at(s, start);
-    let b = end_at(s, end);
+    let a = end_at(s, p.start, p.side0);
+    let b = end_at(s, p.end, p.side1);
     let answer = strokes::kept_answer(a, b);
     CountedAnswer {
-        answer,
         shortenings,
+        answer,
     }
 }
 
@@ -231,8 +243,8 @@ fn whole(s: Stroke) -> CountedAnswer
     ensures { λ q. ⌜ q ≡ record { answer = wholeAnswer s; shortenings = 0 } ⌝ }
 {
     CountedAnswer {
-        answer: strokes::whole_answer(s),
         shortenings: 0,
+        answer: strokes::whole_answer(s),
     }
 }
 
@@ -253,7 +265,14 @@ fn clipped(w: Window, s: Stroke) -> CountedAnswer
     if a & b != 0 {
         return missed(0);
     }
-    let mut p = Piece { start, end, a, b };
+    let mut p = Piece {
+        start,
+        end,
+        a,
+        b,
+        side0: NO_SIDE,
+        side1: NO_SIDE,
+    };
     let mut decided = decision(a, b);
     let mut shortenings = 0;
     while MISSED < decided {
@@ -262,7 +281,7 @@ fn clipped(w: Window, s: Stroke) -> CountedAnswer
         shortenings += 1;
     }
     if decided == KEEP {
-        return kept(s, p.start, p.end, shortenings);
+        return kept(s, p, shortenings);
     }
     missed(shortenings)
 }

@@ -2,4 +2,5 @@ pub mod Places
 pub mod Edges
 pub mod Refusals
 pub mod Answers
+pub mod Computed
 pub mod Rectangles

@@ -1,26 +1,14 @@
--- Every edge of a closed list, by the place to which it leads: that edge comes from the place before.
-use mathlib.Core.Path.{_≡_, refl}
+-- Every edge of a closed list, by the place from which it leads: to the next place, and from the last to the first.
+use mathlib.Core.Path.{_≡_, refl, sym, subst}
 use mathlib.Core.List.{List, [], _∷_}
-use Prim.Native.Nat.{ℕ, zero, suc, _≤_, _<_}
+use Prim.Native.Nat.{ℕ, zero, suc, _<_}
 use native.Mathlib.Omega.{arith}
 use lib.ListN.{length}
 use Rattle.rings.specs.Lists.{Walk, last, step, Edges, nothing, closed}
 use Rattle.rings.specs.Points.{Point}
-use Rattle.rings.specs.Rings.{at}
-
--- of n corners, the place before j
-abbrev pub before : ℕ → ℕ → ℕ
-before zero zero = 0
-before zero (suc n) = n
-before (suc j) n = j
-
-pub before-first : (n : ℕ) → 1 ≤ n → suc (before 0 n) ≡ n
-before-first zero h = absurd (omega arith)
-before-first (suc n) h = refl
-
-pub before-below : (j n : ℕ) → 1 ≤ n → j ≤ n → before j n < n
-before-below zero n h l = omega (arith, before-first n h)
-before-below (suc j) n h l = omega arith
+use Rattle.rings.specs.Rings.{at, Edge, along, closing}
+use Rattle.convex.specs.Corners.{next}
+use Rattle.convex.proofs.Convexity.{next-edge, edge-next}
 
 module _ {R : Point → Point → Type 0} where
   walk-of : (xs : List Point) {a z : Point} → ((j : ℕ) → j < length xs → R (at (a ∷ xs) j) (at xs j)) → R (at (a ∷ xs) (length xs)) z → Walk R a xs z
@@ -36,11 +24,16 @@ module _ {R : Point → Point → Type 0} where
   walk-end (last r) = r
   walk-end (step r w) = walk-end w
 
-  pub edges-of : (r : List Point) → ((j : ℕ) → j < length r → R (at r (before j (length r))) (at r j)) → Edges R r
+  pub edges-of : (r : List Point) → ((j : ℕ) → j < length r → R (at r j) (at r (next (length r) j))) → Edges R r
   edges-of [] f = nothing
-  edges-of (a ∷ xs) f = closed (walk-of xs (λ j h. f (suc j) (omega arith)) (f 0 (omega arith)))
+  edges-of (a ∷ xs) f = closed (walk-of xs
+      (λ j h. subst (λ (k : ℕ). R (at (a ∷ xs) j) (at (a ∷ xs) k)) (edge-next (along {i = j} (omega arith))) (f j (omega arith)))
+      (subst (λ (k : ℕ). R (at (a ∷ xs) (length xs)) (at (a ∷ xs) k)) (edge-next (closing {i = length xs} refl)) (f (length xs) (omega arith))))
 
-  pub edges-at : {r : List Point} → Edges R r → (j : ℕ) → j < length r → R (at r (before j (length r))) (at r j)
+  pub edges-at : {r : List Point} → Edges R r → (j : ℕ) → j < length r → R (at r j) (at r (next (length r) j))
   edges-at nothing j h = absurd (omega arith)
-  edges-at (closed w) zero h = walk-end w
-  edges-at (closed w) (suc j) h = walk-at w j (omega arith)
+  edges-at {r} (closed {a} {xs} w) j h = go (next-edge h)
+    where
+      go : {k : ℕ} → Edge (length (a ∷ xs)) j k → R (at (a ∷ xs) j) (at (a ∷ xs) k)
+      go (along l) = walk-at w j (omega arith)
+      go (closing e) = let last : length xs ≡ j = omega (arith, e) in subst (λ (m : ℕ). R (at (a ∷ xs) m) a) last (walk-end w)

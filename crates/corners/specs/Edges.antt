@@ -1,19 +1,45 @@
--- An edge of a corner window as a condition on a stroke.
---   start s, finish s         where a stroke starts, and where it ends
---   edgeP a b s, edgeQ a b s  the p and the q of an edge: the stroke's point at t is left of or on the edge from a to b where p·t ≤ q
-use lib.IntN.{ℤ}
+-- The edges of a corner window as conditions on a stroke.
+--   start s, finish s     where a stroke starts, and where it ends
+--   edgeP a b s, edgeQ a b s   the p and the q of an edge: the stroke's point at t is left of or on the edge from a to b where p·t ≤ q. The
+--                         stroke starts q left of the edge, by the determinant, and loses p of that on its way
+--   edge cs s k           the condition of the edge from the corner k to the next; from the last to the first
+--   firstEdges cs s n     the conditions of the edges from the first n corners, in their order
+--   edges cs s            those of all edges: each has the number of its first corner
+--   EdgeCut a b s k r q   what `cut_by_edge` promises: q is what of the span r lies left of or on the edge from a to b, which has the number k
+use mathlib.Core.List.{List, [], _∷_, _++_}
+use Prim.Native.Nat.{ℕ, zero, suc}
+use lib.IntN.{ℤ, _-ℤ_}
+use lib.ListN.{length}
 use Rattle.grid.specs.declared.Stroke.{Stroke}
+use Rattle.rings.specs.Points.{Point, det}
+use Rattle.rings.specs.Rings.{at}
+use Rattle.convex.specs.Corners.{gridPoint, next}
 use Rattle.convex.specs.declared.Corner.{Corner}
-use Rattle.convex.specs.Ways.{wayFrom, crossOf}
+use Rattle.spans.specs.Sides.{Condition}
+use Rattle.spans.specs.Spans.{SidedCut}
+use Rattle.spans.specs.declared.SidedSpan.{SidedSpan}
 
-abbrev pub start : Stroke → Corner
-start s = record { x = s .x1; y = s .y1 }
+abbrev pub start : Stroke → Point
+start s = gridPoint (s .x1) (s .y1)
 
-abbrev pub finish : Stroke → Corner
-finish s = record { x = s .x2; y = s .y2 }
+abbrev pub finish : Stroke → Point
+finish s = gridPoint (s .x2) (s .y2)
 
-abbrev pub edgeP : Corner → Corner → Stroke → ℤ
-edgeP a b s = crossOf (wayFrom (start s) (finish s)) (wayFrom a b)
+abbrev pub edgeP : Point → Point → Stroke → ℤ
+edgeP a b s = det a b (start s) -ℤ det a b (finish s)
 
-abbrev pub edgeQ : Corner → Corner → Stroke → ℤ
-edgeQ a b s = crossOf (wayFrom a b) (wayFrom a (start s))
+abbrev pub edgeQ : Point → Point → Stroke → ℤ
+edgeQ a b s = det a b (start s)
+
+abbrev pub edge : List Point → Stroke → ℕ → Condition
+edge cs s k = let a = at cs k in let b = at cs (next (length cs) k) in record { p = edgeP a b s; q = edgeQ a b s }
+
+abbrev pub firstEdges : List Point → Stroke → ℕ → List Condition
+firstEdges cs s zero = []
+firstEdges cs s (suc n) = firstEdges cs s n ++ edge cs s n ∷ []
+
+abbrev pub edges : List Point → Stroke → List Condition
+edges cs s = firstEdges cs s (length cs)
+
+abbrev pub EdgeCut : Corner → Corner → Stroke → ℕ → SidedSpan → SidedSpan → Type 0
+EdgeCut a b s = SidedCut (edgeP (gridPoint (a .x) (a .y)) (gridPoint (b .x) (b .y)) s) (edgeQ (gridPoint (a .x) (a .y)) (gridPoint (b .x) (b .y)) s)

@@ -1,4 +1,4 @@
+pub mod Edges
 pub mod Corners
 pub mod Laws
-pub mod Edges
 pub mod Rectangles

@@ -4,16 +4,18 @@ use convex::Way;
 use fraction::Fraction;
 use grid::Refusal;
 use grid::Stroke;
-use spans::Span;
+use spans::NO_SIDE;
+use spans::SidedSpan;
 ghost use mathlib.Core.Path.{_≡_};
 ghost use Rattle.grid.specs.Table.{StrokeOnTable};
 ghost use Rattle.convex.specs.Corners.{cornersOf, CornersOnTable};
 ghost use Rattle.convex.specs.Ways.{CornerOnTable, Short, crossOf};
-ghost use Rattle.spans.specs.Spans.{largest, ProperSpan, Sized, SpanCut, SpanOf};
-ghost use Rattle.corners.specs.Corners.{cyrusBeckRefusal, KeepsIn, CornerClipped, CyrusBeck, blankAnswer};
-ghost use Rattle.corners.specs.Edges.{edgeP, edgeQ};
+ghost use Rattle.spans.specs.Spans.{largest, ProperSpan, Sized, KeptBy};
+ghost use Rattle.corners.specs.Corners.{cyrusBeckRefusal, CornerClipped, CyrusBeck, blankAnswer};
+ghost use Rattle.corners.specs.Edges.{edges, EdgeCut};
 
-// What the call answers: a refusal's number and place, or whether the stroke is kept, and from which fraction of its way to which.
+// What the call answers: a refusal's number and place, or whether the stroke is kept, from which fraction of its way to which, and the edges that
+// fixed the two fractions, each by the number of its first corner, or `NO_SIDE`.
 #[repr(C)]
 pub struct CornerAnswer {
     pub number: u8,
@@ -21,6 +23,8 @@ pub struct CornerAnswer {
     pub kept: bool,
     pub t0: Fraction,
     pub t1: Fraction,
+    pub side0: u8,
+    pub side1: u8,
 }
 
 // Positive where b turns left from a, 0 where they are parallel.
@@ -33,13 +37,13 @@ fn cross(a: Way, b: Way) -> i64
 }
 
 // What of the span lies left of or on the edge from a to b, by its condition p t <= q.
-fn cut_by_edge(a: Corner, b: Corner, s: Stroke, span: Span) -> Span
+fn cut_by_edge(a: Corner, b: Corner, s: Stroke, side: u8, kept: SidedSpan) -> SidedSpan
     requires { ⌜ CornerOnTable a ⌝ }
     requires { ⌜ CornerOnTable b ⌝ }
     requires { ⌜ StrokeOnTable s ⌝ }
-    requires { ⌜ ProperSpan span ⌝ }
-    requires { ⌜ Sized largest span ⌝ }
-    ensures { λ r. ⌜ SpanCut (edgeP a b s) (edgeQ a b s) span r ⌝ }
+    requires { ⌜ ProperSpan (kept .span) ⌝ }
+    requires { ⌜ Sized largest (kept .span) ⌝ }
+    ensures { λ r. ⌜ EdgeCut a b s side kept r ⌝ }
 {
     let edge = convex::way_from(a, b);
     let start = Corner { x: s.x1, y: s.y1 };
@@ -47,30 +51,28 @@ fn cut_by_edge(a: Corner, b: Corner, s: Stroke, span: Span) -> Span
     spans::cut(
         cross(run, edge),
         cross(edge, convex::way_from(a, start)),
-        span,
+        side,
+        kept,
     )
 }
 
-// The kept fractions, edge by edge, beginning with the closing one.
-fn kept_span(c: &[i32], s: Stroke) -> Span
+// The kept fractions, edge by edge from the first corner on; the last edge leads back to it. Both corners of an edge are read anew: carried over,
+// the one would take longer to unpack.
+fn kept_span(c: &[i32], s: Stroke) -> SidedSpan
     requires { ⌜ CornersOnTable (now c) ⌝ }
     requires { ⌜ StrokeOnTable s ⌝ }
-    ensures { λ r. ⌜ SpanOf largest (KeepsIn (cornersOf (now (c .entry))) s) r ⌝ }
+    ensures { λ r. ⌜ KeptBy largest (edges (cornersOf (now (c .entry))) s) r ⌝ }
 {
-    let mut span = Span {
-        first: Fraction { num: 0, den: 1 },
-        last: Fraction { num: 1, den: 1 },
-    };
-    let n = c.len();
-    let mut a = convex::corner_at(c, n - 2);
-    let mut i = 0;
-    while i < n {
-        let b = convex::corner_at(c, i);
-        span = cut_by_edge(a, b, s, span);
-        a = b;
-        i += 2;
+    let mut kept = spans::whole();
+    let count = c.len() / 2;
+    let mut k = 0;
+    while k < count {
+        let a = convex::corner_at(c, 2 * k);
+        let b = convex::corner_at(c, 2 * convex::next_of(k, count));
+        kept = cut_by_edge(a, b, s, k as u8, kept);
+        k += 1;
     }
-    span
+    kept
 }
 
 // Not kept: a refusal, or a missed stroke.
@@ -83,6 +85,8 @@ fn blank(r: Refusal) -> CornerAnswer
         kept: false,
         t0: Fraction { num: 0, den: 1 },
         t1: Fraction { num: 0, den: 1 },
+        side0: NO_SIDE,
+        side1: NO_SIDE,
     }
 }
 
@@ -92,7 +96,8 @@ fn clipped(c: &[i32], s: Stroke) -> CornerAnswer
     requires { ⌜ StrokeOnTable s ⌝ }
     ensures { λ r. ⌜ CornerClipped (cornersOf (now (c .entry))) s r ⌝ }
 {
-    let span = kept_span(c, s);
+    let left = kept_span(c, s);
+    let span = left.span;
     if spans::is_empty(span) {
         return blank(Refusal {
             number: 0,
@@ -107,6 +112,8 @@ fn clipped(c: &[i32], s: Stroke) -> CornerAnswer
         kept: true,
         t0: spans::lowest_part(first),
         t1: spans::lowest_part(last),
+        side0: left.side0,
+        side1: left.side1,
     }
 }
 

@@ -1,3 +1,4 @@
 pub mod Cutting
 pub mod Parts
+pub mod Sides
 pub mod Computed

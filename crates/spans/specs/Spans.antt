@@ -6,10 +6,21 @@
 --   Sized A s      its numbers are not above A
 --   SpanCut p q s r   what `cut` promises: r is what of s has p·t ≤ q, with numbers no larger than those of s, p and q
 --   SpanOf A K s   s is proper, its numbers are not above A, and its fractions are those that are kept
+--   wholeSpan      from 0/1 to 1/1, the stroke's own ends
+--   SomeLeft s     some fraction lies in s: the first is not above the last
+--   StartCut, EndCut p q k f i g j   the start (the end) f of a span, named by i, becomes g, named by j: it stays, or it is put where the stroke
+--                  crosses the side k, of p and q, inward (outward), and then it is later (sooner) than it was
+--   SidedCut p q k s r   what `cut` promises: r is what of s has p·t ≤ q, and where some of it is left its sides are named by k or as before
+--   KeptBy A cs s  s has exactly the fractions that meet all of cs, and its sides are named
+use mathlib.Core.List.{List}
 use Prim.Native.Nat.{ℕ, _≤_}
 use lib.IntN.{ℤ, pos, _*ℤ_}
 use lib.Signed.{_≤ℤ_, _<ℤ_}
 use Rattle.whole.specs.Within.{Within}
+use Rattle.fraction.specs.declared.Fraction.{Fraction}
+use Rattle.spans.specs.Parts.{zeroth, unit}
+use Rattle.spans.specs.Sides.{Condition, MeetsAll, Inward, Outward, Fixes, noSide, StartSide, EndSide}
+use Rattle.spans.specs.declared.SidedSpan.{SidedSpan}
 use Rattle.spans.specs.declared.Span.{Span}
 
 abbrev pub largest : ℕ
@@ -43,3 +54,28 @@ pub record SpanOf (A : ℕ) (K : ℤ → ℤ → Type 0) (s : Span) : Type 0 whe
   pub sized : Sized A s
   pub stays : (n d : ℤ) → K n d → InSpan s n d
   pub keeps : (n d : ℤ) → pos 0 <ℤ d → InSpan s n d → K n d
+
+-- ---- with the sides that fixed its ends
+abbrev pub SomeLeft : Span → Type 0
+SomeLeft s = (s .first .num *ℤ s .last .den) ≤ℤ (s .last .num *ℤ s .first .den)
+
+abbrev pub wholeSpan : SidedSpan
+wholeSpan = record { span = record { first = zeroth; last = unit }; side0 = noSide; side1 = noSide }
+
+pub data StartCut (p q : ℤ) (k : ℕ) (f : Fraction) (i : ℕ) : Fraction → ℕ → Type 0 where
+  same-start : StartCut p q k f i f i
+  later-start : {g : Fraction} → (f .num *ℤ g .den) <ℤ (g .num *ℤ f .den) → Fixes Inward g (record { p = p; q = q }) → StartCut p q k f i g k
+
+pub data EndCut (p q : ℤ) (k : ℕ) (f : Fraction) (i : ℕ) : Fraction → ℕ → Type 0 where
+  same-end : EndCut p q k f i f i
+  sooner-end : {g : Fraction} → (g .num *ℤ f .den) <ℤ (f .num *ℤ g .den) → Fixes Outward g (record { p = p; q = q }) → EndCut p q k f i g k
+
+pub record SidedCut (p q : ℤ) (k : ℕ) (s r : SidedSpan) : Type 0 where
+  pub span : SpanCut p q (s .span) (r .span)
+  pub start : SomeLeft (r .span) → StartCut p q k (s .span .first) (s .side0) (r .span .first) (r .side0)
+  pub end : SomeLeft (r .span) → EndCut p q k (s .span .last) (s .side1) (r .span .last) (r .side1)
+
+pub record KeptBy (A : ℕ) (cs : List Condition) (s : SidedSpan) : Type 0 where
+  pub span : SpanOf A (MeetsAll cs) (s .span)
+  pub start : SomeLeft (s .span) → StartSide cs (s .span .first) (s .side0)
+  pub end : SomeLeft (s .span) → EndSide cs (s .span .last) (s .side1)

@@ -1,7 +1,9 @@
 -- What the replies to lb, cs and cb say.
 --   withPart fs kept t0 t1   the fields fs and K n0 d0 n1 d1
---   strokeFields a     N P K n0 d0 n1 d1 ax ay bx by;  countedFields a: the same and S;  cornerFields a: N P K n0 d0
---                      n1 d1
+--   withSides fs side0 side1   the fields fs and Z0 Z1
+--   partFields a       N P K n0 d0 n1 d1 ax ay bx by
+--   strokeFields a     the same and Z0 Z1;  countedFields a: the same and S Z0 Z1;  cornerFields a: N P K n0 d0 n1 d1
+--                      Z0 Z1
 --   PairArguments      what lb and cs ask of: a window and a stroke;  CornerArguments, cb: the numbers of a window's
 --                      corners, and a stroke
 --   AsksPair text p    the text is l b r t x1 y1 x2 y2 of these
@@ -34,16 +36,23 @@ abbrev pub withPart : Fields → Bool → Fraction → Fraction → Fields
 withPart fs kept t0 t1 = fs and flag kept and number (t0 .num) and number (t0 .den) and number (t1 .num) and number
     (t1 .den)
 
-abbrev pub strokeFields : StrokeAnswer → Fields
-strokeFields a =
+abbrev pub withSides : Fields → ℕ → ℕ → Fields
+withSides fs side0 side1 = fs and plain side0 and plain side1
+
+abbrev pub partFields : StrokeAnswer → Fields
+partFields a =
     withPart (none and plain (a .number) and plain (a .place)) (a .kept) (a .t0) (a .t1)
     and number (a .ax) and number (a .ay) and number (a .bx) and number (a .by)
 
+abbrev pub strokeFields : StrokeAnswer → Fields
+strokeFields a = withSides (partFields a) (a .side0) (a .side1)
+
 abbrev pub countedFields : CountedAnswer → Fields
-countedFields a = strokeFields (a .answer) and plain (a .shortenings)
+countedFields a = let r = a .answer in withSides (partFields r and plain (a .shortenings)) (r .side0) (r .side1)
 
 abbrev pub cornerFields : CornerAnswer → Fields
-cornerFields a = withPart (none and plain (a .number) and plain (a .place)) (a .kept) (a .t0) (a .t1)
+cornerFields a =
+    withSides (withPart (none and plain (a .number) and plain (a .place)) (a .kept) (a .t0) (a .t1)) (a .side0) (a .side1)
 
 -- ---- the lines
 

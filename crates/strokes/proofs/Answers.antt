@@ -1,6 +1,7 @@
 -- The answers where nothing of a stroke is left, all of it, or the part that a span of kept fractions leaves; and the cuts of these.
 use mathlib.Core.Path.{_≡_, refl, sym, _∙_}
 use mathlib.Core.Bool.{true}
+use Prim.Native.Nat.{ℕ}
 use native.Mathlib.Omega.{arith}
 use lib.IntN.{ℤ, _*ℤ_}
 use lib.Signed.{_≤ℤ_, _<ℤ_}
@@ -15,9 +16,12 @@ use Rattle.grid.specs.Refusals.{none}
 use Rattle.grid.specs.Table.{farthest, WindowOnTable, StrokeOnTable}
 use Rattle.spans.specs.declared.Span.{Span}
 use Rattle.spans.specs.Parts.{Time, zeroth, unit}
+use Rattle.spans.specs.Sides.{noSide, StartSide, EndSide}
 use Rattle.spans.specs.Spans.{SpanOf}
 use Rattle.spans.proofs.Cutting.{in-time}
 use Rattle.spans.proofs.Parts.{all, all-proper, all-sized, in-all, part-missed, none-left, span-part, lowest-zeroth, lowest-unit}
+use Rattle.spans.proofs.Sides.{start-lowest, end-lowest, own-start, own-end}
+use Rattle.strokes.specs.Sides.{conditions}
 use Rattle.strokes.specs.Strokes.{Keeps, PointAt, Clipped, blank}
 use Rattle.strokes.specs.Workers.{EndsInside, keptAnswer, wholeAnswer, missedCut, CutIs}
 use Rattle.strokes.specs.declared.Cut.{Cut}
@@ -33,6 +37,8 @@ module _ {w : Window} {s : Stroke} where
     part = part-missed never;
     start = λ e. absurd (ff-tt e);
     finish = λ e. absurd (ff-tt e);
+    start-side = λ e. absurd (ff-tt e);
+    end-side = λ e. absurd (ff-tt e);
     missed = λ e. refl;
   }
 
@@ -71,27 +77,34 @@ module _ {w : Window} {s : Stroke} where
 
     module _ (l : (r .first .num *ℤ r .last .den) ≤ℤ (r .last .num *ℤ r .first .den)) where
       pub span-kept : (a b : End) {t u : Fraction} → PointAt s (r .first) (a .x) (a .y) → PointAt s (r .last) (b .x) (b .y)
+          → StartSide (conditions w s) (r .first) (a .side) → EndSide (conditions w s) (r .last) (b .side)
           → LowestOf (r .first .num) (r .first .den) t → LowestOf (r .last .num) (r .last .den) u → Clipped w s (keptAnswer a b t u)
-      span-kept e f a b p q = record {
+      span-kept e f a b i o p q = record {
         number = refl;
         place = refl;
         part = span-part g l p q;
         start = λ e. point-lowest (g .proper .den0) p a;
         finish = λ e. point-lowest (g .proper .den1) q b;
+        start-side = λ e. start-lowest (g .proper .den0) p i;
+        end-side = λ e. end-lowest (g .proper .den1) q o;
         missed = λ e. absurd (tt-ff e);
       }
 
   -- ---- all of it
   pub whole-answer : ((n d : ℤ) → Time n d → Keeps w s n d) → Clipped w s (wholeAnswer s)
   whole-answer always =
-      span-kept (always-kept always) (omega zarith) (record { t = zeroth; x = s .x1; y = s .y1 }) (record { t = unit; x = s .x2; y = s .y2 })
-      (point-start {f = zeroth} (omega zarith) refl) (point-finish {f = unit} (omega zarith) refl)
+      span-kept (always-kept always) (omega zarith)
+      (record { t = zeroth; x = s .x1; y = s .y1; side = noSide }) (record { t = unit; x = s .x2; y = s .y2; side = noSide })
+      (point-start {f = zeroth} (omega zarith) refl) (point-finish {f = unit} (omega zarith) refl) own-start own-end
       (lowest-zeroth refl) (lowest-unit refl)
 
   -- ---- cuts
   pub cut-missed : ((n d : ℤ) → Keeps w s n d → ⊥) → CutIs w s missedCut
   cut-missed never = record { missed = λ e. never; kept = λ e. absurd (ff-tt e) }
 
-  pub cut-kept : {c : Cut} {t u : Fraction} → c .kept ≡ true
-      → Clipped w s (keptAnswer (record { t = t; x = c .ax; y = c .ay }) (record { t = u; x = c .bx; y = c .by }) t u) → CutIs w s c
-  cut-kept {c} {t} {u} k a = record { missed = λ e. absurd (tt-ff (sym k ∙ e)); kept = λ e. record { first = t; last = u; answer = a } }
+  pub cut-kept : {c : Cut} {t u : Fraction} {i j : ℕ} → c .kept ≡ true
+      → Clipped w s (keptAnswer (record { t = t; x = c .ax; y = c .ay; side = i }) (record { t = u; x = c .bx; y = c .by; side = j }) t u) → CutIs w s c
+  cut-kept {c} {t} {u} {i} {j} k a = record {
+    missed = λ e. absurd (tt-ff (sym k ∙ e));
+    kept = λ e. record { first = t; last = u; side0 = i; side1 = j; answer = a };
+  }

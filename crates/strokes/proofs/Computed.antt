@@ -20,10 +20,12 @@ use Rattle.grid.specs.declared.Window.{Window}
 use Rattle.grid.specs.Refusals.{none}
 use Rattle.grid.specs.Table.{farthest, WindowOnTable, StrokeOnTable}
 use Rattle.grid.proofs.Refusals.{window-on-table, stroke-on-table}
-use Rattle.spans.specs.declared.Span.{Span}
-use Rattle.spans.specs.Spans.{ProperSpan, Sized, SpanOf}
-use Rattle.spans.proofs.Computed.{cutBy, cutBy-is}
-use Rattle.spans.proofs.Parts.{all, all-proper, all-sized}
+use Rattle.rings.specs.Lists.{All, ∅, _◂_}
+use Rattle.spans.specs.declared.SidedSpan.{SidedSpan}
+use Rattle.spans.specs.Sides.{Condition}
+use Rattle.spans.specs.Spans.{SpanOf, KeptBy}
+use Rattle.spans.proofs.Computed.{keptOf, keptOf-is}
+use Rattle.strokes.specs.Sides.{conditions}
 use Rattle.strokes.specs.Strokes.{Keeps, Clipped, Clipping, strokeCallRefusal, blank}
 use Rattle.strokes.specs.Workers.{keptAnswer}
 use Rattle.strokes.specs.declared.End.{End}
@@ -31,55 +33,74 @@ use Rattle.strokes.specs.declared.StrokeAnswer.{StrokeAnswer}
 use Rattle.strokes.proofs.Answers.{nothing-kept, span-missed, span-kept}
 use Rattle.strokes.proofs.Refusing.{nothing-refused}
 use Rattle.strokes.proofs.Unique.{one-stroke-answer}
-use Rattle.strokes.proofs.Coordinates.{CutAcross, cut-across, span-of}
+use Rattle.strokes.proofs.Sides.{keeps-meets, meets-keeps}
 
--- ---- the kept fractions
-unfoldable pub acrossOf : ℤ → ℤ → ℤ → ℤ → Span → Span
-acrossOf lo hi a b s = cutBy (b -ℤ a) (hi -ℤ a) (cutBy (negℤ (b -ℤ a)) (a -ℤ lo) s)
+-- ---- the kept fractions, with their sides
+unfoldable pub spanOf : Window → Stroke → SidedSpan
+spanOf w s = keptOf (conditions w s)
 
-acrossOf-is : {lo hi a b : ℤ} {s : Span} → Within farthest lo → Within farthest hi → Within farthest a → Within farthest b → ProperSpan s → Sized 32766 s
-    → CutAcross lo hi a b s (acrossOf lo hi a b s)
-unfolding acrossOf
-acrossOf-is {lo} {hi} {a} {b} {s} wl wh wa wb g z =
+-- the numbers of the two conditions of one coordinate
+abbrev Small : Condition → Type 0
+Small c = Within 32766 (c .p) × Within 32766 (c .q)
+
+small-axis : {lo hi a b : ℤ} → Within farthest lo → Within farthest hi → Within farthest a → Within farthest b
+    → Small (record { p = negℤ (b -ℤ a); q = a -ℤ lo }) × Small (record { p = b -ℤ a; q = hi -ℤ a })
+small-axis {lo} {hi} {a} {b} wl wh wa wb =
     let β : List ℕ = farthest ∷ farthest ∷ farthest ∷ farthest ∷ [] in
     let ρ = lo ∷ hi ∷ a ∷ b ∷ [] in
-    let h : Bounds β ρ = (wl, (wh, (wa, (wb, tt)))) in
-    let f = cutBy-is (negℤ (b -ℤ a)) (a -ℤ lo) s g in
-    let e = cutBy-is (b -ℤ a) (hi -ℤ a) (cutBy (negℤ (b -ℤ a)) (a -ℤ lo) s) (f .proper) in
-    cut-across f e
-    (e .sized 32766 (omega arith) (within β ρ h (x3 ⊖ x2) tt) (within β ρ h (x1 ⊖ x2) tt)
-    (f .sized 32766 (omega arith) (within β ρ h (neg (x3 ⊖ x2)) tt) (within β ρ h (x2 ⊖ x0) tt) z))
+    let h : Bounds β ρ = (wl, (wh, (wa, (wb, tt)))) in (
+      (within β ρ h (neg (x3 ⊖ x2)) tt, within β ρ h (x2 ⊖ x0) tt),
+      (within β ρ h (x3 ⊖ x2) tt, within β ρ h (x1 ⊖ x2) tt),
+    )
 
-unfoldable pub spanOf : Window → Stroke → Span
-spanOf w s = acrossOf (w .bottom) (w .top) (s .y1) (s .y2) (acrossOf (w .left) (w .right) (s .x1) (s .x2) all)
+module _ {w : Window} {s : Stroke} (hw : WindowOnTable w) (hs : StrokeOnTable s) where
+  small : All Small (conditions w s)
+  small =
+      let x = small-axis (hw .left) (hw .right) (hs .x1) (hs .x2) in
+      let y = small-axis (hw .bottom) (hw .top) (hs .y1) (hs .y2) in
+      x .0 ◂ x .1 ◂ y .0 ◂ y .1 ◂ ∅
 
-spanOf-is : {w : Window} {s : Stroke} → WindowOnTable w → StrokeOnTable s → SpanOf 32766 (Keeps w s) (spanOf w s)
-unfolding spanOf
-spanOf-is g h =
-    let f = acrossOf-is (g .left) (g .right) (h .x1) (h .x2) all-proper (all-sized 32766 (omega arith)) in
-    span-of f (acrossOf-is (g .bottom) (g .top) (h .y1) (h .y2) (f .proper) (f .sized))
+  spanOf-is : KeptBy 32766 (conditions w s) (spanOf w s)
+  unfolding spanOf
+  spanOf-is = keptOf-is (omega arith) (conditions w s) small
+
+kept-span : {w : Window} {s : Stroke} {r : SidedSpan} → KeptBy 32766 (conditions w s) r → SpanOf 32766 (Keeps w s) (r .span)
+kept-span g = record {
+  proper = g .span .proper;
+  sized = g .span .sized;
+  stays = λ n d k. g .span .stays n d (keeps-meets k);
+  keeps = λ n d h i. meets-keeps (g .span .keeps n d h i);
+}
 
 -- ---- the answer
-abbrev pub endAt : Stroke → Fraction → End
-endAt s f = record { t = f; x = roundedAt (s .x1) (s .x2) (f .num) (f .den); y = roundedAt (s .y1) (s .y2) (f .num) (f .den) }
+abbrev pub endAt : Stroke → Fraction → ℕ → End
+endAt s f k = record { t = f; x = roundedAt (s .x1) (s .x2) (f .num) (f .den); y = roundedAt (s .y1) (s .y2) (f .num) (f .den); side = k }
 
-abbrev pub ends : Stroke → Fraction → Fraction → StrokeAnswer
-ends s f g = keptAnswer (endAt s f) (endAt s g) (lowestOf (f .num) (f .den)) (lowestOf (g .num) (g .den))
+abbrev pub ends : Stroke → SidedSpan → StrokeAnswer
+ends s r =
+    let f = r .span .first in
+    let g = r .span .last in
+    keptAnswer (endAt s f (r .side0)) (endAt s g (r .side1)) (lowestOf (f .num) (f .den)) (lowestOf (g .num) (g .den))
 
 unfoldable pub clippedOf : Window → Stroke → StrokeAnswer
-clippedOf w s = let r = spanOf w s in if lessThan (r .last) (r .first) then blank none else ends s (r .first) (r .last)
+clippedOf w s = let r = spanOf w s in if lessThan (r .span .last) (r .span .first) then blank none else ends s r
 
 pub clippedOf-is : {w : Window} {s : Stroke} → WindowOnTable w → StrokeOnTable s → Clipped w s (clippedOf w s)
 unfolding clippedOf
 clippedOf-is {w} {s} g h =
     let r = spanOf w s in
-    let k = spanOf-is g h in
-    by-test (lessThan (r .last) (r .first)) (Clipped w s)
-    (λ e. nothing-kept (span-missed k (less-taken (r .last) (r .first) e)))
+    let f = r .span .first in
+    let l = r .span .last in
+    let m = spanOf-is g h in
+    let k = kept-span m in
+    by-test (lessThan l f) (Clipped w s)
+    (λ e. nothing-kept (span-missed k (less-taken l f e)))
     (λ e.
-    span-kept k (less-left (r .last) (r .first) e) (endAt s (r .first)) (endAt s (r .last))
+    let some = less-left l f e in
+    span-kept k some (endAt s f (r .side0)) (endAt s l (r .side1))
     (record { across = roundedAt-is _ _ _ (k .proper .den0); up = roundedAt-is _ _ _ (k .proper .den0) })
     (record { across = roundedAt-is _ _ _ (k .proper .den1); up = roundedAt-is _ _ _ (k .proper .den1) })
+    (m .start some) (m .end some)
     (lowestOf-is _ (k .proper .den0)) (lowestOf-is _ (k .proper .den1)))
 
 unfoldable pub answerOf : Window → Stroke → StrokeAnswer

@@ -67,30 +67,3 @@ module _ {lo hi a b n d : ℤ} where
     above = ge (lo ∷ a ∷ b ∷ n ∷ d ∷ []) (L ⊗ D) X (le (neg (B ⊖ A) ⊗ N) ((A ⊖ L) ⊗ D) l) tt;
     below = ge (hi ∷ a ∷ b ∷ n ∷ d ∷ []) X (L ⊗ D) (le ((B ⊖ A) ⊗ N) ((L ⊖ A) ⊗ D) h) tt;
   }
-
-pub record CutAcross (lo hi a b : ℤ) (s r : Span) : Type 0 where
-  pub proper : ProperSpan r
-  pub sized : Sized 32766 r
-  pub stays : (n d : ℤ) → pos 0 <ℤ d → InSpan s n d → KeepsCoordinate lo hi a b n d → InSpan r n d
-  pub part : (n d : ℤ) → pos 0 <ℤ d → InSpan r n d → InSpan s n d
-  pub between : (n d : ℤ) → pos 0 <ℤ d → InSpan r n d → KeepsCoordinate lo hi a b n d
-
-pub cut-across : {lo hi a b : ℤ} {s m r : Span}
-    → SpanCut (negℤ (b -ℤ a)) (a -ℤ lo) s m → SpanCut (b -ℤ a) (hi -ℤ a) m r → Sized 32766 r → CutAcross lo hi a b s r
-cut-across f g z = record {
-  proper = g .proper;
-  sized = z;
-  stays = λ n d h i k. g .stays n d h (f .stays n d h i (above-low k)) (below-high k);
-  part = λ n d h i. f .part n d h (g .part n d h i);
-  between = λ n d h i. both-sides (f .side n d h (g .part n d h i)) (g .side n d h i);
-}
-
--- both axes
-pub span-of : {w : Window} {s : Stroke} {m r : Span} → CutAcross (w .left) (w .right) (s .x1) (s .x2) all m → CutAcross (w .bottom) (w .top) (s .y1) (s .y2) m r
-    → SpanOf 32766 (Keeps w s) r
-span-of f g = record {
-  proper = g .proper;
-  sized = g .sized;
-  stays = λ n d k. g .stays n d (k .time .den) (f .stays n d (k .time .den) (in-all (k .time)) (k .x)) (k .y);
-  keeps = λ n d h i. record { time = in-time (g .proper) h i; x = f .between n d h (g .part n d h i); y = g .between n d h i };
-}

@@ -1,7 +1,9 @@
--- The laws of specs/Laws.antt: a rounded point of a kept fraction is inside, and the four conditions are those of the
--- two coordinates.
-use mathlib.Core.Path.{_≡_, refl, sym, ap, _∙_}
+-- The laws of specs/Laws.antt: a rounded point of a kept fraction is inside, the number of an end that is not the stroke's own is that of a side, and
+-- the four conditions are those of the two coordinates.
+use mathlib.Core.Path.{_≡_, refl, sym, ap, subst, _∙_}
 use mathlib.Core.Bool.{Bool, true, false}
+use mathlib.Core.Logic.{inr}
+use native.Mathlib.Omega.{arith}
 use borrow.Author.Tests.{eqb-true, eqb-false}
 use lib.Dec.{eqb}
 use lib.IntN.{ℤ, _*ℤ_}
@@ -10,7 +12,9 @@ use Rattle.whole.proofs.Comparisons.{ff-tt}
 use Rattle.grid.specs.declared.Stroke.{Stroke}
 use Rattle.grid.specs.declared.Window.{Window}
 use Rattle.grid.specs.Sides.{Side, left, right, bottom, top}
-use Rattle.strokes.specs.Laws.{InClosedWindow, StaysInside, FourConditions}
+use Rattle.spans.specs.Sides.{OwnEnds}
+use Rattle.spans.proofs.Sides.{own-ends}
+use Rattle.strokes.specs.Laws.{InClosedWindow, StaysInside, SideOrOwnEnd, FourConditions}
 use Rattle.strokes.specs.Sides.{sideP, sideQ}
 use Rattle.strokes.specs.Strokes.{Keeps, Clipped, strokeCallRefusal}
 use Rattle.strokes.specs.declared.StrokeAnswer.{StrokeAnswer}
@@ -34,14 +38,29 @@ stays-inside w s a p e = go (eqb (strokeCallRefusal w s .number) 0) refl
         let r = p .refused (eqb-false (strokeCallRefusal w s .number) 0 t) in
         absurd (ff-tt (sym (ap (λ (b : StrokeAnswer). b .kept) r) ∙ e))
 
-conditions : {w : Window} {s : Stroke} {n d : ℤ} → Keeps w s n d → (k : Side) → (sideP s k *ℤ n) ≤ℤ (sideQ w s k *ℤ d)
-conditions h left = above-low (h .x)
-conditions h right = below-high (h .x)
-conditions h bottom = above-low (h .y)
-conditions h top = below-high (h .y)
+clipped-own : {w : Window} {s : Stroke} {a : StrokeAnswer} → Clipped w s a → OwnEnds 4 (a .kept) (a .t0) (a .t1) (a .side0) (a .side1)
+clipped-own p =
+    own-ends (p .part) (omega arith) (p .start-side) (p .end-side)
+    (λ e. (ap (λ (b : StrokeAnswer). b .side0) (p .missed e), ap (λ (b : StrokeAnswer). b .side1) (p .missed e)))
+
+pub side-or-own-end : SideOrOwnEnd
+side-or-own-end w s a p = go (eqb (strokeCallRefusal w s .number) 0) refl
+  where
+    go : (b : Bool) → eqb (strokeCallRefusal w s .number) 0 ≡ b → OwnEnds 4 (a .kept) (a .t0) (a .t1) (a .side0) (a .side1)
+    go true t = clipped-own (p .done (eqb-true (strokeCallRefusal w s .number) 0 t))
+    go false t =
+        subst (λ (b : StrokeAnswer). OwnEnds 4 (b .kept) (b .t0) (b .t1) (b .side0) (b .side1))
+        (sym (p .refused (eqb-false (strokeCallRefusal w s .number) 0 t)))
+        (record { start = (λ _. refl, λ _. refl); end = (λ _. inr refl, λ _. refl); start-side = λ n. absurd (n refl); end-side = λ n. absurd (n refl) })
+
+each-side : {w : Window} {s : Stroke} {n d : ℤ} → Keeps w s n d → (k : Side) → (sideP s k *ℤ n) ≤ℤ (sideQ w s k *ℤ d)
+each-side h left = above-low (h .x)
+each-side h right = below-high (h .x)
+each-side h bottom = above-low (h .y)
+each-side h top = below-high (h .y)
 
 pub four-conditions : FourConditions
 four-conditions w s n d = (
-  λ h. (h .time, conditions h),
+  λ h. (h .time, each-side h),
   λ h. record { time = h .0; x = both-sides (h .1 left) (h .1 right); y = both-sides (h .1 bottom) (h .1 top) },
 )

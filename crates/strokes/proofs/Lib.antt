@@ -4,6 +4,7 @@ pub mod Places
 pub mod Points
 pub mod Answers
 pub mod Meetings
+pub mod Sides
 pub mod Unique
 pub mod Laws
 pub mod Refusing

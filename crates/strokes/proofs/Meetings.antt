@@ -3,7 +3,7 @@
 use mathlib.Core.Path.{_≡_, refl}
 use mathlib.Core.Logic.{⊎-elim}
 use mathlib.Core.List.{[], _∷_}
-use Prim.Native.Nat.{ℕ, _*_, _<_, _≤_}
+use Prim.Native.Nat.{ℕ, zero, suc, _*_, _<_, _≤_}
 use native.Mathlib.Nat.{mul-le-mul, le-refl}
 use native.Mathlib.Omega.{arith}
 use lib.IntN.{ℤ, pos, _*ℤ_}
@@ -20,13 +20,14 @@ use Rattle.fraction.proofs.Rounding.{rounded-exact}
 use Rattle.grid.specs.declared.Stroke.{Stroke}
 use Rattle.grid.specs.declared.Window.{Window}
 use Rattle.spans.specs.Parts.{zeroth, unit}
+use Rattle.spans.specs.Sides.{noSide}
 use Rattle.spans.specs.Spans.{ProperSpan, SpanOf}
 use Rattle.spans.proofs.Cutting.{in-time}
 use Rattle.spans.proofs.Parts.{time-within}
 use Rattle.strokes.specs.declared.End.{End}
 use Rattle.strokes.specs.declared.ways.Way.{Way}
 use Rattle.strokes.specs.Strokes.{Keeps}
-use Rattle.strokes.specs.Workers.{ProperWay, WayAt, FromStartToEnd, WayOf, Overlap, OnWay, StartOf, FinishOf}
+use Rattle.strokes.specs.Workers.{ProperWay, WayAt, FromStartToEnd, WayOf, Overlap, OnWay, sideMet, StartBy, own, by-x, by-y, FinishBy, StartOf, FinishOf}
 use Rattle.strokes.proofs.Points.{point-start}
 
 positive : {k : ℕ} → 0 < k → pos 0 <ℤ pos k
@@ -51,6 +52,21 @@ never-both {x} {y} f g l n d h i j =
     (po (var 5) h ⊠ lt (x2 ⊗ x1) (x0 ⊗ x3) m ⊞ po x3 (positive (g .long)) ⊠ le (x0 ⊗ var 5) (var 4 ⊗ x1) (i .from) ⊞ po x1 (positive (f .long))
     ⊠ le (var 4 ⊗ x3) (x2 ⊗ var 5) (j .upto)) tt
 
+-- ---- of two ways that do not both start at 0 the later start is above 0, and of two that do not both go to their ends the earlier end is before it
+pub later-start : (a b k l : ℕ) → (a ≡ 0 → b ≡ 0 → ⊥) → 0 < k → b * k ≤ a * l → 0 < a
+later-start zero zero k l n h i = absurd (n refl refl)
+later-start zero (suc b) k l n h i = let j : 1 ≤ suc b = omega arith in absurd (omega (arith, mul-le-mul j (le-refl k)))
+later-start (suc a) b k l n h i = omega arith
+
+pub earlier-end : (a b k l : ℕ) → (a ≡ k → b ≡ l → ⊥) → a ≤ k → b ≤ l → 0 < k → a * l ≤ b * k → a < k
+earlier-end a b k l n h j p i = ⊎-elim (λ e. absurd (n (omega zarith) (together (omega zarith)))) (λ e. omega zarith) (≤-total (pos k) (pos a))
+  where
+    together : k ≡ a → b ≡ l
+    together e =
+        let i : (pos a *ℤ pos l) ≤ℤ (pos b *ℤ pos k) = omega zarith in
+        let m = ge-by ((pos a) ∷ (pos b) ∷ (pos k) ∷ (pos l) ∷ []) (po x2 (positive p)) x3 x1 (le (x0 ⊗ x3) (x1 ⊗ x2) i ⊞ eq (neg x3) x2 x0 (λ t. pos (e t))) tt in
+        omega zarith
+
 -- ---- a place on a way, as a fraction
 on-way : {n d : ℕ} → 0 < d → d ≤ 32766 → n ≤ d → OnWay (record { num = pos n; den = pos d })
 on-way h k l = record { time = record { den = omega zarith; low = omega zarith; high = omega zarith }; small = abs-within k }
@@ -64,7 +80,7 @@ whole-way {a} {b} {r} f e =
 
 -- ---- the later start and the earlier end
 module _ {s : Stroke} {x y : Way} (fx : WayAt (s .x1) (s .x2) x) (fy : WayAt (s .y1) (s .y2) y) where
-  pub start-none : x .start ≡ 0 → y .start ≡ 0 → StartOf s x y (record { t = zeroth; x = s .x1; y = s .y1 })
+  pub start-none : x .start ≡ 0 → y .start ≡ 0 → StartOf s x y (record { t = zeroth; x = s .x1; y = s .y1; side = noSide })
   start-none p q = record {
     way = on-way (omega arith) (omega arith) (omega arith);
     x-in = omega (zarith, p);
@@ -73,29 +89,32 @@ module _ {s : Stroke} {x y : Way} (fx : WayAt (s .x1) (s .x2) x) (fy : WayAt (s 
         ge-by ((pos (x .long)) ∷ n ∷ (pos (x .start)) ∷ d ∷ []) (po x0 (positive (fx .proper .long))) (con (pos 0) ⊗ x3) (x1 ⊗ con (pos 1))
         (le (x2 ⊗ x3) (x1 ⊗ x0) i ⊞ eq x3 x2 (con (pos 0)) (λ k. pos (p k))) tt;
     point = point-start {f = zeroth} (omega zarith) refl;
+    side = own p q;
   }
 
-  pub start-x : {v : ℤ} → y .start * x .long ≤ x .start * y .long → Rounded (along (s .y1) (s .y2) (pos (x .start)) (pos (x .long))) (pos (x .long)) v
-      → StartOf s x y (record { t = record { num = pos (x .start); den = pos (x .long) }; x = x .at; y = v })
-  start-x h r = let k = fx .proper in record {
+  pub start-x : {v : ℤ} → 0 < x .start → y .start * x .long ≤ x .start * y .long → Rounded (along (s .y1) (s .y2) (pos (x .start)) (pos (x .long))) (pos (x .long)) v
+      → StartOf s x y (record { t = record { num = pos (x .start); den = pos (x .long) }; x = x .at; y = v; side = sideMet (s .x1) (s .x2) 0 1 })
+  start-x n h r = let k = fx .proper in record {
     way = on-way (k .long) (k .small) (let o = k .order in let e = k .high in omega arith);
     x-in = omega zarith;
     y-in = omega zarith;
     least = λ n d h i j. i;
     point = record { across = rounded-exact (fx .at) (positive (k .long)); up = r };
+    side = by-x n h;
   }
 
-  pub start-y : {v : ℤ} → x .start * y .long ≤ y .start * x .long → Rounded (along (s .x1) (s .x2) (pos (y .start)) (pos (y .long))) (pos (y .long)) v
-      → StartOf s x y (record { t = record { num = pos (y .start); den = pos (y .long) }; x = v; y = y .at })
+  pub start-y : {v : ℤ} → x .start * y .long < y .start * x .long → Rounded (along (s .x1) (s .x2) (pos (y .start)) (pos (y .long))) (pos (y .long)) v
+      → StartOf s x y (record { t = record { num = pos (y .start); den = pos (y .long) }; x = v; y = y .at; side = sideMet (s .y1) (s .y2) 2 3 })
   start-y h r = let k = fy .proper in record {
     way = on-way (k .long) (k .small) (let o = k .order in let e = k .high in omega arith);
     x-in = omega zarith;
     y-in = omega zarith;
     least = λ n d h i j. j;
     point = record { across = r; up = rounded-exact (fy .at) (positive (k .long)) };
+    side = by-y h;
   }
 
-  pub finish-none : x .end ≡ x .long → y .end ≡ y .long → FinishOf s x y (record { t = unit; x = x .to; y = y .to })
+  pub finish-none : x .end ≡ x .long → y .end ≡ y .long → FinishOf s x y (record { t = unit; x = x .to; y = y .to; side = noSide })
   finish-none p q = record {
     way = on-way (omega arith) (omega arith) (omega arith);
     x-out = omega (zarith, p);
@@ -104,26 +123,29 @@ module _ {s : Stroke} {x y : Way} (fx : WayAt (s .x1) (s .x2) x) (fy : WayAt (s 
         ge-by ((pos (x .long)) ∷ n ∷ (pos (x .end)) ∷ d ∷ []) (po x0 (positive (fx .proper .long))) (x1 ⊗ con (pos 1)) (con (pos 1) ⊗ x3)
         (le (x1 ⊗ x0) (x2 ⊗ x3) i ⊞ eq (neg x3) x2 x0 (λ k. pos (p k))) tt;
     point = record { across = rounded-exact (whole-way fx p) (omega zarith); up = rounded-exact (whole-way fy q) (omega zarith) };
+    side = own p q;
   }
 
-  pub finish-x : {v : ℤ} → x .end * y .long ≤ y .end * x .long → Rounded (along (s .y1) (s .y2) (pos (x .end)) (pos (x .long))) (pos (x .long)) v
-      → FinishOf s x y (record { t = record { num = pos (x .end); den = pos (x .long) }; x = x .to; y = v })
-  finish-x h r = let k = fx .proper in record {
+  pub finish-x : {v : ℤ} → x .end < x .long → x .end * y .long ≤ y .end * x .long → Rounded (along (s .y1) (s .y2) (pos (x .end)) (pos (x .long))) (pos (x .long)) v
+      → FinishOf s x y (record { t = record { num = pos (x .end); den = pos (x .long) }; x = x .to; y = v; side = sideMet (s .x2) (s .x1) 0 1 })
+  finish-x n h r = let k = fx .proper in record {
     way = on-way (k .long) (k .small) (k .high);
     x-out = omega zarith;
     y-out = omega zarith;
     greatest = λ n d h i j. i;
     point = record { across = rounded-exact (fx .to) (positive (k .long)); up = r };
+    side = by-x n h;
   }
 
-  pub finish-y : {v : ℤ} → y .end * x .long ≤ x .end * y .long → Rounded (along (s .x1) (s .x2) (pos (y .end)) (pos (y .long))) (pos (y .long)) v
-      → FinishOf s x y (record { t = record { num = pos (y .end); den = pos (y .long) }; x = v; y = y .to })
+  pub finish-y : {v : ℤ} → y .end * x .long < x .end * y .long → Rounded (along (s .x1) (s .x2) (pos (y .end)) (pos (y .long))) (pos (y .long)) v
+      → FinishOf s x y (record { t = record { num = pos (y .end); den = pos (y .long) }; x = v; y = y .to; side = sideMet (s .y2) (s .y1) 2 3 })
   finish-y h r = let k = fy .proper in record {
     way = on-way (k .long) (k .small) (k .high);
     x-out = omega zarith;
     y-out = omega zarith;
     greatest = λ n d h i j. j;
     point = record { across = r; up = rounded-exact (fy .to) (positive (k .long)) };
+    side = by-y h;
   }
 
 -- ---- fractions in a row: m/l ≤ t ≤ n/d, and the other way round

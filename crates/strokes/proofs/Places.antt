@@ -1,6 +1,6 @@
 -- The places on the way of one coordinate: what is measured up or down from a is exact, and is on the way between `at` and `to`;
 -- so is what is between lo and hi, in each of the cases of `passage`.
-use mathlib.Core.Path.{_≡_}
+use mathlib.Core.Path.{_≡_, sym, subst}
 use mathlib.Core.List.{[], _∷_}
 use native.Mathlib.Omega.{arith}
 use lib.IntN.{ℤ, pos, _-ℤ_, _*ℤ_}
@@ -13,7 +13,7 @@ use Rattle.whole.proofs.Polynomials.{ring}
 use Rattle.fraction.specs.Rounding.{along}
 use Rattle.strokes.specs.declared.ways.Way.{Way}
 use Rattle.strokes.specs.Strokes.{KeepsCoordinate}
-use Rattle.strokes.specs.Workers.{EndsBetween, Ranged, Risen, Fallen, WayAt, WayOf, FromStartToEnd}
+use Rattle.strokes.specs.Workers.{EndsBetween, Ranged, Risen, Fallen, WayAt, MetAt, rising, falling, WayOf, FromStartToEnd}
 use Rattle.strokes.proofs.Coordinates.{all-between}
 
 -- the way's two ends, its length, a place on it with its coordinate, and a fraction
@@ -120,7 +120,13 @@ module _ {a at to b : ℤ} {r : Way} (g : Ranged b to at a) (k : Fallen a at to 
 -- ---- the cases
 module _ {lo hi a b : ℤ} {r : Way} where
   pub up-across : Ranged a lo hi b → Risen a lo hi b r → WayOf lo hi a b r
-  up-across g k = record { way = risen-at g k; stays = λ n d t h. risen-on g k n d h; keeps = λ n d t h. on-risen g k n d h }
+  up-across g k = record {
+    way = risen-at g k;
+    stays = λ n d t h. risen-on g k n d h;
+    keeps = λ n d t h. on-risen g k n d h;
+    comes = λ _. subst (MetAt lo hi a b) (sym (k .at)) (rising (g .some));
+    goes = λ _. subst (MetAt lo hi b a) (sym (k .to)) (falling (g .some));
+  }
 
   pub up-into : Ranged a lo b b → b ≤ℤ hi → Risen a lo b b r → WayOf lo hi a b r
   up-into g l k = record {
@@ -128,6 +134,8 @@ module _ {lo hi a b : ℤ} {r : Way} where
     stays = λ n d t h. risen-on g k n d
         (record { above = h .above; below = all-between {lo = a} {hi = b} (refl-≤ a) (<→≤ (g .some)) (<→≤ (g .some)) (refl-≤ b) t .below });
     keeps = λ n d t h. record { above = on-risen g k n d h .above; below = all-between {lo = a} (refl-≤ a) (<→≤ (g .some)) (let s = g .some in omega zarith) l t .below };
+    comes = λ _. subst (MetAt lo hi a b) (sym (k .at)) (rising (g .some));
+    goes = λ h. absurd (omega (zarith, k .long, k .end));
   }
 
   pub up-out : Ranged a a hi b → lo ≤ℤ a → Risen a a hi b r → WayOf lo hi a b r
@@ -136,10 +144,18 @@ module _ {lo hi a b : ℤ} {r : Way} where
     stays = λ n d t h. risen-on g k n d
         (record { above = all-between {lo = a} {hi = b} (refl-≤ a) (<→≤ (g .some)) (<→≤ (g .some)) (refl-≤ b) t .above; below = h .below });
     keeps = λ n d t h. record { above = all-between {hi = b} l (let s = g .some in omega zarith) (<→≤ (g .some)) (refl-≤ b) t .above; below = on-risen g k n d h .below };
+    comes = λ h. absurd (omega (zarith, k .start, sub-is a a));
+    goes = λ _. subst (MetAt lo hi b a) (sym (k .to)) (falling (g .some));
   }
 
   pub down-across : Ranged b lo hi a → Fallen a hi lo b r → WayOf lo hi a b r
-  down-across g k = record { way = fallen-at g k; stays = λ n d t h. fallen-on g k n d h; keeps = λ n d t h. on-fallen g k n d h }
+  down-across g k = record {
+    way = fallen-at g k;
+    stays = λ n d t h. fallen-on g k n d h;
+    keeps = λ n d t h. on-fallen g k n d h;
+    comes = λ _. subst (MetAt lo hi a b) (sym (k .at)) (falling (g .some));
+    goes = λ _. subst (MetAt lo hi b a) (sym (k .to)) (rising (g .some));
+  }
 
   pub down-into : Ranged b b hi a → lo ≤ℤ b → Fallen a hi b b r → WayOf lo hi a b r
   down-into g l k = record {
@@ -150,6 +166,8 @@ module _ {lo hi a b : ℤ} {r : Way} where
       above = all-between {hi = a} (let s = g .some in omega zarith) l (refl-≤ a) (<→≤ (g .some)) t .above;
       below = on-fallen g k n d h .below;
     };
+    comes = λ _. subst (MetAt lo hi a b) (sym (k .at)) (falling (g .some));
+    goes = λ h. absurd (omega (zarith, k .long, k .end));
   }
 
   pub down-out : Ranged b lo a a → a ≤ℤ hi → Fallen a a lo b r → WayOf lo hi a b r
@@ -161,6 +179,8 @@ module _ {lo hi a b : ℤ} {r : Way} where
       above = on-fallen g k n d h .above;
       below = all-between {lo = b} (<→≤ (g .some)) (refl-≤ b) l (let s = g .some in omega zarith) t .below;
     };
+    comes = λ h. absurd (omega (zarith, k .start, sub-is a a));
+    goes = λ _. subst (MetAt lo hi b a) (sym (k .to)) (rising (g .some));
   }
 
 -- all of it
@@ -173,4 +193,6 @@ all-on {lo} {hi} {a} {b} k = record {
   };
   stays = λ n d t h. record { from = ge (n ∷ d ∷ []) (con (pos 0) ⊗ B) (A ⊗ one) (nn A (t .low)) tt; upto = ge (n ∷ d ∷ []) (A ⊗ one) (one ⊗ B) (le A B (t .high)) tt };
   keeps = λ n d t h. all-between (k .a-low) (k .b-low) (k .a-high) (k .b-high) t;
+  comes = λ h. absurd (omega arith);
+  goes = λ h. absurd (omega arith);
 }

@@ -1,4 +1,4 @@
--- Two answers that satisfy the statement for one window and one stroke are equal: the kept part is the only one, and so is each rounded point.
+-- Two answers that satisfy the statement for one window and one stroke are equal: the kept part is the only one, and so are each rounded point and each side.
 use mathlib.Core.Path.{_≡_, refl, sym, subst, _∙_}
 use mathlib.Core.Bool.{Bool, true, false}
 use Prim.Native.Nat.{ℕ, zero, suc}
@@ -6,8 +6,11 @@ use native.Mathlib.Nat.{suc-ne-zero}
 use Rattle.fraction.specs.declared.Fraction.{Fraction}
 use Rattle.grid.specs.declared.Stroke.{Stroke}
 use Rattle.grid.specs.declared.Window.{Window}
+use Rattle.spans.specs.Sides.{StartSide, EndSide}
 use Rattle.spans.proofs.Parts.{part-unique}
+use Rattle.spans.proofs.Sides.{start-unique, end-unique}
 use Rattle.strokes.specs.Laws.{OneStrokeAnswer}
+use Rattle.strokes.specs.Sides.{conditions}
 use Rattle.strokes.specs.Strokes.{PointAt, Clipped, strokeCallRefusal}
 use Rattle.strokes.specs.declared.StrokeAnswer.{StrokeAnswer}
 use Rattle.strokes.proofs.Points.{point-unique}
@@ -26,6 +29,8 @@ module _ {w : Window} {s : Stroke} where
           let one = point-unique (p .part .first e .keeps .time .den) (p .start e) (subst (λ (t : Fraction). PointAt s t (b .ax) (b .ay)) (sym (same .1)) (q .start f)) in
           let other = point-unique (p .part .last e .keeps .time .den) (p .finish e)
           (subst (λ (t : Fraction). PointAt s t (b .bx) (b .by)) (sym (same .2)) (q .finish f)) in
+          let in-by = start-unique (p .start-side e) (subst (λ (t : Fraction). StartSide (conditions w s) t (b .side0)) (sym (same .1)) (q .start-side f)) in
+          let out-by = end-unique (p .end-side e) (subst (λ (t : Fraction). EndSide (conditions w s) t (b .side1)) (sym (same .2)) (q .end-side f)) in
           let number = p .number ∙ sym (q .number) in
           let place = p .place ∙ sym (q .place) in
           λ i. record {
@@ -38,6 +43,8 @@ module _ {w : Window} {s : Stroke} where
             ay = one .1 i;
             bx = other .0 i;
             by = other .1 i;
+            side0 = in-by i;
+            side1 = out-by i;
           }
 
 pub one-stroke-answer : OneStrokeAnswer

@@ -3,6 +3,7 @@
 --   OneStrokeAnswer   two answers that are right for one window and one stroke are equal
 --   InClosedWindow w x y   the grid point (x, y) lies in the window or on its border
 --   StaysInside       the rounded points of a kept stroke never leave the window
+--   SideOrOwnEnd      255 stands for t0 exactly where t0 is 0/1, and for t1 exactly where t1 is 1/1 or nothing is kept; else it is a side, 0 to 3
 --   FourConditions    a fraction from 0 to 1 is kept exactly where it satisfies p·t ≤ q for each of the four sides
 use mathlib.Core.Path.{_≡_}
 use mathlib.Core.Bool.{true}
@@ -13,6 +14,7 @@ use Rattle.grid.specs.declared.Stroke.{Stroke}
 use Rattle.grid.specs.declared.Window.{Window}
 use Rattle.grid.specs.Sides.{Side}
 use Rattle.spans.specs.Parts.{Time}
+use Rattle.spans.specs.Sides.{OwnEnds}
 use Rattle.strokes.specs.Sides.{sideP, sideQ}
 use Rattle.strokes.specs.Strokes.{Keeps, Clipping}
 use Rattle.strokes.specs.declared.StrokeAnswer.{StrokeAnswer}
@@ -29,6 +31,9 @@ pub record InClosedWindow (w : Window) (x y : ℤ) : Type 0 where
 abbrev pub StaysInside : Type 0
 StaysInside = (w : Window) (s : Stroke) (a : StrokeAnswer) → Clipping w s a → a .kept ≡ true
     → InClosedWindow w (a .ax) (a .ay) × InClosedWindow w (a .bx) (a .by)
+
+abbrev pub SideOrOwnEnd : Type 0
+SideOrOwnEnd = (w : Window) (s : Stroke) (a : StrokeAnswer) → Clipping w s a → OwnEnds 4 (a .kept) (a .t0) (a .t1) (a .side0) (a .side1)
 
 -- the rules' own words for what is kept; `Keeps` says the same of the point's two coordinates
 abbrev pub FourConditions : Type 0

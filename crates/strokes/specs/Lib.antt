@@ -1,4 +1,4 @@
-pub mod Strokes
 pub mod Sides
+pub mod Strokes
 pub mod Laws
 pub mod Workers

@@ -2,7 +2,7 @@
 --   KeepsCoordinate lo hi a b n d   the coordinate at the fraction n/d of the way from a to b is from lo to hi
 --   Keeps w s n d          n/d is a fraction from 0 to 1, and the stroke's point there lies in the closed window
 --   strokeCallRefusal w s  what the call refuses: 2, 3, then 6
---   blank r                refused by r, or missed where r is none: not kept, fractions 0/1, points 0
+--   blank r                refused by r, or missed where r is none: not kept, fractions 0/1, points 0, no sides
 --   PointAt s f x y        (x, y) is the stroke's point at the fraction f, each coordinate rounded to the grid
 --   Clipped w s a          a is right for a window and a stroke in which nothing is refused
 --   Clipping w s a         what `strokes::liang_barsky` promises: a is right, refusals included
@@ -18,6 +18,8 @@ use Rattle.grid.specs.declared.Stroke.{Stroke}
 use Rattle.grid.specs.declared.Window.{Window}
 use Rattle.grid.specs.Refusals.{none, first, windowRefusal, strokeRefusal}
 use Rattle.spans.specs.Parts.{Time, Part, zeroth}
+use Rattle.spans.specs.Sides.{noSide, StartSide, EndSide}
+use Rattle.strokes.specs.Sides.{conditions}
 use Rattle.strokes.specs.declared.StrokeAnswer.{StrokeAnswer}
 
 pub record KeepsCoordinate (lo hi a b n d : ℤ) : Type 0 where
@@ -43,6 +45,8 @@ blank r = record {
   ay = pos 0;
   bx = pos 0;
   by = pos 0;
+  side0 = noSide;
+  side1 = noSide;
 }
 
 pub record PointAt (s : Stroke) (f : Fraction) (x y : ℤ) : Type 0 where
@@ -55,6 +59,8 @@ pub record Clipped (w : Window) (s : Stroke) (a : StrokeAnswer) : Type 0 where
   pub part : Part (Keeps w s) (a .kept) (a .t0) (a .t1)
   pub start : a .kept ≡ true → PointAt s (a .t0) (a .ax) (a .ay)
   pub finish : a .kept ≡ true → PointAt s (a .t1) (a .bx) (a .by)
+  pub start-side : a .kept ≡ true → StartSide (conditions w s) (a .t0) (a .side0)
+  pub end-side : a .kept ≡ true → EndSide (conditions w s) (a .t1) (a .side1)
   pub missed : a .kept ≡ false → a ≡ blank none
 
 -- What is kept is said of points and not of a rule's steps, so that every engine can promise it, and then they agree.

@@ -7,10 +7,15 @@
 --   ProperWay r          a way has a length of 1 to 32,766, and its start and its end are on it in this order
 --   WayAt a b r          r is such a way from a to b, and its two coordinates are exact
 --   FromStartToEnd r n d   the fraction n/d of the way is from its start to its end
---   WayOf lo hi a b r    r is a way from a to b, and from its start to its end it is between lo and hi, nowhere else
+--   MetAt lo hi a b c    coming in between lo and hi, the way from a to b meets a side at c: lo where it rises, hi where it falls
+--   WayOf lo hi a b r    r is a way from a to b, and from its start to its end it is between lo and hi, nowhere else;
+--                        where it comes in or goes out on the way it meets a side there
 --   Overlap x y          neither way ends before the other starts
 --   OnWay f              f is a fraction from 0 to 1, with a denominator no larger than the longest way
---   StartOf, FinishOf s x y e   e is the later start, or the earlier end, of the two ways, with the rounded point
+--   sideMet a b lower upper   the side that the way from a to b meets coming in, by its number: the lower one where it rises, the upper one where it falls
+--   StartBy s x y t k    t is the later start of the two ways, and k names the side that is met there, that of x where both are met at once
+--   FinishBy s x y t k   t is the earlier end of the two ways, and k names the side that is met there, looking back
+--   StartOf, FinishOf s x y e   e is the later start, or the earlier end, of the two ways, with the rounded point and its side
 --   keptAnswer a b t u   the answer for a stroke that is kept from the point of a to that of b, with the fractions t and u
 --   KeptAnswer a b r     r is such an answer, with the fractions of a and b in lowest terms
 --   wholeAnswer s        the answer for a stroke that is kept whole
@@ -20,9 +25,10 @@
 --   KeepsAny w s b       b says whether the window keeps any point of the stroke
 use mathlib.Core.Path.{_≡_}
 use mathlib.Core.Bool.{Bool, true, false}
-use Prim.Native.Nat.{_*_, _<_, _≤_}
+use Prim.Native.Nat.{ℕ, _*_, _<_, _≤_}
 use lib.IntN.{ℤ, pos, _-ℤ_, _*ℤ_}
-use lib.Signed.{_≤ℤ_, _<ℤ_}
+use lib.Signed.{_≤ℤ_, _<ℤ_, ltZ}
+use Rattle.whole.specs.Choice.{if_then_else_}
 use Rattle.whole.specs.Within.{Within}
 use Rattle.fraction.specs.declared.Fraction.{Fraction}
 use Rattle.fraction.specs.Fraction.{LowestOf}
@@ -31,6 +37,7 @@ use Rattle.grid.specs.declared.Stroke.{Stroke}
 use Rattle.grid.specs.declared.Window.{Window}
 use Rattle.grid.specs.Table.{farthest}
 use Rattle.spans.specs.Parts.{Time, zeroth, unit}
+use Rattle.spans.specs.Sides.{noSide}
 use Rattle.strokes.specs.Strokes.{KeepsCoordinate, Keeps, PointAt, Clipped}
 use Rattle.strokes.specs.declared.Cut.{Cut}
 use Rattle.strokes.specs.declared.End.{End}
@@ -96,10 +103,16 @@ pub record FromStartToEnd (r : Way) (n d : ℤ) : Type 0 where
   pub from : (pos (r .start) *ℤ d) ≤ℤ (n *ℤ pos (r .long))
   pub upto : (n *ℤ pos (r .long)) ≤ℤ (pos (r .end) *ℤ d)
 
+pub data MetAt (lo hi a b : ℤ) : ℤ → Type 0 where
+  rising : a <ℤ b → MetAt lo hi a b lo
+  falling : b <ℤ a → MetAt lo hi a b hi
+
 pub record WayOf (lo hi a b : ℤ) (r : Way) : Type 0 where
   pub way : WayAt a b r
   pub stays : (n d : ℤ) → Time n d → KeepsCoordinate lo hi a b n d → FromStartToEnd r n d
   pub keeps : (n d : ℤ) → Time n d → FromStartToEnd r n d → KeepsCoordinate lo hi a b n d
+  pub comes : 0 < r .start → MetAt lo hi a b (r .at)
+  pub goes : r .end < r .long → MetAt lo hi b a (r .to)
 
 -- ---- both ways
 pub record Overlap (x y : Way) : Type 0 where
@@ -110,6 +123,23 @@ pub record OnWay (f : Fraction) : Type 0 where
   pub time : Time (f .num) (f .den)
   pub small : Within 32766 (f .den)
 
+abbrev pub sideMet : ℤ → ℤ → ℕ → ℕ → ℕ
+sideMet a b lower upper = if ltZ b a then upper else lower
+
+pub data StartBy (s : Stroke) (x y : Way) : Fraction → ℕ → Type 0 where
+  own : x .start ≡ 0 → y .start ≡ 0 → StartBy s x y zeroth noSide
+  by-x : 0 < x .start → y .start * x .long ≤ x .start * y .long
+      → StartBy s x y (record { num = pos (x .start); den = pos (x .long) }) (sideMet (s .x1) (s .x2) 0 1)
+  by-y : x .start * y .long < y .start * x .long
+      → StartBy s x y (record { num = pos (y .start); den = pos (y .long) }) (sideMet (s .y1) (s .y2) 2 3)
+
+pub data FinishBy (s : Stroke) (x y : Way) : Fraction → ℕ → Type 0 where
+  own : x .end ≡ x .long → y .end ≡ y .long → FinishBy s x y unit noSide
+  by-x : x .end < x .long → x .end * y .long ≤ y .end * x .long
+      → FinishBy s x y (record { num = pos (x .end); den = pos (x .long) }) (sideMet (s .x2) (s .x1) 0 1)
+  by-y : y .end * x .long < x .end * y .long
+      → FinishBy s x y (record { num = pos (y .end); den = pos (y .long) }) (sideMet (s .y2) (s .y1) 2 3)
+
 pub record StartOf (s : Stroke) (x y : Way) (e : End) : Type 0 where
   pub way : OnWay (e .t)
   pub x-in : (pos (x .start) *ℤ e .t .den) ≤ℤ (e .t .num *ℤ pos (x .long))
@@ -117,6 +147,7 @@ pub record StartOf (s : Stroke) (x y : Way) (e : End) : Type 0 where
   pub least : (n d : ℤ) → pos 0 <ℤ d → (pos (x .start) *ℤ d) ≤ℤ (n *ℤ pos (x .long)) → (pos (y .start) *ℤ d) ≤ℤ (n *ℤ pos (y .long))
       → (e .t .num *ℤ d) ≤ℤ (n *ℤ e .t .den)
   pub point : PointAt s (e .t) (e .x) (e .y)
+  pub side : StartBy s x y (e .t) (e .side)
 
 pub record FinishOf (s : Stroke) (x y : Way) (e : End) : Type 0 where
   pub way : OnWay (e .t)
@@ -125,6 +156,7 @@ pub record FinishOf (s : Stroke) (x y : Way) (e : End) : Type 0 where
   pub greatest : (n d : ℤ) → pos 0 <ℤ d → (n *ℤ pos (x .long)) ≤ℤ (pos (x .end) *ℤ d) → (n *ℤ pos (y .long)) ≤ℤ (pos (y .end) *ℤ d)
       → (n *ℤ e .t .den) ≤ℤ (e .t .num *ℤ d)
   pub point : PointAt s (e .t) (e .x) (e .y)
+  pub side : FinishBy s x y (e .t) (e .side)
 
 -- ---- answers
 abbrev pub keptAnswer : End → End → Fraction → Fraction → StrokeAnswer
@@ -138,6 +170,8 @@ keptAnswer a b t u = record {
   ay = a .y;
   bx = b .x;
   by = b .y;
+  side0 = a .side;
+  side1 = b .side;
 }
 
 pub record KeptAnswer (a b : End) (r : StrokeAnswer) : Type 0 where
@@ -146,7 +180,8 @@ pub record KeptAnswer (a b : End) (r : StrokeAnswer) : Type 0 where
   pub answer : r ≡ keptAnswer a b (r .t0) (r .t1)
 
 abbrev pub wholeAnswer : Stroke → StrokeAnswer
-wholeAnswer s = keptAnswer (record { t = zeroth; x = s .x1; y = s .y1 }) (record { t = unit; x = s .x2; y = s .y2 }) zeroth unit
+wholeAnswer s =
+    keptAnswer (record { t = zeroth; x = s .x1; y = s .y1; side = noSide }) (record { t = unit; x = s .x2; y = s .y2; side = noSide }) zeroth unit
 
 -- ---- cuts
 abbrev pub missedCut : Cut
@@ -158,7 +193,10 @@ wholeCut s = record { kept = true; ax = s .x1; ay = s .y1; bx = s .x2; by = s .y
 pub record Ends (w : Window) (s : Stroke) (c : Cut) : Type 0 where
   pub first : Fraction
   pub last : Fraction
-  pub answer : Clipped w s (keptAnswer (record { t = first; x = c .ax; y = c .ay }) (record { t = last; x = c .bx; y = c .by }) first last)
+  pub side0 : ℕ
+  pub side1 : ℕ
+  pub answer : Clipped w s
+      (keptAnswer (record { t = first; x = c .ax; y = c .ay; side = side0 }) (record { t = last; x = c .bx; y = c .by; side = side1 }) first last)
 
 pub record CutIs (w : Window) (s : Stroke) (c : Cut) : Type 0 where
   pub missed : c .kept ≡ false → (n d : ℤ) → Keeps w s n d → ⊥

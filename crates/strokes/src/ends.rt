@@ -3,10 +3,29 @@ use crate::End;
 use crate::ways::Way;
 use fraction::Fraction;
 use grid::Stroke;
+use spans::NO_SIDE;
+ghost use mathlib.Core.Path.{_≡_};
 ghost use Rattle.grid.specs.Table.{StrokeOnTable};
-ghost use Rattle.strokes.specs.Workers.{WayAt, StartOf, FinishOf};
+ghost use Rattle.strokes.specs.Workers.{WayAt, sideMet, StartOf, FinishOf};
+
+// The numbers of the window's sides.
+const LEFT: u8 = 0;
+
+const RIGHT: u8 = 1;
+
+const BOTTOM: u8 = 2;
+
+const TOP: u8 = 3;
+
+// The side that a way from a to b meets where it comes in: the lower one where it rises, the upper one where it falls.
+fn side_met(a: i32, b: i32, lower: u8, upper: u8) -> u8
+    ensures { λ r. ⌜ r ≡ sideMet a b lower upper ⌝ }
+{
+    if b < a { upper } else { lower }
+}
 
 // Where both coordinates have come in: at the later start. The coordinate that comes in there is on its side, so that only the other is rounded.
+// Where both come in at once the side is that of x, whose number is the lower.
 pub fn start(s: Stroke, x: Way, y: Way) -> End
     requires { ⌜ StrokeOnTable s ⌝ }
     requires { ⌜ WayAt (s .x1) (s .x2) x ⌝ }
@@ -19,6 +38,7 @@ pub fn start(s: Stroke, x: Way, y: Way) -> End
                 t: Fraction { num: 0, den: 1 },
                 x: s.x1,
                 y: s.y1,
+                side: NO_SIDE,
             };
         }
     }
@@ -30,6 +50,7 @@ pub fn start(s: Stroke, x: Way, y: Way) -> End
             },
             x: x.at,
             y: fraction::rounded(s.y1, s.y2, x.start, x.long),
+            side: side_met(s.x1, s.x2, LEFT, RIGHT),
         };
     }
     End {
@@ -39,10 +60,11 @@ pub fn start(s: Stroke, x: Way, y: Way) -> End
         },
         x: fraction::rounded(s.x1, s.x2, y.start, y.long),
         y: y.at,
+        side: side_met(s.y1, s.y2, BOTTOM, TOP),
     }
 }
 
-// Where one coordinate goes out: at the earlier end.
+// Where one coordinate goes out: at the earlier end. Looking back from there the way comes in.
 pub fn finish(s: Stroke, x: Way, y: Way) -> End
     requires { ⌜ StrokeOnTable s ⌝ }
     requires { ⌜ WayAt (s .x1) (s .x2) x ⌝ }
@@ -55,6 +77,7 @@ pub fn finish(s: Stroke, x: Way, y: Way) -> End
                 t: Fraction { num: 1, den: 1 },
                 x: x.to,
                 y: y.to,
+                side: NO_SIDE,
             };
         }
     }
@@ -66,6 +89,7 @@ pub fn finish(s: Stroke, x: Way, y: Way) -> End
             },
             x: x.to,
             y: fraction::rounded(s.y1, s.y2, x.end, x.long),
+            side: side_met(s.x2, s.x1, LEFT, RIGHT),
         };
     }
     End {
@@ -75,5 +99,6 @@ pub fn finish(s: Stroke, x: Way, y: Way) -> End
         },
         x: fraction::rounded(s.x1, s.x2, y.end, y.long),
         y: y.to,
+        side: side_met(s.y2, s.y1, BOTTOM, TOP),
     }
 }

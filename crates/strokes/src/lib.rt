@@ -2,6 +2,7 @@
 use fraction::Fraction;
 use grid::Stroke;
 use grid::Window;
+use spans::NO_SIDE;
 ghost use mathlib.Core.Path.{_≡_};
 ghost use Rattle.grid.specs.Table.{WindowOnTable, StrokeOnTable};
 ghost use Rattle.strokes.specs.Strokes.{Clipped, Clipping, blank as Strokes·blank};
@@ -12,7 +13,7 @@ mod plain;
 mod ways;
 
 // What a stroke call answers: a refusal's number and place, or whether the stroke is kept, from which fraction of its way to which,
-// and the two points there, rounded to the grid.
+// the two points there, rounded to the grid, and the sides that fixed the two fractions, by their numbers, or `NO_SIDE`.
 #[repr(C)]
 pub struct StrokeAnswer {
     pub number: u8,
@@ -24,13 +25,16 @@ pub struct StrokeAnswer {
     pub ay: i32,
     pub bx: i32,
     pub by: i32,
+    pub side0: u8,
+    pub side1: u8,
 }
 
-// An end of what is kept: the fraction of the stroke's way, not in lowest terms, and the point there, rounded to the grid.
+// An end of what is kept: the fraction of the stroke's way, not in lowest terms, the point there, rounded to the grid, and the side that fixed it.
 pub struct End {
     pub t: Fraction,
     pub x: i32,
     pub y: i32,
+    pub side: u8,
 }
 
 // What a window leaves of a stroke: its two points, rounded to the grid.
@@ -56,6 +60,8 @@ pub fn blank(number: u8, place: usize) -> StrokeAnswer
         ay: 0,
         bx: 0,
         by: 0,
+        side0: NO_SIDE,
+        side1: NO_SIDE,
     }
 }
 
@@ -79,6 +85,8 @@ pub fn kept_answer(a: End, b: End) -> StrokeAnswer
         ay: a.y,
         bx: b.x,
         by: b.y,
+        side0: a.side,
+        side1: b.side,
     }
 }
 
@@ -96,6 +104,8 @@ pub fn whole_answer(s: Stroke) -> StrokeAnswer
         ay: s.y1,
         bx: s.x2,
         by: s.y2,
+        side0: NO_SIDE,
+        side1: NO_SIDE,
     }
 }
 

@@ -1,5 +1,6 @@
 pub mod Halves
 pub mod Parts
 pub mod Refusing
+pub mod Sides
 pub mod Strokes
 pub mod Batches

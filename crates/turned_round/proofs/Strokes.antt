@@ -16,6 +16,7 @@ use Rattle.strokes.proofs.Unique.{clipped-unique}
 use Rattle.turned_round.specs.Laws.{turnRound, oneMinus, AnswerTurnedRound, TurnedRound, TurnedRoundByCodes}
 use Rattle.turned_round.proofs.Parts.{keeps-back, point-back, first-back, last-back}
 use Rattle.turned_round.proofs.Refusing.{SameRefusal, call-turned}
+use Rattle.turned_round.proofs.Sides.{start-back, end-back}
 
 -- ---- an answer that keeps nothing, and its like
 blank-turned : {r q : Refusal} → SameRefusal r q → AnswerTurnedRound (blank r) (blank q)
@@ -27,6 +28,7 @@ blank-turned h = record {
   finish = (refl, refl);
   fractions = λ e. absurd (ff-tt e);
   missed = λ _. (refl, refl);
+  sides = (refl, refl);
 }
 
 -- ---- a stroke in which nothing is refused
@@ -41,6 +43,8 @@ exchanged a = record {
   ay = a .by;
   bx = a .ax;
   by = a .ay;
+  side0 = a .side1;
+  side1 = a .side0;
 }
 
 module _ {w : Window} {s : Stroke} {a : StrokeAnswer} (p : Clipped w s a) where
@@ -56,6 +60,8 @@ module _ {w : Window} {s : Stroke} {a : StrokeAnswer} (p : Clipped w s a) where
     };
     start = λ _. point-back (p .finish e);
     finish = λ _. point-back (p .start e);
+    start-side = λ _. start-back w s (a .t1) (p .end-side e);
+    end-side = λ _. end-back w s (a .t0) (p .start-side e);
     missed = λ f. absurd (tt-ff f);
   }
 
@@ -71,6 +77,7 @@ module _ {w : Window} {s : Stroke} {a : StrokeAnswer} (p : Clipped w s a) where
         finish = (refl, refl);
         fractions = λ _. (refl, refl);
         missed = λ f. absurd (tt-ff (sym e ∙ f));
+        sides = (refl, refl);
       })
       go false e =
           let never = nothing-kept (λ (n d : ℤ) (k : Keeps w (turnRound s) n d). ff-tt (sym e ∙ p .part .keeps (d -ℤ n) d (keeps-back n d k))) in

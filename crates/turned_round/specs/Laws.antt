@@ -1,11 +1,11 @@
 -- Laws of rounded points, whoever drew the line: halves go to the even grid number, and a stroke turned round, drawn from its end to its start, has
--- the same two grid points, exchanged. Over every window and every stroke or list of strokes, refused and missed ones too; proved in
+-- the same two grid points and the same two sides, exchanged. Over every window and every stroke or list of strokes, refused and missed ones too; proved in
 -- proofs/Halves.antt, proofs/Strokes.antt and proofs/Batches.antt.
 --   HalvesToEven        where x/d is n and a half, it is rounded to an even number
 --   turnRound s         the stroke s turned round
 --   oneMinus f          1 − f, with the denominator of f, and so in lowest terms where f is
---   AnswerTurnedRound a b   a answers a stroke, and b the same stroke turned round: refused, missed or kept alike, with the points exchanged, and
---                       where kept from 1 − t1 to 1 − t0; only a number off the table, 6, may have another place
+--   AnswerTurnedRound a b   a answers a stroke, and b the same stroke turned round: refused, missed or kept alike, with the points and the sides
+--                       exchanged, and where kept from 1 − t1 to 1 − t0; only a number off the table, 6, may have another place
 --   TurnedRound         so answers `strokes::liang_barsky`, and every call that promises `Clipping`
 --   TurnedRoundByCodes  so does `codes::cohen_sutherland`; how often it shortens a missed stroke may differ, and is not said here
 --   swap turn x1 y1 x2 y2   the four numbers, or where `turn` says so the last two before the first two
@@ -55,6 +55,7 @@ pub record AnswerTurnedRound (a b : StrokeAnswer) : Type 0 where
   pub finish : (b .bx ≡ a .ax) × (b .by ≡ a .ay)
   pub fractions : a .kept ≡ true → (b .t0 ≡ oneMinus (a .t1)) × (b .t1 ≡ oneMinus (a .t0))
   pub missed : a .kept ≡ false → (b .t0 ≡ zeroth) × (b .t1 ≡ zeroth)
+  pub sides : (b .side0 ≡ a .side1) × (b .side1 ≡ a .side0)
 
 abbrev pub TurnedRound : Type 0
 TurnedRound = (w : Window) (s : Stroke) (a b : StrokeAnswer) → Clipping w s a → Clipping w (turnRound s) b → AnswerTurnedRound a b

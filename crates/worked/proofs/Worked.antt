@@ -13,8 +13,12 @@ use Rattle.codes.proofs.Computed.{meetingOf, stepOf, countOf, countedOf, counte
 use Rattle.codes.proofs.Runs.{engines-agree}
 use Rattle.convex.specs.Corners.{cornersOf, every, next, joins, isLeft, strictlyConvex}
 use Rattle.convex.specs.Corners.{rightCount, countRefusal, convexRefusal}
+use Rattle.corners.specs.Corners.{cyrusBeckRefusal, CyrusBeck}
+use Rattle.corners.specs.declared.CornerAnswer.{CornerAnswer}
+use Rattle.corners.proofs.Computed.{clippedOf as cornerClippedOf, answerOf as cornerAnswerOf, answerOf-is as cornerAnswerOf-is, computed as corner-computed}
 use Rattle.fraction.specs.Fraction.{lessThan}
 use Rattle.fraction.proofs.Computed.{euclid, lowestOf, roundedAt}
+use Rattle.whole.specs.Only.{TheOnly}
 use Rattle.whole.specs.Rounding.{toEven}
 use Rattle.grid.specs.declared.Stroke.{Stroke}
 use Rattle.grid.specs.Calls.{written, answeredBy}
@@ -32,9 +36,9 @@ use Rattle.rings.specs.Lists.{∅, _◂_}
 use Rattle.rings.specs.Points.{value, through}
 use Rattle.rings.specs.Windows.{left-side, right-side, bottom-side, top-side}
 use Rattle.rings.proofs.Passes.{meet}
-use Rattle.spans.proofs.Computed.{cutBy}
+use Rattle.spans.proofs.Computed.{cutBy, cutFrom, keptOf as spanKeptOf}
 use Rattle.strokes.specs.Strokes.{strokeCallRefusal}
-use Rattle.strokes.proofs.Computed.{acrossOf, spanOf, clippedOf, answerOf as strokeAnswerOf}
+use Rattle.strokes.proofs.Computed.{spanOf, clippedOf, answerOf as strokeAnswerOf}
 use Rattle.worked.specs.Examples.{ten, zeros, Verdict, expected, Answered, StrokeHolds, OutlineHolds, table}
 use Rattle.worked.specs.Laws.{Worked}
 
@@ -63,9 +67,13 @@ outline-holds {zs} {e} p q = record {
         let k = any-order ten o 0 zs a (answerOf ten 0 zs 32) (zeros 32) after (outputOf ten 0 zs (zeros 32)) l (omega arith) h (answer-is ten 0 zs (zeros 32)) in
         (k .0 ∙ p, k .1 ∙ q)
 
+-- a corner window
+corner-holds : {zs : List ℤ} {s : Stroke} {r : CornerAnswer} → cornerAnswerOf zs s ≡ r → TheOnly (CyrusBeck zs s) r
+corner-holds {zs} {s} e = record { holds = subst (CyrusBeck zs s) e (cornerAnswerOf-is zs s); only = λ a h. corner-computed h ∙ e }
+
 pub worked : Worked
-unfolding table countedOf countOf stepOf meetingOf code decision trailingZeros
-    strokeCallRefusal strokeRefusal strokeAnswerOf clippedOf spanOf acrossOf cutBy lessThan roundedAt toEven
+unfolding table cornerAnswerOf cornerClippedOf cyrusBeckRefusal countedOf countOf stepOf meetingOf code decision trailingZeros
+    strokeCallRefusal strokeRefusal strokeAnswerOf clippedOf spanOf spanKeptOf cutFrom cutBy lessThan roundedAt toEven
     euclid lowestOf answerOf outputOf answeredBy roomRefusal written outlineOf passesOf passedOf countsOf ringOf cutsOf cutOf passOf
     keptOf addedOf meet isBefore leastOf startOf numbersOf outlineRefusal first windowRefusal noArea badOrder
     countRefusal rightCount offTable firstOff onTable convexRefusal strictlyConvex every next joins isLeft cornersOf
@@ -73,4 +81,5 @@ unfolding table countedOf countOf stepOf meetingOf code decision trailingZeros
 worked =
     stroke-holds refl ◂ stroke-holds refl ◂ stroke-holds refl ◂ stroke-holds refl ◂ stroke-holds refl ◂ stroke-holds refl
     ◂ stroke-holds refl ◂ stroke-holds refl ◂ outline-holds refl refl ◂ outline-holds refl refl
-    ◂ outline-holds refl refl ◂ outline-holds refl refl ◂ outline-holds refl refl ◂ stroke-holds refl ◂ stroke-holds refl ◂ ∅
+    ◂ outline-holds refl refl ◂ outline-holds refl refl ◂ outline-holds refl refl ◂ stroke-holds refl ◂ stroke-holds refl
+    ◂ stroke-holds refl ◂ stroke-holds refl ◂ stroke-holds refl ◂ stroke-holds refl ◂ corner-holds refl ◂ corner-holds refl ◂ ∅

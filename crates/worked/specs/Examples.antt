@@ -1,11 +1,13 @@
--- The worked examples A to M, and E and M turned round, all against the window 0 0 10 10, in one table.
+-- The worked examples A to Q, and E, M, O and Q turned round, in one table; all against the window 0 0 10 10 but Q, which names its corners.
 --   table         the examples in their order
 --   Example       a stroke, by its two ends, and what both stroke calls answer, the count of shortenings included;
---                 or an outline, by its corners, and its verdict
+--                 an outline, by its corners, and its verdict; or a corner window, by its corners, a stroke, and what
+--                 the Cyrus-Beck call answers
 --   Verdict       a ring, by its corners; no area; or refused, by the refusal's number
 --   Holds e       the calls' statements hold of this answer and of no other; of an outline's, in every order
 --   StrokeHolds, OutlineHolds   what Holds says of a stroke, and of an outline
 --   ten           the window of all of them;  zeros n: a list of n zeros
+--   fromTo p q    the stroke from p to q
 --   coordinates ps   the numbers of the points ps;  ringNumbers cs: those of a ring's corners, four a corner
 --   expected e    the outline call's answer where e is the verdict, but for the counts of the passes, and its output:
 --                 32 numbers, zeros before the call
@@ -16,8 +18,10 @@
 --   + n, - n      the whole number n, and n below 0
 --   n over d      the fraction n/d
 --   corner x y    a ring's corner with whole coordinates
---   kept t u p q n   both stroke calls' answer: kept from t to u, with the rounded points p and q, after n shortenings
+--   kept t u p q n k   both stroke calls' answer: kept from t to u, with the rounded points p and q, after n shortenings; the
+--                 two sides are k, and `own` stands for the stroke's own end
 --   missedAfter n    both stroke calls' answer: missed, after n shortenings
+--   keptIn t u k     the Cyrus-Beck call's answer: kept from t to u, with the sides k
 use mathlib.Core.Bool.{true}
 use mathlib.Core.List.{List, [], _∷_}
 use Prim.Native.Nat.{ℕ, _≤_}
@@ -26,6 +30,8 @@ use lib.ListN.{replicate}
 use Rattle.whole.specs.Only.{TheOnly}
 use Rattle.codes.specs.declared.CountedAnswer.{CountedAnswer}
 use Rattle.codes.specs.Steps.{CohenSutherland}
+use Rattle.corners.specs.Corners.{CyrusBeck}
+use Rattle.corners.specs.declared.CornerAnswer.{CornerAnswer}
 use Rattle.fraction.specs.declared.Fraction.{Fraction}
 use Rattle.grid.specs.declared.Answer.{Answer}
 use Rattle.grid.specs.declared.Stroke.{Stroke}
@@ -34,6 +40,7 @@ use Rattle.grid.specs.Calls.{written, refusedBy, givesAll}
 use Rattle.grid.specs.Refusals.{refuse, none}
 use Rattle.outlines.specs.Outlines.{lastOrder, Outline}
 use Rattle.outlines.specs.declared.OutlineAnswer.{OutlineAnswer}
+use Rattle.spans.specs.Sides.{noSide}
 use Rattle.strokes.specs.Strokes.{Clipping, blank}
 
 pub data Verdict : Type 0 where
@@ -44,6 +51,7 @@ pub data Verdict : Type 0 where
 pub data Example : Type 0 where
   stroke : ℤ × ℤ → ℤ × ℤ → CountedAnswer → Example
   outline : List (ℤ × ℤ) → Verdict → Example
+  cornered : List (ℤ × ℤ) → ℤ × ℤ → ℤ × ℤ → CornerAnswer → Example
 
 abbrev pub ten : Window
 ten = record { left = pos 0; bottom = pos 0; right = pos 10; top = pos 10 }
@@ -80,10 +88,14 @@ pub record Answered (o : ℕ) (zs : List ℤ) (r : Answer × List ℤ) : Type 0 
 pub record OutlineHolds (zs : List ℤ) (e : Verdict) : Type 0 where
   pub in-order : (o : ℕ) → o ≤ lastOrder → TheOnly (Answered o zs) (expected e)
 
--- ---- both
+-- ---- all
+abbrev pub fromTo : ℤ × ℤ → ℤ × ℤ → Stroke
+fromTo p q = record { x1 = p .0; y1 = p .1; x2 = q .0; y2 = q .1 }
+
 abbrev pub Holds : Example → Type 0
-Holds (stroke p q r) = StrokeHolds (record { x1 = p .0; y1 = p .1; x2 = q .0; y2 = q .1 }) r
+Holds (stroke p q r) = StrokeHolds (fromTo p q) r
 Holds (outline ps e) = OutlineHolds (coordinates ps) e
+Holds (cornered ps p q r) = TheOnly (CyrusBeck (coordinates ps) (fromTo p q)) r
 
 -- ---- the words of the table
 infix 90 +_
@@ -101,8 +113,8 @@ n over d = record { num = pos n; den = pos d }
 abbrev pub corner : ℕ → ℕ → Fraction × Fraction
 corner x y = (x over 1, y over 1)
 
-abbrev pub kept : Fraction → Fraction → ℕ × ℕ → ℕ × ℕ → ℕ → CountedAnswer
-kept t u p q n = record {
+abbrev pub kept : Fraction → Fraction → ℕ × ℕ → ℕ × ℕ → ℕ → ℕ × ℕ → CountedAnswer
+kept t u p q n k = record {
   answer = record {
     number = 0;
     place = 0;
@@ -113,29 +125,37 @@ kept t u p q n = record {
     ay = pos (p .1);
     bx = pos (q .0);
     by = pos (q .1);
+    side0 = k .0;
+    side1 = k .1;
   };
   shortenings = n;
 }
 
+abbrev pub own : ℕ
+own = noSide
+
 abbrev pub missedAfter : ℕ → CountedAnswer
 missedAfter n = record { answer = blank none; shortenings = n }
+
+abbrev pub keptIn : Fraction → Fraction → ℕ × ℕ → CornerAnswer
+keptIn t u k = record { number = 0; place = 0; kept = true; t0 = t; t1 = u; side0 = k .0; side1 = k .1 }
 
 unfoldable pub table : List Example
 table =
     -- A
-    stroke (- 5, + 5) (+ 15, + 5) (kept (1 over 4) (3 over 4) (0, 5) (10, 5) 2)
+    stroke (- 5, + 5) (+ 15, + 5) (kept (1 over 4) (3 over 4) (0, 5) (10, 5) 2 (0, 1))
     -- B
-    ∷ stroke (- 5, + 5) (+ 5, - 5) (kept (1 over 2) (1 over 2) (0, 0) (0, 0) 2)
+    ∷ stroke (- 5, + 5) (+ 5, - 5) (kept (1 over 2) (1 over 2) (0, 0) (0, 0) 2 (0, 2))
     -- C
     ∷ stroke (- 5, + 4) (+ 4, - 5) (missedAfter 1)
     -- D
-    ∷ stroke (- 1, + 24) (+ 11, - 14) (kept (7 over 19) (12 over 19) (3, 10) (7, 0) 4)
+    ∷ stroke (- 1, + 24) (+ 11, - 14) (kept (7 over 19) (12 over 19) (3, 10) (7, 0) 4 (3, 2))
     -- E
-    ∷ stroke (- 1, + 0) (+ 1, + 1) (kept (1 over 2) (1 over 1) (0, 0) (1, 1) 1)
+    ∷ stroke (- 1, + 0) (+ 1, + 1) (kept (1 over 2) (1 over 1) (0, 0) (1, 1) 1 (0, own))
     -- E turned round
-    ∷ stroke (+ 1, + 1) (- 1, + 0) (kept (0 over 1) (1 over 2) (1, 1) (0, 0) 1)
+    ∷ stroke (+ 1, + 1) (- 1, + 0) (kept (0 over 1) (1 over 2) (1, 1) (0, 0) 1 (own, 0))
     -- F
-    ∷ stroke (+ 10, + 10) (+ 10, + 10) (kept (0 over 1) (1 over 1) (10, 10) (10, 10) 0)
+    ∷ stroke (+ 10, + 10) (+ 10, + 10) (kept (0 over 1) (1 over 1) (10, 10) (10, 10) 0 (own, own))
     -- G
     ∷ stroke (+ 11, + 10) (+ 11, + 10) (missedAfter 0)
     -- H
@@ -153,7 +173,19 @@ table =
     -- L
     ∷ outline ((+ 0, + 3) ∷ (- 2, - 3) ∷ (+ 3, + 1) ∷ (- 3, + 1) ∷ (+ 2, - 3) ∷ []) (refused 7)
     -- M
-    ∷ stroke (- 1, + 1) (+ 1, + 2) (kept (1 over 2) (1 over 1) (0, 2) (1, 2) 1)
+    ∷ stroke (- 1, + 1) (+ 1, + 2) (kept (1 over 2) (1 over 1) (0, 2) (1, 2) 1 (0, own))
     -- M turned round
-    ∷ stroke (+ 1, + 2) (- 1, + 1) (kept (0 over 1) (1 over 2) (1, 2) (0, 2) 1)
+    ∷ stroke (+ 1, + 2) (- 1, + 1) (kept (0 over 1) (1 over 2) (1, 2) (0, 2) 1 (own, 0))
+    -- N
+    ∷ stroke (- 5, - 5) (+ 15, + 15) (kept (1 over 4) (3 over 4) (0, 0) (10, 10) 2 (0, 1))
+    -- O
+    ∷ stroke (- 5, + 5) (+ 0, + 5) (kept (1 over 1) (1 over 1) (0, 5) (0, 5) 1 (0, own))
+    -- O turned round
+    ∷ stroke (+ 0, + 5) (- 5, + 5) (kept (0 over 1) (0 over 1) (0, 5) (0, 5) 1 (own, 0))
+    -- P
+    ∷ stroke (+ 0, + 5) (+ 5, + 5) (kept (0 over 1) (1 over 1) (0, 5) (5, 5) 0 (own, own))
+    -- Q
+    ∷ cornered ((+ 0, + 0) ∷ (+ 10, + 0) ∷ (+ 0, + 10) ∷ []) (- 2, - 2) (+ 2, + 2) (keptIn (1 over 2) (1 over 1) (0, own))
+    -- Q turned round
+    ∷ cornered ((+ 0, + 0) ∷ (+ 10, + 0) ∷ (+ 0, + 10) ∷ []) (+ 2, + 2) (- 2, - 2) (keptIn (0 over 1) (1 over 2) (own, 0))
     ∷ []

@@ -2,10 +2,13 @@
 
 use crate::call::{read, Call};
 use crate::fraction::Fraction;
-use crate::liang_barsky::Kept;
+use crate::kept::Sides;
 use crate::refusal::Refusal;
 use crate::strip_book;
 use crate::{batch, cohen_sutherland, cyrus_beck, drawing, liang_barsky, millimetres, outline};
+
+/// For a side: the stroke's own end remains, or nothing is kept.
+const NO_SIDE: i128 = 255;
 
 pub fn answer(line: &[u8]) -> String {
     match read(line) {
@@ -60,21 +63,29 @@ fn intake<const N: usize>(result: Result<[i32; N], Refusal>) -> Vec<i128> {
 }
 
 fn rectangle(window: [i32; 4], stroke: [i32; 4]) -> Vec<i128> {
-    let taken = liang_barsky::taken(window, stroke);
-    let kept = taken.ok().and_then(|_| liang_barsky::clip(window, stroke));
-    let mut answer = head(&taken).to_vec();
-    answer.extend(ends(kept.map(|kept: Kept| (kept.t0, kept.t1))));
-    answer.extend(kept.map_or([0; 2], |kept| kept.first));
-    answer.extend(kept.map_or([0; 2], |kept| kept.last));
+    let (mut answer, sides) = clipped(window, stroke);
+    answer.extend(numbered(sides));
     answer
 }
 
-/// The same stroke and window by either rule, so the same fields; the count is this rule's own.
+/// The fields up to the points, and the sides.
+fn clipped(window: [i32; 4], stroke: [i32; 4]) -> (Vec<i128>, Sides) {
+    let taken = liang_barsky::taken(window, stroke);
+    let kept = taken.ok().and_then(|_| liang_barsky::clip(window, stroke));
+    let mut answer = head(&taken).to_vec();
+    answer.extend(ends(kept.map(|kept| (kept.t0, kept.t1))));
+    answer.extend(kept.map_or([0; 2], |kept| kept.first));
+    answer.extend(kept.map_or([0; 2], |kept| kept.last));
+    (answer, kept.map_or([None; 2], |kept| kept.sides))
+}
+
+/// The same stroke and window by either rule, so the same fields; the count and the sides are this rule's own.
 fn counted(window: [i32; 4], stroke: [i32; 4]) -> Vec<i128> {
-    let mut answer = rectangle(window, stroke);
+    let (mut answer, _) = clipped(window, stroke);
     let run = liang_barsky::taken(window, stroke).map(|_| cohen_sutherland::run(window, stroke));
     answer[2] = run.map_or(0, |run| run.kept.into());
     answer.push(run.map_or(0, |run| run.shortenings.into()));
+    answer.extend(numbered(run.map_or([None; 2], |run| run.sides)));
     answer
 }
 
@@ -83,7 +94,13 @@ fn corner_window(window: &[i32], stroke: [i32; 4]) -> Vec<i128> {
     let kept = taken.ok().and_then(|_| cyrus_beck::clip(window, stroke));
     let mut answer = head(&taken).to_vec();
     answer.extend(ends(kept));
+    let sides = kept.map_or([None; 2], |kept| cyrus_beck::sides(window, stroke, kept));
+    answer.extend(numbered(sides));
     answer
+}
+
+fn numbered(sides: Sides) -> [i128; 2] {
+    sides.map(|side| side.map_or(NO_SIDE, |side| side as i128))
 }
 
 /// Kept or missed, then the two fractions.

@@ -2,8 +2,8 @@
 
 use crate::convex;
 use crate::fraction::Fraction;
-use crate::kept::{self, Bound};
-use crate::point::corners;
+use crate::kept::{self, Bound, Sides};
+use crate::point::{corners, turn};
 use crate::refusal::{at, first, when, Refusal};
 use crate::stroke::Stroke;
 use crate::table;
@@ -26,6 +26,17 @@ pub fn clip(window: &[i32], stroke: [i32; 4]) -> Option<(Fraction, Fraction)> {
         .map(|k| left_of(corner(k), corner(k + 1), Stroke::of(stroke)))
         .collect();
     kept::ends(&bounds)
+}
+
+/// The edge that fixed each end of what is kept, by the number of its first corner: the lowest that has this end on its
+/// line and the stroke's own end beyond it. An own end that is kept lies beyond no edge, so that it names none.
+pub fn sides(window: &[i32], stroke: [i32; 4], (t0, t1): (Fraction, Fraction)) -> Sides {
+    let (corners, stroke) = (corners(window), Stroke::of(stroke));
+    let count = corners.len();
+    [(Fraction::ZERO, t0), (Fraction::ONE, t1)].map(|(own, t)| {
+        let side_of = |k: usize, t| turn(corners[k], corners[(k + 1) % count], stroke.at(t));
+        (0..count).find(|k| side_of(*k, t) == 0 && side_of(*k, own) < 0)
+    })
 }
 
 /// Left of or on the edge from a to b: edge x (start - a) + t (edge x step) >= 0.

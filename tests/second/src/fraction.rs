@@ -33,7 +33,7 @@ impl Fraction {
     }
 }
 
-fn common_divisor(a: i128, b: i128) -> i128 {
+pub fn common_divisor(a: i128, b: i128) -> i128 {
     if b == 0 {
         a.abs()
     } else {

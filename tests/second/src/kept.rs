@@ -5,6 +5,9 @@
 
 use crate::fraction::Fraction;
 
+/// The side that fixed t0 and the side that fixed t1; none where the stroke's own end remains.
+pub type Sides = [Option<usize>; 2];
+
 #[derive(Clone, Copy, Debug)]
 pub struct Bound {
     pub p: i128,
@@ -16,7 +19,7 @@ impl Bound {
         self.p * t.num <= self.q * t.den
     }
 
-    fn equality(&self) -> Option<Fraction> {
+    pub fn equality(&self) -> Option<Fraction> {
         (self.p != 0).then(|| Fraction::new(self.q, self.p))
     }
 }

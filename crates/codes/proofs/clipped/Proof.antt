@@ -4,14 +4,14 @@ use mathlib.Core.Path.{_≡_, _∙_, sym}
 use Prim.Native.Nat.{_-_}
 use native.Mathlib.Omega.{arith}
 use borrow.Author.Needs.{needs}
-use Rattle.spans.specs.Parts.{zeroth, unit}
+use Rattle.spans.proofs.Sides.{own-start, own-end}
 use Rattle.strokes.proofs.Reading.{read-is}
 use Rattle.codes.specs.Codes.{missed}
 use Rattle.codes.specs.Steps.{decided as Steps·decided}
 use Rattle.codes.specs.Workers.{endCode, PieceOf}
 use Rattle.codes.specs.declared.Piece.{Piece}
 use Rattle.codes.proofs.Decided.{or-keep, and-missed}
-use Rattle.codes.proofs.Pieces.{start-code, end-code, whole-part, whole-kept, small-a, small-b, decided-is, finished-kept, finished-missed}
+use Rattle.codes.proofs.Pieces.{start-code, end-code, whole-part, whole-piece, whole-kept, small-a, small-b, decided-is, finished-kept, finished-missed}
 use Rattle.codes.proofs.Shortenings.{Reached, reached-first, reached-next, reached-less}
 use Rattle.codes.proofs.clipped.Statement.{statement}
 use Rattle.codes.proofs.clipped.Tie as tie
@@ -25,7 +25,7 @@ abbrev μ-loop : tie.MeasureT-loop
 
 -- the piece that is the whole stroke
 abbrev whole : tie.After-end-code2 Inv-loop μ-loop → Piece
-whole c = record { start = zeroth; end = unit; a = c .before .before .before .end-code .result; b = c .end-code2 .result }
+whole c = whole-piece (c .before .before .before .end-code .result) (c .end-code2 .result)
 
 piece : (c : tie.After-end-code2 Inv-loop μ-loop) → let a = c .before .before .before .before .before .before .args in PieceOf (a .w) (a .s) (whole c)
 piece c =
@@ -36,6 +36,8 @@ piece c =
       part = whole-part;
       a = c .before .before .before .end-code .ensures ∙ (λ i. endCode w (read-is (on .x1) i) (read-is (on .y1) i)) ∙ start-code w s;
       b = c .end-code2 .ensures ∙ (λ i. endCode w (read-is (on .x2) i) (read-is (on .y2) i)) ∙ end-code w s;
+      start-side = own-start;
+      end-side = own-end;
     }
 
 end-code-requires : tie.Need-end-code-requires Inv-loop μ-loop
@@ -50,7 +52,7 @@ whole-requires c κs = search needs
 returns : tie.Need-returns Inv-loop μ-loop
 returns c =
     let q = piece (c .before .before) in
-    finished-kept reached-first whole-part (sym (decided-is q) ∙ or-keep (small-a q) (small-b q) (c .before .if1 .taken)) (whole-kept (c .whole .ensures))
+    finished-kept q reached-first (sym (decided-is q) ∙ or-keep (small-a q) (small-b q) (c .before .if1 .taken)) (whole-kept _ _ (c .whole .ensures))
 
 missed-requires : tie.Need-missed-requires Inv-loop μ-loop
 missed-requires c κs = tt
@@ -58,7 +60,7 @@ missed-requires c κs = tt
 returns-2 : tie.Need-returns-2 Inv-loop μ-loop
 returns-2 c =
     let q = piece (c .before .before .before) in
-    finished-missed reached-first (sym (decided-is q) ∙ and-missed (small-a q) (small-b q) (c .before .if2 .taken)) (c .missed .ensures)
+    finished-missed q reached-first (sym (decided-is q) ∙ and-missed (small-a q) (small-b q) (c .before .if2 .taken)) (c .missed .ensures)
 
 decision-requires : tie.Need-decision-requires Inv-loop μ-loop
 decision-requires c κs = let q = piece (c .before .before) in (small-a q, small-b q)
@@ -92,7 +94,7 @@ kept-requires c κs = (c .before .before .before .before .before .before .before
 returns-3 : tie.Need-returns-3 Inv-loop μ-loop
 returns-3 c =
     let i = c .before .before .before .loop .inv in
-    finished-kept (i .1 .1) (i .0 .part) (sym (i .1 .0) ∙ c .before .if3 .taken) (c .kept .ensures)
+    finished-kept (i .0) (i .1 .1) (sym (i .1 .0) ∙ c .before .if3 .taken) (c .kept .ensures)
 
 missed-requires-2 : tie.Need-missed-requires-2 Inv-loop μ-loop
 missed-requires-2 c κs = tt
@@ -101,7 +103,7 @@ returns-4 : tie.Need-returns-4 Inv-loop μ-loop
 returns-4 c =
     let l = c .before .before .before .loop in
     let one : l .decided ≡ missed = omega (arith, c .before .before .loop-test .left, c .before .if3 .left) in
-    finished-missed (l .inv .1 .1) (sym (l .inv .1 .0) ∙ one) (c .missed2 .ensures)
+    finished-missed (l .inv .0) (l .inv .1 .1) (sym (l .inv .1 .0) ∙ one) (c .missed2 .ensures)
 
 pub clipped-spec : {M : Type 1} → statement M
 clipped-spec =

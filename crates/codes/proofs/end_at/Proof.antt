@@ -46,19 +46,31 @@ num-range : (c : tie.Start) → cast (c .args .t .num) ≤ cast (c .args .t .den
 num-range c = omega (zarith, num-is c, den-is c, c .pre .1 .time .high)
 
 -- ---- the two ends
+-- the end at (x, y) is right
+abbrev made : tie.Start → ℤ → ℤ → Type 0
+made c x y = EndAt (c .args .s) (c .args .t) (c .args .side) (record { t = c .args .t; x = x; y = y; side = c .args .side })
+
 returns : tie.Need-returns
 returns c =
     let a = c .before .before .before .before in
     let s = a .pre .0 in
-    subst₂ (λ (x y : ℤ). EndAt (a .args .s) (a .args .t) (record { t = a .args .t; x = x; y = y })) (sym (read-is (s .x1))) (sym (read-is (s .y1)))
-    (record { t = refl; point = point-start (a .pre .1 .time .den) (bits-eq w64 (small-fits (num-small a)) (sfits-lit {z = pos 0} tt) (c .before .if1 .taken)) })
+    subst₂ (made a) (sym (read-is (s .x1))) (sym (read-is (s .y1)))
+    (record {
+      t = refl;
+      point = point-start (a .pre .1 .time .den) (bits-eq w64 (small-fits (num-small a)) (sfits-lit {z = pos 0} tt) (c .before .if1 .taken));
+      side = refl;
+    })
 
 returns-2 : tie.Need-returns-2
 returns-2 c =
     let a = c .before .before .before .before .before .before .before in
     let s = a .pre .0 in
-    subst₂ (λ (x y : ℤ). EndAt (a .args .s) (a .args .t) (record { t = a .args .t; x = x; y = y })) (sym (read-is (s .x2))) (sym (read-is (s .y2)))
-    (record { t = refl; point = point-finish (a .pre .1 .time .den) (bits-eq w64 (small-fits (num-small a)) (small-fits (a .pre .1 .small)) (c .before .if2 .taken)) })
+    subst₂ (made a) (sym (read-is (s .x2))) (sym (read-is (s .y2)))
+    (record {
+      t = refl;
+      point = point-finish (a .pre .1 .time .den) (bits-eq w64 (small-fits (num-small a)) (small-fits (a .pre .1 .small)) (c .before .if2 .taken));
+      side = refl;
+    })
 
 -- ---- between them
 cast-n : tie.Need-cast-n
@@ -94,9 +106,8 @@ returns-3 c =
     let a = c .before .before .before .before .before .before .before .before .before .before .before .before .before .before .before .before in
     let s = a .pre .0 in
     let k = c .before .before .before in
-    subst₂ (λ (x y : ℤ). EndAt (a .args .s) (a .args .t) (record { t = a .args .t; x = x; y = y })) (sym (back w32 _ (k .rounded .ok)))
-    (sym (back w32 _ (c .rounded2 .ok)))
-    (record { t = refl; point = record { across = plain a (s .x1) (s .x2) (k .rounded .ensures); up = plain a (s .y1) (s .y2) (c .rounded2 .ensures) } })
+    subst₂ (made a) (sym (back w32 _ (k .rounded .ok))) (sym (back w32 _ (c .rounded2 .ok)))
+    (record { t = refl; point = record { across = plain a (s .x1) (s .x2) (k .rounded .ensures); up = plain a (s .y1) (s .y2) (c .rounded2 .ensures) }; side = refl })
 
 pub end-at-spec : {M : Type 1} → statement M
 end-at-spec = tie.close (tie.spec returns returns-2 cast-n cast-d rounded-requires rounded-requires-2 returns-3)

@@ -3,6 +3,8 @@ use mathlib.Core.Path.{refl, sym, subst}
 use borrow.Author.Needs.{needs}
 use Rattle.fraction.specs.declared.Fraction.{Fraction}
 use Rattle.fraction.specs.Fraction.{LowestOf}
+use Rattle.spans.specs.Sides.{StartSide, EndSide}
+use Rattle.strokes.specs.Sides.{conditions}
 use Rattle.strokes.specs.Strokes.{Clipped}
 use Rattle.strokes.specs.Workers.{OnWay}
 use Rattle.strokes.proofs.Answers.{span-kept}
@@ -26,9 +28,11 @@ returns c =
     let p = c .before .before .end-at in
     let q = c .before .end-at2 in
     let r = c .kept-answer .ensures in record {
-      clipped = λ w g.
+      clipped = λ w g i o.
           subst (Clipped w (a .args .s)) (sym (r .answer))
           (span-kept g (a .pre .1 .order) (p .result) (q .result) (p .ensures .point) (q .ensures .point)
+          (subst (StartSide (conditions w (a .args .s)) (a .args .p .start)) (sym (p .ensures .side)) i)
+          (subst (EndSide (conditions w (a .args .s)) (a .args .p .end)) (sym (q .ensures .side)) o)
           (subst (λ (f : Fraction). LowestOf (f .num) (f .den) (c .kept-answer .result .t0)) (p .ensures .t) (r .first))
           (subst (λ (f : Fraction). LowestOf (f .num) (f .den) (c .kept-answer .result .t1)) (q .ensures .t) (r .last)));
       count = refl;

@@ -4,7 +4,7 @@ use lib.IntN.{pos}
 use native.Mathlib.Omega.{arith}
 use mathlib.Core.Path.{ap, _∙_}
 use Rattle.arguments.proofs.Numbers.{count-yes, count-no}
-use Rattle.stroke_commands.specs.Lines.{withPart}
+use Rattle.stroke_commands.specs.Lines.{withPart, withSides}
 use Rattle.replies.specs.Replies.{to-call}
 use Rattle.replies.proofs.Fields.{after}
 use Rattle.replies.proofs.Lines.{tells, no-call}
@@ -77,18 +77,22 @@ begin-requires c κs = search needs
 part-requires : tie.Need-part-requires
 part-requires c κs = search needs
 
+sides-requires : tie.Need-sides-requires
+sides-requires c κs = search needs
+
 returns-3 : tie.Need-returns-3
 returns-3 c =
-    let called = c .before .before .before .before in
+    let called = c .before .before .before .before .before in
     let a = called .cyrus-beck .result in
     let there = called .before .before .before in
     let tested = there .before .before in
-    let read = tested .before .before .before .before in (
+    let read = tested .before .before .before .before in
+    let parted = after 5 (λ fs. withPart fs (a .kept) (a .t0) (a .t1)) (c .before .before .begin .ensures) (c .before .part .ensures) in (
       search needs,
       to-call _ (asks-corners _ (read .read-numbers .ensures .1) (search needs) (omega arith)
           (count-yes _ _ (search needs) (omega arith) (tested .if2 .left) ∙ ap pos (omega arith)))
           (tells a (rw (there .stroke-at .ensures) at (called .cyrus-beck .ensures))
-          (after 5 (λ fs. withPart fs (a .kept) (a .t0) (a .t1)) (c .before .begin .ensures) (c .part .ensures))),
+          (after 2 (λ fs. withSides fs (a .side0) (a .side1)) parted (c .sides .ensures))),
     )
 
 pub cb-spec : {M : Type 1} → statement M
@@ -113,4 +117,5 @@ cb-spec =
     cyrus-beck-requires
     begin-requires
     part-requires
+    sides-requires
     returns-3)

@@ -3,7 +3,8 @@ use borrow.Author.Needs.{needs}
 use borrow.Author.Tests.{not-true, not-false}
 use Rattle.replies.specs.Replies.{to-call}
 use Rattle.replies.proofs.Lines.{tells, no-call}
-use Rattle.replies.proofs.Fields.{next}
+use Rattle.replies.proofs.Fields.{after, next}
+use Rattle.stroke_commands.specs.Lines.{withSides}
 use Rattle.stroke_commands.proofs.cs.Statement.{statement}
 use Rattle.stroke_commands.proofs.cs.Tie as tie
 
@@ -34,14 +35,18 @@ cast-natural c = search needs
 natural-requires : tie.Need-natural-requires
 natural-requires c κs = search needs
 
+sides-requires : tie.Need-sides-requires
+sides-requires c κs = search needs
+
 returns-2 : tie.Need-returns-2
 returns-2 c =
-    let called = c .before .before .before in
+    let called = c .before .before .before .before .before in
+    let a = called .cohen-sutherland .result .answer in
     let done = called .before in (
       search needs,
       to-call _ (done .before .before .read-pair .ensures .pair (not-false _ (done .if1 .left)))
           (tells (called .cohen-sutherland .result) (called .cohen-sutherland .ensures)
-          (next (c .before .before .answered .ensures) (c .natural .ensures))),
+          (after 2 (λ fs. withSides fs (a .side0) (a .side1)) (next (c .before .before .before .answered .ensures) (c .before .natural .ensures)) (c .sides .ensures))),
     )
 
 pub cs-spec : {M : Type 1} → statement M
@@ -55,4 +60,5 @@ cs-spec =
     answered-requires
     cast-natural
     natural-requires
+    sides-requires
     returns-2)

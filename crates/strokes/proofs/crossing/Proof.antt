@@ -6,6 +6,7 @@ use Rattle.strokes.specs.Workers.{WayOf}
 use Rattle.strokes.proofs.Answers.{nothing-kept, span-kept}
 use Rattle.strokes.proofs.Meetings.{none-kept, ends-span, ends-meet}
 use Rattle.strokes.proofs.Reading.{passage-asks, way-plain}
+use Rattle.strokes.proofs.Sides.{start-side, end-side}
 use Rattle.strokes.proofs.crossing.Statement.{statement}
 use Rattle.strokes.proofs.crossing.Tie as tie
 
@@ -62,7 +63,7 @@ returns-2 c =
     let g = way-y k in
     subst (Clipped w s) (sym (r .answer))
     (span-kept (ends-span f g p q) (ends-meet f g p q (c .before .before .before .before .apart .ensures .1 (c .before .before .before .if1 .left)))
-    (c .before .start .result) (c .before .before .finish .result) (p .point) (q .point) (r .first) (r .last))
+    (c .before .start .result) (c .before .before .finish .result) (p .point) (q .point) (start-side f g (p .side)) (end-side f g (q .side)) (r .first) (r .last))
 
 pub crossing-spec : {M : Type 1} → statement M
 crossing-spec =

@@ -9,6 +9,7 @@ use Rattle.strokes.specs.Workers.{WayOf, CutIs}
 use Rattle.strokes.proofs.Answers.{cut-missed, cut-kept, span-kept}
 use Rattle.strokes.proofs.Meetings.{none-kept, ends-span, ends-meet}
 use Rattle.strokes.proofs.Reading.{passage-asks, way-plain}
+use Rattle.strokes.proofs.Sides.{start-side, end-side}
 use Rattle.strokes.proofs.cut_across.Statement.{statement}
 use Rattle.strokes.proofs.cut_across.Tie as tie
 
@@ -69,7 +70,7 @@ returns-2 c =
     (cut-kept refl
     (span-kept (ends-span f g p q)
     (ends-meet f g p q (c .before .before .before .before .before .apart .ensures .1 (c .before .before .before .before .if1 .left))) a b (p .point) (q .point)
-    (lowestOf-is _ (p .way .time .den)) (lowestOf-is _ (q .way .time .den))))
+    (start-side f g (p .side)) (end-side f g (q .side)) (lowestOf-is _ (p .way .time .den)) (lowestOf-is _ (q .way .time .den))))
 
 pub cut-across-spec : {M : Type 1} → statement M
 cut-across-spec = tie.close (tie.spec passage-requires passage-requires-2 apart-requires missed-requires returns finish-requires start-requires returns-2)

@@ -4,7 +4,7 @@ use super::flaws::{flawed, PENTAGRAM};
 use super::line::Line;
 use super::numbers::{extreme, near, on_table, onto_table, spoil};
 use super::shapes::{convex, parabola, ring, Corner};
-use super::stroke_kinds::Stroke;
+use super::stroke_kinds::{either_way, steps, through, Stroke};
 use super::strokes::off;
 use super::windows;
 use crate::random::Random;
@@ -70,13 +70,15 @@ fn miscounted(random: &mut Random) -> Vec<Corner> {
 pub fn stroke(random: &mut Random, corners: &[Corner]) -> Stroke {
     let k = random.below(corners.len());
     let (a, b) = (corners[k], corners[(k + 1) % corners.len()]);
-    match random.below(9) {
+    match random.below(13) {
         0 => [(); 4].map(|_| on_table(random)),
         1 => [(); 4].map(|_| extreme(random)),
         2 => along(random, a, b),
         3 => touching(random, corners, k),
         4 => [a, a].concat().try_into().unwrap_or(ACROSS),
         5 => middle(random, a, b),
+        6..=8 => through_a_corner(random, corners, k),
+        9 => to_an_edge(random, corners, k),
         _ => between(random, corners),
     }
 }
@@ -107,6 +109,30 @@ fn touching(random: &mut Random, corners: &[Corner], k: usize) -> Stroke {
     };
     let (start, end) = (end(), end());
     [start[0], start[1], end[0], end[1]]
+}
+
+/// By a corner, half the time the first, where the closing edge meets edge 0: on the way to another corner, or to
+/// somewhere between others.
+fn through_a_corner(random: &mut Random, corners: &[Corner], k: usize) -> Stroke {
+    let from = if random.one_in(2) { 0 } else { k };
+    let others: Vec<Corner> = (1..corners.len())
+        .map(|j| corners[(from + j) % corners.len()])
+        .collect();
+    let (a, b) = (random.pick(&others), random.pick(&others));
+    let way = [0, 1].map(|axis| (a[axis] + b[axis]) / 2 - corners[from][axis]);
+    if way == [0, 0] {
+        return ACROSS;
+    }
+    through(random, corners[from], steps(way).1)
+}
+
+/// An end on an edge, or at its first corner where no other grid point lies on it; the other end outside or inside.
+fn to_an_edge(random: &mut Random, corners: &[Corner], k: usize) -> Stroke {
+    let (a, b) = (corners[k], corners[(k + 1) % corners.len()]);
+    let (count, step) = steps([b[0] - a[0], b[1] - a[1]]);
+    let j = random.between(0, count);
+    let [x, y, ..] = between(random, corners);
+    either_way(random, [x, y], [a[0] + j * step[0], a[1] + j * step[1]])
 }
 
 /// A stroke of no length, or of one grid step, by the middle of an edge.

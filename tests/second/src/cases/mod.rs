@@ -16,7 +16,9 @@ pub mod books;
 pub mod by_hand;
 pub mod command_forms;
 pub mod commands;
-mod corner_windows;
+pub mod corner_cuts;
+pub mod corner_windows;
+pub mod cuts;
 pub mod damage;
 mod damage_bytes;
 mod damage_strips;
@@ -35,7 +37,7 @@ mod numbers;
 mod outline_limits;
 mod outlines;
 mod room;
-mod shapes;
+pub mod shapes;
 pub mod sides;
 mod sketch;
 mod slips;
@@ -70,7 +72,9 @@ fn fixed() -> Vec<Vec<u8>> {
         floats::fixed(),
         strokes::fixed(),
         halves::lines(),
+        cuts::lines(),
         corner_windows::fixed(),
+        corner_cuts::lines(),
         batches::fixed(),
         outline_limits::lines(),
         drawing_faults::lines(),
@@ -101,13 +105,13 @@ fn any(random: &mut Random) -> Vec<u8> {
 }
 
 fn well_formed(random: &mut Random) -> Vec<u8> {
-    match random.below(108) {
+    match random.below(114) {
         0..=13 => floats::line(random),
         14..=45 => strokes::line(random),
-        46..=59 => corner_windows::line(random),
-        60..=70 => batches::line(random),
-        71..=88 => outlines::line(random),
-        89..=99 => drawings::line(random),
+        46..=65 => corner_windows::line(random),
+        66..=76 => batches::line(random),
+        77..=94 => outlines::line(random),
+        95..=105 => drawings::line(random),
         _ => book_runs::line(random),
     }
 }

@@ -12,29 +12,55 @@ pub struct Kept {
     /// t0 and t1, each its numerator before its denominator.
     pub fractions: [i32; 4],
     pub points: [i32; 4],
+    /// The sides that fixed t0 and t1.
+    pub sides: [i32; 2],
     /// As many either way round, since each end of a kept stroke is shortened for itself.
     pub shortenings: i32,
 }
 
+/// The number for a side where the stroke's own end remains, and where nothing is kept.
+pub const OWN: i32 = 255;
+
 /// A stroke of which nothing is kept, with its shortenings this way round and turned round.
 pub type Missed = (Stroke, [i32; 2]);
 
+pub const fn kept(
+    stroke: Stroke,
+    fractions: [i32; 4],
+    points: [i32; 4],
+    sides: [i32; 2],
+    shortenings: i32,
+) -> Kept {
+    Kept {
+        stroke,
+        fractions,
+        points,
+        sides,
+        shortenings,
+    }
+}
+
 impl Kept {
+    /// It is crossed outward where it was crossed inward, so the sides are exchanged, too.
     fn turned(&self) -> Kept {
         let [n0, d0, n1, d1] = self.fractions;
+        let [first, last] = self.sides;
         Kept {
             stroke: turned(self.stroke),
             fractions: [d1 - n1, d1, d0 - n0, d0],
             points: turned(self.points),
+            sides: [last, first],
             ..*self
         }
     }
 
     /// For strokes that are out at one side only: left and below, right and above change places.
     pub fn mirrored(&self) -> Kept {
+        let other_axis = |side: i32| if side == OWN { OWN } else { (side + 2) % 4 };
         Kept {
             stroke: mirrored(self.stroke),
             points: mirrored(self.points),
+            sides: self.sides.map(other_axis),
             ..*self
         }
     }
@@ -42,7 +68,7 @@ impl Kept {
     fn answered(&self, window: Window) -> [Answered; 2] {
         let head = [0, 0, 1];
         let numbers = [&head[..], &self.fractions, &self.points].concat();
-        by_both_rules(window, self.stroke, &numbers, self.shortenings)
+        by_both_rules(window, self.stroke, &numbers, self.sides, self.shortenings)
     }
 }
 
@@ -51,8 +77,9 @@ pub fn both_ways(window: Window, missed: &[Missed], kept: &[Kept]) -> Vec<Answer
     let mut cases = Vec::new();
     for (stroke, [forth, back]) in missed {
         let numbers = [0, 0, 0, 0, 1, 0, 1, 0, 0, 0, 0];
-        cases.extend(by_both_rules(window, *stroke, &numbers, *forth));
-        cases.extend(by_both_rules(window, turned(*stroke), &numbers, *back));
+        for (stroke, count) in [(*stroke, *forth), (turned(*stroke), *back)] {
+            cases.extend(by_both_rules(window, stroke, &numbers, [OWN; 2], count));
+        }
     }
     for kept in kept {
         cases.extend(kept.answered(window));
@@ -65,8 +92,8 @@ pub fn both_ways(window: Window, missed: &[Missed], kept: &[Kept]) -> Vec<Answer
 /// Refused by 6: the places of the first number off the table, this way round and turned round.
 pub fn refused(window: Window, stroke: Stroke, [forth, back]: [i32; 2]) -> [Answered; 4] {
     let numbers = |place: i32| [6, place, 0, 0, 1, 0, 1, 0, 0, 0, 0];
-    let [a, b] = by_both_rules(window, stroke, &numbers(forth), 0);
-    let [c, d] = by_both_rules(window, turned(stroke), &numbers(back), 0);
+    let [a, b] = by_both_rules(window, stroke, &numbers(forth), [OWN; 2], 0);
+    let [c, d] = by_both_rules(window, turned(stroke), &numbers(back), [OWN; 2], 0);
     [a, b, c, d]
 }
 
@@ -77,12 +104,24 @@ pub fn refused_batch(window: Window, good: Stroke, bad: Stroke, place: i32) -> A
     (batches::of(2, window, &list), text(&answer))
 }
 
-fn by_both_rules(window: Window, stroke: Stroke, numbers: &[i32], count: i32) -> [Answered; 2] {
-    let common = text(numbers);
-    let counted = format!("{common} {count}");
+/// The sides stand last, behind the count.
+fn by_both_rules(
+    window: Window,
+    stroke: Stroke,
+    numbers: &[i32],
+    sides: [i32; 2],
+    count: i32,
+) -> [Answered; 2] {
+    let (common, sides) = (text(numbers), text(&sides));
     [
-        (strokes::of("lb", window, stroke), common),
-        (strokes::of("cs", window, stroke), counted),
+        (
+            strokes::of("lb", window, stroke),
+            format!("{common} {sides}"),
+        ),
+        (
+            strokes::of("cs", window, stroke),
+            format!("{common} {count} {sides}"),
+        ),
     ]
 }
 
@@ -102,7 +141,7 @@ fn in_a_batch(window: Window, missed: &[Missed], kept: &[Kept]) -> Answered {
     (line, text(&answer))
 }
 
-fn text(numbers: &[i32]) -> String {
+pub fn text(numbers: &[i32]) -> String {
     let words: Vec<String> = numbers.iter().map(i32::to_string).collect();
     words.join(" ")
 }

@@ -2,13 +2,14 @@
 
 use super::numbers::{extreme, near, on_table, onto_table};
 use super::windows::Window;
+use crate::fraction::common_divisor;
 use crate::random::Random;
 use crate::table::holds;
 
 pub type Stroke = [i32; 4];
 
 pub fn stroke(random: &mut Random, window: Window) -> Stroke {
-    match random.below(16) {
+    match random.below(20) {
         0 => [(); 4].map(|_| on_table(random)),
         1 | 2 => around(random, window),
         3 => near_borders(random, window),
@@ -16,8 +17,9 @@ pub fn stroke(random: &mut Random, window: Window) -> Stroke {
         5 => along(random, window),
         6 => no_length(random, window),
         7..=9 => across(random, window),
-        10..=13 => by_halves(random, window),
-        14 => to_a_side(random, window),
+        10..=14 => by_halves(random, window),
+        15 | 16 => to_a_side(random, window),
+        17 | 18 => through_a_corner(random, window),
         _ => [(); 4].map(|_| extreme(random)),
     }
 }
@@ -46,22 +48,55 @@ fn by_border(random: &mut Random, window: Window) -> [i32; 2] {
 
 /// Through a corner and, but for a hair now and then, through nothing else of the window.
 fn touching(random: &mut Random, window: Window) -> Stroke {
-    let (right, top) = (random.one_in(2), random.one_in(2));
-    let corner = [
-        window[if right { 2 } else { 0 }],
-        window[if top { 3 } else { 1 }],
-    ];
+    let (corner, inward) = corner(random, window);
     // Into the window by x and out of it by y, or both the other way round.
-    let (x, y) = (random.between(1, 60), random.between(1, 60));
-    let step = [if right { -x } else { x }, if top { y } else { -y }];
-    let (before, after) = (random.between(0, 30), random.between(0, 30));
-    let along = |k: i32| [corner[0] + k * step[0], corner[1] + k * step[1]].map(onto_table);
-    let mut stroke = either_way(random, along(-before), along(after));
+    let step = [
+        inward[0] * random.between(1, 60),
+        -inward[1] * random.between(1, 60),
+    ];
+    let mut stroke = through(random, corner, step);
     if random.one_in(3) {
         let place = random.below(4);
         stroke[place] = near(random, stroke[place], 1);
     }
     stroke
+}
+
+/// Into the window by both of a corner's sides at once, or out of it; at times through the opposite corner, too.
+fn through_a_corner(random: &mut Random, window: Window) -> Stroke {
+    let (corner, inward) = corner(random, window);
+    let size = if random.one_in(3) {
+        steps([window[2] - window[0], window[3] - window[1]]).1
+    } else {
+        [random.between(1, 60), random.between(1, 60)]
+    };
+    through(random, corner, [inward[0] * size[0], inward[1] * size[1]])
+}
+
+/// A corner of the window, and in which direction the window lies of it in x and in y.
+fn corner(random: &mut Random, window: Window) -> ([i32; 2], [i32; 2]) {
+    let (right, top) = (random.one_in(2), random.one_in(2));
+    let corner = [
+        window[if right { 2 } else { 0 }],
+        window[if top { 3 } else { 1 }],
+    ];
+    (corner, [right, top].map(|far| if far { -1 } else { 1 }))
+}
+
+/// Up to 30 whole steps before a point and behind it, as far as the table goes; where there are none, it is an end.
+pub fn through(random: &mut Random, point: [i32; 2], step: [i32; 2]) -> Stroke {
+    let at = |k: i32| [point[0] + k * step[0], point[1] + k * step[1]];
+    let on_table = |k: &i32| at(*k).into_iter().all(holds);
+    let before = (1..=30).take_while(|k| on_table(&-k)).count();
+    let after = (1..=30).take_while(on_table).count();
+    let (before, after) = (random.below(before + 1), random.below(after + 1));
+    either_way(random, at(-(before as i32)), at(after as i32))
+}
+
+/// A way as steps from grid point to grid point: how many, and each of them.
+pub fn steps(way: [i32; 2]) -> (i32, [i32; 2]) {
+    let count = common_divisor(way[0].into(), way[1].into()) as i32;
+    (count, way.map(|n| n / count))
 }
 
 /// On the line of a side, or one grid step beside it.
@@ -182,7 +217,7 @@ fn joined(start: [i32; 2], end: [i32; 2]) -> Stroke {
 }
 
 /// Either way round, and on the table.
-fn either_way(random: &mut Random, start: [i32; 2], end: [i32; 2]) -> Stroke {
+pub fn either_way(random: &mut Random, start: [i32; 2], end: [i32; 2]) -> Stroke {
     let (start, end) = (start.map(onto_table), end.map(onto_table));
     if random.one_in(2) {
         joined(start, end)

@@ -1,5 +1,6 @@
 //! Strokes against rectangles: `lb` and `cs`.
 
+use super::corner_windows;
 use super::line::Line;
 use super::numbers::{anywhere, spoil};
 use super::stroke_kinds::{stroke, turned, Stroke};
@@ -55,13 +56,14 @@ pub fn line(random: &mut Random) -> Vec<u8> {
     }
 }
 
-/// The stroke of a line turned round, by either rule; none where the line is no call with a rectangle and a stroke.
+/// The stroke of a line turned round, of a rectangle by either rule; none where the line is no call with a single stroke.
 pub fn turned_round(random: &mut Random, line: &[u8]) -> Option<Vec<u8>> {
     match read(line)? {
         Call::LiangBarsky(window, stroke) | Call::CohenSutherland(window, stroke) => {
             let rule = random.pick(&["lb", "cs"]);
             Some(of(rule, window, turned(stroke)))
         }
+        Call::CyrusBeck(window, stroke) => Some(corner_windows::of(&window, turned(stroke))),
         _ => None,
     }
 }

@@ -2,6 +2,7 @@
 
 mod agreement;
 mod books;
+mod cuts;
 mod desk;
 mod disk_numbers;
 mod disk_orders;
@@ -10,11 +11,18 @@ mod disk_texts;
 mod heard;
 mod passes;
 mod plain_list;
+mod seen;
 mod turned;
 mod two_runs;
 mod worked;
 
 use crate::answer::answer;
+
+/// The numbers of an answer.
+fn numbers(line: &[u8]) -> Vec<i128> {
+    let number = |word: &str| word.parse().expect("a number");
+    answer(line).split(' ').map(number).collect()
+}
 
 /// Lines and their answers in turn.
 fn expect(pairs: &[(&str, &str)]) {

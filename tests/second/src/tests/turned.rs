@@ -1,5 +1,7 @@
-//! A stroke turned round has the same two grid points, exchanged: a half goes to the even number.
+//! A stroke turned round has the same two grid points, exchanged: a half goes to the even number. Its sides are exchanged, too.
 
+use super::numbers;
+use super::seen::Seen;
 use crate::answer::answer;
 use crate::call::{read, Call};
 use crate::cases::stroke_kinds::{self, Stroke};
@@ -9,7 +11,6 @@ use crate::fraction::Fraction;
 use crate::random::Random;
 use crate::rounding::half_to_even;
 use crate::table::MOST;
-use std::collections::BTreeMap;
 
 #[test]
 fn as_worked_out_by_hand() {
@@ -62,31 +63,15 @@ fn halves_go_to_the_even_number() {
     }
 }
 
-/// How many strokes were kept with a half at an end, and how many halves of each kind there were.
-#[derive(Default)]
-struct Seen(BTreeMap<&'static str, usize>);
-
-impl Seen {
-    /// Each half by its double and by what it was rounded to.
-    fn note(&mut self, halves: &[[i128; 2]]) {
-        self.count("strokes", !halves.is_empty());
-        self.count("at both ends", halves.len() == 2);
-        for [double, rounded] in halves {
-            self.count("below 0", *double < 0);
-            self.count("rounded up", 2 * rounded > *double);
-            self.count("rounded down", 2 * rounded < *double);
-            self.count("by the table's ends", double.abs() > 32_760);
-        }
-    }
-
-    fn count(&mut self, kind: &'static str, holds: bool) {
-        *self.0.entry(kind).or_default() += usize::from(holds);
-    }
-
-    fn at_least(&self, least: &[(&str, usize)]) {
-        for (kind, least) in least {
-            assert!(self.0[kind] >= *least, "{kind}: {:?}", self.0);
-        }
+/// The halves at the ends of a kept stroke, each by its double and by what it was rounded to.
+fn note(seen: &mut Seen, halves: &[[i128; 2]]) {
+    seen.count("strokes", !halves.is_empty());
+    seen.count("at both ends", halves.len() == 2);
+    for [double, rounded] in halves {
+        seen.count("below 0", *double < 0);
+        seen.count("rounded up", 2 * rounded > *double);
+        seen.count("rounded down", 2 * rounded < *double);
+        seen.count("by the table's ends", double.abs() > 32_760);
     }
 }
 
@@ -173,37 +158,35 @@ fn both_ways(seen: &mut Seen, window: Window, stroke: Stroke) {
     }
     assert_eq!(back, turned(forth), "{window:?} {stroke:?}");
     if forth[2] == 1 {
-        seen.note(&halves_of(stroke, forth));
+        note(seen, &halves_of(stroke, forth));
     }
 }
 
-/// The answer but for the count of shortenings, which is the one rule's own.
-fn by_both_rules(window: Window, stroke: Stroke) -> [i128; 11] {
-    let [lb, cs] = ["lb", "cs"].map(|rule| numbers(&strokes::of(rule, window, stroke)));
-    assert_eq!(lb, cs[..11], "{window:?} {stroke:?}");
-    lb.try_into().expect("11 numbers")
+/// The answer but for the count of shortenings, which is the one rule's own and stands before the sides.
+fn by_both_rules(window: Window, stroke: Stroke) -> [i128; 13] {
+    let [lb, mut cs] = ["lb", "cs"].map(|rule| numbers(&strokes::of(rule, window, stroke)));
+    cs.remove(11);
+    assert_eq!(lb, cs, "{window:?} {stroke:?}");
+    lb.try_into().expect("13 numbers")
 }
 
-fn numbers(line: &[u8]) -> Vec<i128> {
-    let number = |word: &str| word.parse().expect("a number");
-    answer(line).split(' ').map(number).collect()
-}
-
-/// What is to be answered to the stroke turned round: 1 - t1 and 1 - t0, and the points exchanged.
-fn turned(answer: [i128; 11]) -> [i128; 11] {
-    let [number, place, kept, n0, d0, n1, d1, ax, ay, bx, by] = answer;
+/// What is to be answered to the stroke turned round: 1 - t1 and 1 - t0, the points and the sides exchanged.
+fn turned(answer: [i128; 13]) -> [i128; 13] {
+    let [number, place, kept, n0, d0, n1, d1, ax, ay, bx, by, first, last] = answer;
     if kept == 0 {
         return answer;
     }
     let (m0, m1) = (d1 - n1, d0 - n0);
-    [number, place, kept, m0, d1, m1, d0, bx, by, ax, ay]
+    [
+        number, place, kept, m0, d1, m1, d0, bx, by, ax, ay, last, first,
+    ]
 }
 
 /// The coordinates at which a kept stroke ends at a half. Holds every coordinate to the rule, in whole numbers:
 /// at most a half from the exact one, and even where it is a half.
-fn halves_of(stroke: Stroke, answer: [i128; 11]) -> Vec<[i128; 2]> {
+fn halves_of(stroke: Stroke, answer: [i128; 13]) -> Vec<[i128; 2]> {
     let [x1, y1, x2, y2] = stroke.map(i128::from);
-    let [_, _, _, n0, d0, n1, d1, ax, ay, bx, by] = answer;
+    let [_, _, _, n0, d0, n1, d1, ax, ay, bx, by, ..] = answer;
     let mut halves = Vec::new();
     for (from, to, n, d, rounded) in [
         (x1, x2, n0, d0, ax),
@@ -237,7 +220,7 @@ fn rows_of_a_batch() {
         for ([index, ax, ay, bx, by], back) in forth.iter().copied().zip(back) {
             assert_eq!(back, [index, bx, by, ax, ay], "{window:?} {list:?}");
             let alone = by_both_rules(window, strokes[index as usize]);
-            assert_eq!(alone[7..], [ax, ay, bx, by], "{window:?} {list:?}");
+            assert_eq!(alone[7..11], [ax, ay, bx, by], "{window:?} {list:?}");
         }
         rows += forth.len();
     }

@@ -5,42 +5,136 @@ use crate::answer::answer;
 use crate::cases::by_hand;
 
 const MISSED: &str = "0 0 0 0 1 0 1 0 0 0 0";
+/// Neither end is fixed by a side.
+const OWN: &str = "255 255";
 
-/// By every rule: name, numbers, the answer's common part, the count of shortenings.
-const STROKES: [(&str, &str, &str, u8); 19] = [
-    ("0 0 10 10", "-5 5 15 5", "0 0 1 1 4 3 4 0 5 10 5", 2),
-    ("0 0 10 10", "-5 5 5 -5", "0 0 1 1 2 1 2 0 0 0 0", 2),
-    ("0 0 10 10", "-5 4 4 -5", MISSED, 1),
-    ("0 0 10 10", "-1 24 11 -14", "0 0 1 7 19 12 19 3 10 7 0", 4),
-    ("0 0 10 10", "-1 0 1 1", "0 0 1 1 2 1 1 0 0 1 1", 1),
-    ("0 0 10 10", "1 1 -1 0", "0 0 1 0 1 1 2 1 1 0 0", 1),
-    ("0 0 10 10", "-1 1 1 2", "0 0 1 1 2 1 1 0 2 1 2", 1),
-    ("0 0 10 10", "1 2 -1 1", "0 0 1 0 1 1 2 1 2 0 2", 1),
-    ("0 0 10 10", "10 10 10 10", "0 0 1 0 1 1 1 10 10 10 10", 0),
-    ("0 0 10 10", "11 10 11 10", MISSED, 0),
-    ("0 0 10 10", "5 20 40 5", MISSED, 1),
-    ("5 5 10 10", "4 6 6 4", "0 0 1 1 2 1 2 5 5 5 5", 2),
-    ("0 0 10 10", "-1 11 11 11", MISSED, 0),
-    ("0 0 3 4", "-2 -2 1 5", "0 0 1 2 3 6 7 0 3 1 4", 2),
-    ("0 0 3 4", "-2 -2 3 0", "0 0 1 1 1 1 1 3 0 3 0", 2),
-    ("0 0 3 4", "-2 0 1 0", "0 0 1 2 3 1 1 0 0 1 0", 1),
-    ("0 0 3 4", "-2 -2 0 0", "0 0 1 1 1 1 1 0 0 0 0", 1),
-    ("0 0 4 4", "5 -4 -4 0", MISSED, 2),
-    ("0 0 4 4", "5 0 -4 -4", MISSED, 1),
+/// By every rule: window, stroke, the answer up to the points, the count of shortenings, the sides, and the edges where
+/// the window is given as its corners: 0 the bottom, 1 the right side, 2 the top, 3 the left side.
+const STROKES: [(&str, &str, &str, u8, &str, &str); 19] = [
+    (
+        "0 0 10 10",
+        "-5 5 15 5",
+        "0 0 1 1 4 3 4 0 5 10 5",
+        2,
+        "0 1",
+        "3 1",
+    ),
+    (
+        "0 0 10 10",
+        "-5 5 5 -5",
+        "0 0 1 1 2 1 2 0 0 0 0",
+        2,
+        "0 2",
+        "3 0",
+    ),
+    ("0 0 10 10", "-5 4 4 -5", MISSED, 1, OWN, OWN),
+    (
+        "0 0 10 10",
+        "-1 24 11 -14",
+        "0 0 1 7 19 12 19 3 10 7 0",
+        4,
+        "3 2",
+        "2 0",
+    ),
+    (
+        "0 0 10 10",
+        "-1 0 1 1",
+        "0 0 1 1 2 1 1 0 0 1 1",
+        1,
+        "0 255",
+        "3 255",
+    ),
+    (
+        "0 0 10 10",
+        "1 1 -1 0",
+        "0 0 1 0 1 1 2 1 1 0 0",
+        1,
+        "255 0",
+        "255 3",
+    ),
+    (
+        "0 0 10 10",
+        "-1 1 1 2",
+        "0 0 1 1 2 1 1 0 2 1 2",
+        1,
+        "0 255",
+        "3 255",
+    ),
+    (
+        "0 0 10 10",
+        "1 2 -1 1",
+        "0 0 1 0 1 1 2 1 2 0 2",
+        1,
+        "255 0",
+        "255 3",
+    ),
+    (
+        "0 0 10 10",
+        "10 10 10 10",
+        "0 0 1 0 1 1 1 10 10 10 10",
+        0,
+        OWN,
+        OWN,
+    ),
+    ("0 0 10 10", "11 10 11 10", MISSED, 0, OWN, OWN),
+    ("0 0 10 10", "5 20 40 5", MISSED, 1, OWN, OWN),
+    (
+        "5 5 10 10",
+        "4 6 6 4",
+        "0 0 1 1 2 1 2 5 5 5 5",
+        2,
+        "0 2",
+        "3 0",
+    ),
+    ("0 0 10 10", "-1 11 11 11", MISSED, 0, OWN, OWN),
+    (
+        "0 0 3 4",
+        "-2 -2 1 5",
+        "0 0 1 2 3 6 7 0 3 1 4",
+        2,
+        "0 3",
+        "3 2",
+    ),
+    (
+        "0 0 3 4",
+        "-2 -2 3 0",
+        "0 0 1 1 1 1 1 3 0 3 0",
+        2,
+        "2 255",
+        "0 255",
+    ),
+    (
+        "0 0 3 4",
+        "-2 0 1 0",
+        "0 0 1 2 3 1 1 0 0 1 0",
+        1,
+        "0 255",
+        "3 255",
+    ),
+    (
+        "0 0 3 4",
+        "-2 -2 0 0",
+        "0 0 1 1 1 1 1 0 0 0 0",
+        1,
+        "0 255",
+        "0 255",
+    ),
+    ("0 0 4 4", "5 -4 -4 0", MISSED, 2, OWN, OWN),
+    ("0 0 4 4", "5 0 -4 -4", MISSED, 1, OWN, OWN),
 ];
 
-/// A rectangle given as its corners keeps the same fractions.
+/// A rectangle given as its corners keeps the same fractions; its sides have other numbers.
 #[test]
 fn strokes_by_every_rule() {
-    for (window, stroke, common, count) in STROKES {
+    for (window, stroke, common, count, sides, edges) in STROKES {
         let lb = format!("lb {window} {stroke}");
         let cs = format!("cs {window} {stroke}");
         let cb = format!("cb {} {stroke}", as_corners(window));
         let fractions: Vec<&str> = common.split(' ').take(7).collect();
         expect(&[
-            (&lb, common),
-            (&cs, &format!("{common} {count}")),
-            (&cb, &fractions.join(" ")),
+            (&lb, &format!("{common} {sides}")),
+            (&cs, &format!("{common} {count} {sides}")),
+            (&cb, &format!("{} {edges}", fractions.join(" "))),
         ]);
     }
 }
