@@ -4,7 +4,7 @@ use mathlib.Core.Path.{_≡_, sym, subst, _∙_}
 use mathlib.Core.Logic.{⊎-elim}
 use mathlib.Core.List.{[], _∷_}
 use Prim.Native.Nat.{ℕ, suc}
-use lib.IntN.{ℤ, pos, negℤ, _+ℤ_, _-ℤ_, _*ℤ_}
+use lib.IntN.{ℤ, pos, negℤ, _+ℤ_, _*ℤ_}
 use lib.Signed.{_≤ℤ_, _<ℤ_}
 use Rattle.whole.proofs.Certificates.{ge, ge-by, gt-by, eq-cancel, eq, eqn, po, nn, le, lt, _⊞_, _⊠_, _⊹_}
 use Rattle.whole.proofs.Expressions.{Expr, Env, var, con, _⊕_, _⊖_, _⊗_, neg}

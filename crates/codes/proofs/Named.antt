@@ -1,13 +1,13 @@
 -- The side of a shortening is the least that fixes the new end: there the stroke crosses it, and at the old end the sides of lower numbers were met.
-use mathlib.Core.Path.{_≡_, refl}
+use mathlib.Core.Path.{_≡_}
 use mathlib.Core.Logic.{⊎-elim}
 use mathlib.Core.List.{[], _∷_}
-use Prim.Native.Nat.{ℕ, _<_}
+use Prim.Native.Nat.{_<_}
 use native.Mathlib.Omega.{arith}
 use lib.IntN.{ℤ, pos, negℤ, _*ℤ_}
 use lib.Signed.{_≤ℤ_, _<ℤ_}
 use Rattle.whole.proofs.Certificates.{ge, gt-by, clash, eq, eqn, eq-by, po, nn, le, lt, _⊞_, _⊠_}
-use Rattle.whole.proofs.Expressions.{Expr, var, con, _⊕_, _⊖_, _⊗_, neg, x0, x1, x2, x3}
+use Rattle.whole.proofs.Expressions.{Expr, var, con, _⊕_, _⊗_, neg, x0, x1, x2, x3}
 use Rattle.whole.proofs.Order.{≤-total}
 use Rattle.fraction.specs.declared.Fraction.{Fraction}
 use Rattle.grid.specs.declared.Stroke.{Stroke}
@@ -16,7 +16,7 @@ use Rattle.grid.specs.Sides.{Side, left, right, bottom, top, placeOf}
 use Rattle.spans.specs.Sides.{Condition, Inward, Outward, Fixes, FirstOf, here, later, StartSide, EndSide}
 use Rattle.spans.proofs.Sides.{not-inward, not-outward}
 use Rattle.strokes.specs.Sides.{condition, conditions, sideP, sideQ}
-use Rattle.codes.specs.Codes.{past, shortenStart, shortenEnd}
+use Rattle.codes.specs.Codes.{shortenStart, shortenEnd}
 use Rattle.codes.specs.Steps.{decided, OnLine}
 use Rattle.codes.proofs.Decided.{start-beyond, end-beyond, start-lower, end-lower}
 use Rattle.codes.proofs.Forms.{form, _≼_, beyond-form, inside-form, on-form}
@@ -86,9 +86,9 @@ module _ (w : Window) (s : Stroke) {f g : Fraction} (c : Fraction) (k : Side) (o
       let on = on-form w s k c (line .on) in
       let in-p = falls p q f g (o .proper .den0) (o .proper .den1) (o .order) (beyond-form w s k f (b .0)) (inside-form w s k g (b .1)) in
       let l = comes-later p q f c (beyond-form w s k f (b .0)) on (o .proper .den0) (line .den) in-p in record {
-        whole = λ z. absurd (clash (f .num ∷ f .den ∷ c .num ∷ c .den ∷ [])
+        remains = λ z. absurd (clash (f .num ∷ f .den ∷ c .num ∷ c .den ∷ [])
             (lt (x0 ⊗ x3) (x2 ⊗ x1) l ⊞ nn x0 (o .proper .low) ⊠ po x3 (line .den) ⊞ eq (neg x1) x2 (con (pos 0)) z) tt);
-        cut = λ _.
+        fixed = λ _.
             first-at w s (Fixes Inward c) k (record { crosses = in-p; on = on-line p q c on })
             (λ j h x.
             not-inward f c (o .proper .den0) (line .den) (met (sideP s j) (sideQ w s j) f (inside-form w s j f (start-lower w s f g k e j h))) l x);
@@ -100,9 +100,9 @@ module _ (w : Window) (s : Stroke) {f g : Fraction} (c : Fraction) (k : Side) (o
       let on = on-form w s k c (line .on) in
       let out-p = rises p q f g (o .proper .den0) (o .proper .den1) (o .order) (inside-form w s k f (b .0)) (beyond-form w s k g (b .1)) in
       let l = comes-sooner p q g c (beyond-form w s k g (b .1)) on (o .proper .den1) (line .den) out-p in record {
-        whole = λ z. absurd (clash (g .num ∷ g .den ∷ c .num ∷ c .den ∷ [])
+        remains = λ z. absurd (clash (g .num ∷ g .den ∷ c .num ∷ c .den ∷ [])
             (lt (x2 ⊗ x1) (x0 ⊗ x3) l ⊞ le x0 x1 (o .proper .high) ⊠ po x3 (line .den) ⊞ eq x1 x2 x3 z) tt);
-        cut = λ _.
+        fixed = λ _.
             first-at w s (Fixes Outward c) k (record { crosses = out-p; on = on-line p q c on })
             (λ j h x.
             not-outward g c (o .proper .den1) (line .den) (met (sideP s j) (sideQ w s j) g (inside-form w s j g (end-lower w s f g k e j h))) l x);

@@ -1,7 +1,7 @@
 -- Laws of the Cohen-Sutherland call, proved in proofs/Runs.antt.
 --   OneCountedAnswer    two answers that are right for one window and one stroke are equal, with their counts
 --   NeverMoreThanFour   the call never reports more than four shortenings
---   EnginesAgree        the two engines agree: refusal, fractions and points are those of `strokes::liang_barsky`
+--   EnginesAgree        the two engines agree in every field: refusal, fractions, points and sides are those of `strokes::liang_barsky`
 use mathlib.Core.Path.{_≡_}
 use Prim.Native.Nat.{_≤_}
 use Rattle.grid.specs.declared.Stroke.{Stroke}

@@ -4,7 +4,7 @@
 --   marksOf lo hi x under over   the same two bits for a coordinate x that is known itself, without a fraction
 --   endCode w x y       the code of the point (x, y), whose coordinates are whole numbers, as those of a stroke's two ends are
 --   PartOfWay f g       f and g are fractions of a stroke's way, and f is not the greater: the part of the way from f to g
---   Apart s k           the stroke's two ends are not equally far from the line of the side k, so that it meets the line at one fraction
+--   Apart s k           the stroke is not parallel to the line of the side k and has a length, so that it meets the line at one fraction
 --   WayMeets c a b f    at the fraction f the way from a to b is at c
 --   StrokeMeets w s k f   at the fraction f the stroke is on the line of the side k
 --   PieceOf w s p       the piece p is a part of the stroke, with the codes of its two points and the sides that fixed them

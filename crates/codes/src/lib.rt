@@ -26,15 +26,15 @@ ghost use Rattle.codes.specs.Steps.{decided as Steps·decided, CohenSuth
 ghost use Rattle.codes.specs.Workers.{outsideOf, marksOf, endCode, PartOfWay, Apart, WayMeets, StrokeMeets, PieceOf, Shortened, EndAt, KeptFrom, Finished};
 
 // The bits of a position code.
-const LEFT: u8 = 1;
+const LEFT_BIT: u8 = 1;
 
-const RIGHT: u8 = 2;
+const RIGHT_BIT: u8 = 2;
 
-const BELOW: u8 = 4;
+const BELOW_BIT: u8 = 4;
 
-const ABOVE: u8 = 8;
+const ABOVE_BIT: u8 = 8;
 
-// How often the rule shortened the stroke, and a stroke call's answer, so that the sides come last here too.
+// How often the rule shortened the stroke, and a stroke call's answer, in this order, so that the sides come last here too.
 #[repr(C)]
 pub struct CountedAnswer {
     pub shortenings: u32,
@@ -78,8 +78,8 @@ fn code(w: Window, s: Stroke, t: Fraction) -> u8
     requires { ⌜ OnWay t ⌝ }
     ensures { λ r. ⌜ r ≡ Codes·code w s t ⌝ }
 {
-    outside(w.left, w.right, s.x1, s.x2, t, LEFT, RIGHT)
-        | outside(w.bottom, w.top, s.y1, s.y2, t, BELOW, ABOVE)
+    outside(w.left, w.right, s.x1, s.x2, t, LEFT_BIT, RIGHT_BIT)
+        | outside(w.bottom, w.top, s.y1, s.y2, t, BELOW_BIT, ABOVE_BIT)
 }
 
 // The same two bits for a coordinate x of an end of the stroke, which needs no products.
@@ -93,7 +93,7 @@ fn marks(lo: i32, hi: i32, x: i32, under: u8, over: u8) -> u8
 fn end_code(w: Window, x: i32, y: i32) -> u8
     ensures { λ r. ⌜ r ≡ endCode w x y ⌝ }
 {
-    marks(w.left, w.right, x, LEFT, RIGHT) | marks(w.bottom, w.top, y, BELOW, ABOVE)
+    marks(w.left, w.right, x, LEFT_BIT, RIGHT_BIT) | marks(w.bottom, w.top, y, BELOW_BIT, ABOVE_BIT)
 }
 
 // What the rule does with a piece whose points have the codes a and b, by the table.

@@ -24,7 +24,7 @@ use Rattle.spans.specs.Spans.{SpanOf, SomeLeft, KeptBy}
 use Rattle.spans.proofs.Cutting.{in-time}
 use Rattle.spans.proofs.Parts.{part-unique, part-missed, none-left, in-first, in-last, span-part}
 use Rattle.spans.proofs.Sides.{start-lowest, end-lowest, start-unique, end-unique, own-ends}
-use Rattle.corners.specs.Edges.{edges}
+use Rattle.corners.specs.Edges.{edgeConditions}
 use Rattle.corners.specs.Corners.{cyrusBeckRefusal, KeepsIn, blankAnswer, CornerClipped}
 use Rattle.corners.specs.Laws.{OneCornerAnswer, EdgeOrOwnEnd}
 use Rattle.corners.specs.declared.CornerAnswer.{CornerAnswer}
@@ -32,7 +32,7 @@ use Rattle.corners.proofs.Edges.{every-edge, edges-count}
 use Rattle.corners.proofs.Refusals.{nothing-refused}
 
 -- what meets the condition of every edge is what is kept
-kept-span : {A : ℕ} (cs : List Point) (s : Stroke) {r : SidedSpan} → KeptBy A (edges cs s) r → SpanOf A (KeepsIn cs s) (r .span)
+kept-span : {A : ℕ} (cs : List Point) (s : Stroke) {r : SidedSpan} → KeptBy A (edgeConditions cs s) r → SpanOf A (KeepsIn cs s) (r .span)
 kept-span cs s g = record {
   proper = g .span .proper;
   sized = g .span .sized;
@@ -40,7 +40,7 @@ kept-span cs s g = record {
   keeps = λ n d h i. every-edge cs s n d .1 (g .span .keeps n d h i);
 }
 
-module _ {A : ℕ} (cs : List Point) (s : Stroke) {r : SidedSpan} (g : KeptBy A (edges cs s) r) where
+module _ {A : ℕ} (cs : List Point) (s : Stroke) {r : SidedSpan} (g : KeptBy A (edgeConditions cs s) r) where
   pub clip-missed : lessThan (r .span .last) (r .span .first) ≡ true → CornerClipped cs s (blankAnswer none)
   clip-missed e = record {
     number = refl;
@@ -82,8 +82,8 @@ clip-unique {cs} {s} {a} {b} p q = go (a .kept) refl
     go false e = p .missed e ∙ sym (q .missed (sym (same .0) ∙ e))
     go true e =
         let f = sym (same .0) ∙ e in
-        let in-by = start-unique (p .start-side e) (subst (λ (t : Fraction). StartSide (edges cs s) t (b .side0)) (sym (same .1)) (q .start-side f)) in
-        let out-by = end-unique (p .end-side e) (subst (λ (t : Fraction). EndSide (edges cs s) t (b .side1)) (sym (same .2)) (q .end-side f)) in
+        let in-by = start-unique (p .start-side e) (subst (λ (t : Fraction). StartSide (edgeConditions cs s) t (b .side0)) (sym (same .1)) (q .start-side f)) in
+        let out-by = end-unique (p .end-side e) (subst (λ (t : Fraction). EndSide (edgeConditions cs s) t (b .side1)) (sym (same .2)) (q .end-side f)) in
         let number = p .number ∙ sym (q .number) in
         let place = p .place ∙ sym (q .place) in
         λ i. record { number = number i; place = place i; kept = same .0 i; t0 = same .1 i; t1 = same .2 i; side0 = in-by i; side1 = out-by i }

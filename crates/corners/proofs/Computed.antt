@@ -2,14 +2,12 @@
 use mathlib.Core.Path.{_≡_, refl}
 use mathlib.Core.Bool.{true}
 use mathlib.Core.List.{List}
-use Prim.Native.Nat.{ℕ, _<_}
 use native.Mathlib.Omega.{arith}
 use borrow.Author.Tests.{eqb-true, eqb-false}
 use lib.Dec.{eqb}
 use lib.IntN.{ℤ}
 use lib.ListN.{length}
 use Rattle.whole.specs.Choice.{if_then_else_}
-use Rattle.whole.specs.Within.{Within}
 use Rattle.whole.proofs.Comparisons.{by-test}
 use Rattle.fraction.specs.Fraction.{lessThan}
 use Rattle.fraction.proofs.Computed.{lowestOf, lowestOf-is}
@@ -21,7 +19,7 @@ use Rattle.convex.specs.Corners.{cornersOf, CornersOnTable}
 use Rattle.spans.specs.Spans.{largest, KeptBy}
 use Rattle.spans.proofs.Computed.{keptOf, keptOf-is}
 use Rattle.corners.specs.Corners.{cyrusBeckRefusal, blankAnswer, CornerClipped, CyrusBeck}
-use Rattle.corners.specs.Edges.{edge, edges}
+use Rattle.corners.specs.Edges.{edgeConditions}
 use Rattle.corners.specs.declared.CornerAnswer.{CornerAnswer}
 use Rattle.corners.proofs.Answers.{clip-missed, clip-kept, one-corner-answer}
 use Rattle.corners.proofs.Edges.{first-all, edge-within}
@@ -29,7 +27,7 @@ use Rattle.corners.proofs.Refusals.{nothing-refused}
 
 unfoldable pub clippedOf : List Point → Stroke → CornerAnswer
 clippedOf cs s =
-    let r = keptOf (edges cs s) in
+    let r = keptOf (edgeConditions cs s) in
     let f = r .span .first in
     let l = r .span .last in
     if lessThan l f then blankAnswer none else record {
@@ -46,8 +44,8 @@ clippedOf-is : {zs : List ℤ} {s : Stroke} → CornersOnTable zs → StrokeOnTa
 unfolding clippedOf
 clippedOf-is {zs} {s} hc hs =
     let cs = cornersOf zs in
-    let r = keptOf (edges cs s) in
-    let g : KeptBy largest (edges cs s) r = keptOf-is (omega arith) (edges cs s) (first-all cs s (length cs) (λ k h. edge-within hc k h hs)) in
+    let r = keptOf (edgeConditions cs s) in
+    let g : KeptBy largest (edgeConditions cs s) r = keptOf-is (omega arith) (edgeConditions cs s) (first-all cs s (length cs) (λ k h. edge-within hc k h hs)) in
     by-test (lessThan (r .span .last) (r .span .first)) (CornerClipped cs s)
     (λ e. clip-missed cs s g e)
     (λ e. clip-kept cs s g e (lowestOf-is _ (g .span .proper .den0)) (lowestOf-is _ (g .span .proper .den1)))

@@ -1,6 +1,6 @@
 -- One edge is one condition p·t ≤ q, since det(a, b, point at n/d) = q·d − p·n; what the edges so far leave, one more cuts.
 use mathlib.Core.Path.{_≡_, refl, sym, ap, _∙_, subst, transport}
-use mathlib.Core.List.{List, [], _∷_, _++_}
+use mathlib.Core.List.{List, [], _∷_}
 use Prim.Native.Nat.{ℕ, zero, suc, _<_}
 use native.Mathlib.Omega.{arith}
 use borrow.Author.Count.{below-more}
@@ -29,7 +29,7 @@ use Rattle.spans.specs.Sides.{Condition}
 use Rattle.spans.specs.Spans.{largest, SidedCut, KeptBy}
 use Rattle.spans.proofs.Sides.{kept-by-more}
 use Rattle.corners.specs.Corners.{pointAt}
-use Rattle.corners.specs.Edges.{edgeP, edgeQ, edge, firstEdges, EdgeCut}
+use Rattle.corners.specs.Edges.{edgeP, edgeQ, edgeCondition, firstConditions, EdgeCut}
 use Rattle.corners.specs.Laws.{EveryEdge}
 use Rattle.corners.proofs.Places.{edges-of, edges-at}
 
@@ -62,14 +62,15 @@ module _ (a b : Point) (s : Stroke) (n d : ℤ) where
 
 -- ---- all edges
 module _ {P : Condition → Type 0} (cs : List Point) (s : Stroke) where
-  pub first-all : (k : ℕ) → ((j : ℕ) → j < k → P (edge cs s j)) → All P (firstEdges cs s k)
+  pub first-all : (k : ℕ) → ((j : ℕ) → j < k → P (edgeCondition cs s j)) → All P (firstConditions cs s k)
   first-all zero f = ∅
   first-all (suc k) f = all-append (first-all k (λ j h. f j (omega arith))) (f k (omega arith) ◂ ∅)
 
-  all-first : (k : ℕ) → All P (firstEdges cs s k) → (j : ℕ) → j < k → P (edge cs s j)
+  all-first : (k : ℕ) → All P (firstConditions cs s k) → (j : ℕ) → j < k → P (edgeCondition cs s j)
   all-first zero a j h = absurd (omega arith)
   all-first (suc k) a j h =
-      below-more (λ (j : ℕ). P (edge cs s j)) k (all-first k (all-left (firstEdges cs s k) _ a)) (all-head (all-right (firstEdges cs s k) a)) j (omega arith)
+      below-more (λ (j : ℕ). P (edgeCondition cs s j)) k (all-first k (all-left (firstConditions cs s k) _ a))
+      (all-head (all-right (firstConditions cs s k) a)) j (omega arith)
 
 pub every-edge : EveryEdge
 every-edge cs s n d = (
@@ -77,9 +78,9 @@ every-edge cs s n d = (
   λ m. record { time = m .time; inside = edges-of cs (λ j h. edge-keeps _ _ s n d (all-first cs s (length cs) (m .each) j h)) },
 )
 
-pub edges-count : (cs : List Point) (s : Stroke) (k : ℕ) → length (firstEdges cs s k) ≡ k
+pub edges-count : (cs : List Point) (s : Stroke) (k : ℕ) → length (firstConditions cs s k) ≡ k
 edges-count cs s zero = refl
-edges-count cs s (suc k) = omega (arith, length-append (firstEdges cs s k) (edge cs s k ∷ []), edges-count cs s k)
+edges-count cs s (suc k) = omega (arith, length-append (firstConditions cs s k) (edgeCondition cs s k ∷ []), edges-count cs s k)
 
 -- ---- of corners of the table
 module _ (a b : Corner) (s : Stroke) where
@@ -128,7 +129,7 @@ module _ {zs : List ℤ} (g : CornersOnTable zs) (k : ℕ) (h : k < length (corn
   both-on = (corner-on g k h, corner-on g (ahead zs k) ahead-below)
 
   pub edge-within : {s : Stroke} → StrokeOnTable s
-      → Within largest (edge (cornersOf zs) s k .p) × Within largest (edge (cornersOf zs) s k .q)
+      → Within largest (edgeCondition (cornersOf zs) s k .p) × Within largest (edgeCondition (cornersOf zs) s k .q)
   edge-within {s} hs =
       let first = sym (point-at zs k h) in
       let second = sym (point-at zs (ahead zs k) ahead-below) in (
@@ -136,8 +137,8 @@ module _ {zs : List ℤ} (g : CornersOnTable zs) (k : ℕ) (h : k < length (corn
         transport (λ t. Within largest (edgeQ (first t) (second t) s)) (q-within (corner zs k) (corner zs (ahead zs k)) s (both-on .0) (both-on .1) hs),
       )
 
-  pub edges-more : {s : Stroke} {kept : SidedSpan} {a b : Corner} {after : SidedSpan} → StrokeOnTable s → KeptBy largest (firstEdges (cornersOf zs) s k) kept
-      → a ≡ corner zs k → b ≡ corner zs (ahead zs k) → EdgeCut a b s k kept after → KeptBy largest (firstEdges (cornersOf zs) s (suc k)) after
+  pub edges-more : {s : Stroke} {kept : SidedSpan} {a b : Corner} {after : SidedSpan} → StrokeOnTable s → KeptBy largest (firstConditions (cornersOf zs) s k) kept
+      → a ≡ corner zs k → b ≡ corner zs (ahead zs k) → EdgeCut a b s k kept after → KeptBy largest (firstConditions (cornersOf zs) s (suc k)) after
   edges-more {s} {kept} {a} {b} {after} hs f ea eb c =
       let w = edge-within hs in
       kept-by-more f (transport (λ t. SidedCut (edgeP (first t) (second t) s) (edgeQ (first t) (second t) s) (number t) kept after) c) (omega arith) (w .0) (w .1)
@@ -148,5 +149,5 @@ module _ {zs : List ℤ} (g : CornersOnTable zs) (k : ℕ) (h : k < length (corn
       second : pointOf b ≡ at (cornersOf zs) (ahead zs k)
       second = ap pointOf eb ∙ sym (point-at zs (ahead zs k) ahead-below)
 
-      number : k ≡ length (firstEdges (cornersOf zs) s k)
+      number : k ≡ length (firstConditions (cornersOf zs) s k)
       number = sym (edges-count (cornersOf zs) s k)

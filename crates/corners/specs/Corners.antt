@@ -20,7 +20,7 @@ use Rattle.rings.specs.Rings.{InRing}
 use Rattle.convex.specs.Corners.{cornersOf, countRefusal, convexRefusal}
 use Rattle.spans.specs.Parts.{Time, Part, zeroth}
 use Rattle.spans.specs.Sides.{noSide, StartSide, EndSide}
-use Rattle.corners.specs.Edges.{edges}
+use Rattle.corners.specs.Edges.{edgeConditions}
 use Rattle.corners.specs.declared.CornerAnswer.{CornerAnswer}
 
 -- ---- refusals
@@ -46,11 +46,12 @@ pub record CornerClipped (cs : List Point) (s : Stroke) (a : CornerAnswer) : Typ
   pub number : a .number ≡ 0
   pub place : a .place ≡ 0
   pub part : Part (KeepsIn cs s) (a .kept) (a .t0) (a .t1)
-  pub start-side : a .kept ≡ true → StartSide (edges cs s) (a .t0) (a .side0)
-  pub end-side : a .kept ≡ true → EndSide (edges cs s) (a .t1) (a .side1)
+  pub start-side : a .kept ≡ true → StartSide (edgeConditions cs s) (a .t0) (a .side0)
+  pub end-side : a .kept ≡ true → EndSide (edgeConditions cs s) (a .t1) (a .side1)
   pub missed : a .kept ≡ false → a ≡ blankAnswer none
 
--- What is kept is said of points in the plane, as for a rectangle, so that the two kinds of window can be compared.
+-- What is kept is said of points in the plane and its sides of their conditions p·t ≤ q, as for a rectangle, so that the two kinds of window can be
+-- compared.
 pub record CyrusBeck (zs : List ℤ) (s : Stroke) (a : CornerAnswer) : Type 0 where
   pub refused : (cyrusBeckRefusal zs s .number ≡ 0 → ⊥) → a ≡ blankAnswer (cyrusBeckRefusal zs s)
   pub done : cyrusBeckRefusal zs s .number ≡ 0 → CornerClipped (cornersOf zs) s a

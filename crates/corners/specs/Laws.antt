@@ -1,7 +1,7 @@
 -- Laws of the Cyrus-Beck call, proved in proofs/Answers.antt and proofs/Edges.antt.
 --   OneCornerAnswer   two answers that are right for one list of corners and one stroke are equal
---   EdgeOrOwnEnd      255 stands for t0 exactly where t0 is 0/1, and for t1 exactly where t1 is 1/1 or nothing is kept; else it is an edge, by one of
---                     the window's corners
+--   EdgeOrOwnEnd      the side of t0 is 255 exactly where t0 is 0/1, and that of t1 exactly where t1 is 1/1 or nothing is kept; else it is an edge's
+--                     number, below the count of the corners
 --   EveryEdge         a fraction is kept exactly where it is from 0 to 1 and satisfies p·t ≤ q for every edge
 use mathlib.Core.Path.{_≡_}
 use mathlib.Core.List.{List}
@@ -13,7 +13,7 @@ use Rattle.rings.specs.Points.{Point}
 use Rattle.convex.specs.Corners.{cornersOf}
 use Rattle.spans.specs.Sides.{MeetsAll, OwnEnds}
 use Rattle.corners.specs.Corners.{KeepsIn, CyrusBeck}
-use Rattle.corners.specs.Edges.{edges}
+use Rattle.corners.specs.Edges.{edgeConditions}
 use Rattle.corners.specs.declared.CornerAnswer.{CornerAnswer}
 
 abbrev pub OneCornerAnswer : Type 0
@@ -25,4 +25,4 @@ EdgeOrOwnEnd = (zs : List ℤ) (s : Stroke) (a : CornerAnswer) → CyrusBeck zs 
 
 -- the rule's own words for what is kept; `KeepsIn` says the same of points in the plane
 abbrev pub EveryEdge : Type 0
-EveryEdge = (cs : List Point) (s : Stroke) (n d : ℤ) → KeepsIn cs s n d ↔ MeetsAll (edges cs s) n d
+EveryEdge = (cs : List Point) (s : Stroke) (n d : ℤ) → KeepsIn cs s n d ↔ MeetsAll (edgeConditions cs s) n d

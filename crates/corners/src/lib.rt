@@ -12,7 +12,7 @@ ghost use Rattle.convex.specs.Corners.{cornersOf, CornersOnTable};
 ghost use Rattle.convex.specs.Ways.{CornerOnTable, Short, crossOf};
 ghost use Rattle.spans.specs.Spans.{largest, ProperSpan, Sized, KeptBy};
 ghost use Rattle.corners.specs.Corners.{cyrusBeckRefusal, CornerClipped, CyrusBeck, blankAnswer};
-ghost use Rattle.corners.specs.Edges.{edges, EdgeCut};
+ghost use Rattle.corners.specs.Edges.{edgeConditions, EdgeCut};
 
 // What the call answers: a refusal's number and place, or whether the stroke is kept, from which fraction of its way to which, and the edges that
 // fixed the two fractions, each by the number of its first corner, or `NO_SIDE`.
@@ -61,7 +61,7 @@ fn cut_by_edge(a: Corner, b: Corner, s: Stroke, side: u8, kept: SidedSpan) -> Si
 fn kept_span(c: &[i32], s: Stroke) -> SidedSpan
     requires { ⌜ CornersOnTable (now c) ⌝ }
     requires { ⌜ StrokeOnTable s ⌝ }
-    ensures { λ r. ⌜ KeptBy largest (edges (cornersOf (now (c .entry))) s) r ⌝ }
+    ensures { λ r. ⌜ KeptBy largest (edgeConditions (cornersOf (now (c .entry))) s) r ⌝ }
 {
     let mut kept = spans::whole();
     let count = c.len() / 2;

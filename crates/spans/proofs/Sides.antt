@@ -3,7 +3,7 @@
 -- by one number each.
 use mathlib.Core.Path.{_≡_, refl, sym, _∙_, ap}
 use mathlib.Core.Bool.{Bool, true, false}
-use mathlib.Core.List.{List, [], _∷_, _++_, map}
+use mathlib.Core.List.{List, [], _∷_, _++_}
 use mathlib.Core.Logic.{_⊎_, _↔_, inl, inr, ⊎-elim}
 use Prim.Native.Nat.{ℕ, suc, _≤_, _<_}
 use native.Mathlib.Omega.{arith}
@@ -13,7 +13,7 @@ use lib.Signed.{_≤ℤ_, _<ℤ_}
 use Rattle.whole.specs.Within.{Within}
 use Rattle.whole.proofs.Certificates.{clash, eq, eqn, eq-by, eq-cancel, ge-by, po, nn, le, lt, _⊞_, _⊠_, _⊹_}
 use Rattle.whole.proofs.Comparisons.{tt-ff}
-use Rattle.whole.proofs.Expressions.{Expr, var, con, _⊖_, _⊗_, neg, x0, x1, x2, x3}
+use Rattle.whole.proofs.Expressions.{var, con, _⊖_, _⊗_, neg, x0, x1, x2, x3}
 use Rattle.whole.proofs.Order.{zarith, ≤-antisym, ≤-total}
 use Rattle.whole.proofs.Polynomials.{ring}
 use Rattle.fraction.specs.declared.Fraction.{Fraction}
@@ -22,13 +22,12 @@ use Rattle.fraction.proofs.LowestTerms.{lowest-unique, lowest-over-one}
 use Rattle.rings.specs.Lists.{All, ∅, _◂_}
 use Rattle.rings.proofs.Lists.{all-append, all-left, all-right, all-head, all-map}
 use Rattle.spans.specs.Parts.{Part, zeroth, unit}
-use Rattle.spans.specs.Sides.{Condition, MeetsAll, Inward, Outward, Fixes, FirstOf, here, later, noSide, SideNamed, StartSide, EndSide, OwnEnds}
-use Rattle.spans.specs.Spans.{InSpan, ProperSpan, SpanCut, SpanOf, wholeSpan, SomeLeft, StartCut, EndCut, SidedCut, KeptBy}
+use Rattle.spans.specs.Sides.{Condition, Inward, Outward, Fixes, FirstOf, here, later, noSide, SideNamed, StartSide, EndSide, OwnEnds}
+use Rattle.spans.specs.Spans.{ProperSpan, SpanCut, wholeSpan, SomeLeft, StartCut, EndCut, SidedCut, KeptBy}
 use Rattle.spans.specs.Spans.{same-start, later-start, same-end, sooner-end}
 use Rattle.spans.specs.declared.SidedSpan.{SidedSpan}
-use Rattle.spans.specs.declared.Span.{Span}
 use Rattle.spans.proofs.Cutting.{in-time, comes-later, never, leaves-sooner}
-use Rattle.spans.proofs.Parts.{all, all-proper, all-sized, in-all, in-first, in-last}
+use Rattle.spans.proofs.Parts.{all-proper, all-sized, in-all, in-first, in-last}
 
 -- ---- the first of a list
 module _ {A : Type 0} {P : A → Type 0} where
@@ -46,12 +45,6 @@ module _ {A : Type 0} {P : A → Type 0} where
   pub first-behind : {xs : List A} {y : A} → All (λ (x : A). P x → ⊥) xs → P y → FirstOf P (xs ++ y ∷ []) (length xs)
   first-behind ∅ p = here p
   first-behind (n ◂ a) p = later n (first-behind a p)
-
--- where P holds of f x exactly when Q holds of g x
-pub first-over : {A B C : Type 0} {P : B → Type 0} {Q : C → Type 0} (f : A → B) (g : A → C)
-    → ((x : A) → P (f x) → Q (g x)) → ((x : A) → Q (g x) → P (f x)) → (xs : List A) {k : ℕ} → FirstOf P (map f xs) k → FirstOf Q (map g xs) k
-first-over f g to from (x ∷ xs) (here p) = here (to x p)
-first-over f g to from (x ∷ xs) (later n r) = later (λ q. n (from x q)) (first-over f g to from xs r)
 
 -- ---- a side is not crossed where it was met before
 module _ (f g : Fraction) (hf : pos 0 <ℤ f .den) (hg : pos 0 <ℤ g .den) {c : Condition} (meets : (c .p *ℤ f .num) ≤ℤ (c .q *ℤ f .den)) where
@@ -73,7 +66,7 @@ equal-or-not a b = ⊎-elim (λ h. ⊎-elim (λ k. inl (≤-antisym h k)) (λ k.
 
 module _ {own : Type 0} {P : Condition → Type 0} {cs : List Condition} where
   named-unique : own ⊎ (own → ⊥) → {j k : ℕ} → SideNamed own P cs j → SideNamed own P cs k → j ≡ k
-  named-unique t p q = ⊎-elim (λ o. p .whole o ∙ sym (q .whole o)) (λ n. least-unique (p .cut n) (q .cut n)) t
+  named-unique t p q = ⊎-elim (λ o. p .remains o ∙ sym (q .remains o)) (λ n. least-unique (p .fixed n) (q .fixed n)) t
 
 pub start-unique : {cs : List Condition} {f : Fraction} {j k : ℕ} → StartSide cs f j → StartSide cs f k → j ≡ k
 start-unique {f = f} p q = named-unique (equal-or-not (f .num) (pos 0)) p q
@@ -83,28 +76,28 @@ end-unique {f = f} p q = named-unique (equal-or-not (f .num) (f .den)) p q
 
 -- ---- in lowest terms
 module _ {f g : Fraction} (h : pos 0 <ℤ f .den) (l : LowestOf (f .num) (f .den) g) where
-  fixes-lowest : {Crosses : ℤ → Type 0} {c : Condition} → Fixes Crosses f c → Fixes Crosses g c
+  fixes-lowest : {Towards : ℤ → Type 0} {c : Condition} → Fixes Towards f c → Fixes Towards g c
   fixes-lowest {c = c} x = record {
     crosses = x .crosses;
     on = eq-cancel (f .num ∷ f .den ∷ g .num ∷ g .den ∷ c .p ∷ c .q ∷ []) (po x1 h) (var 4 ⊗ x2) (var 5 ⊗ x3)
         (eqn (var 4) (x2 ⊗ x1) (x0 ⊗ x3) (l .same) ⊹ eqn x3 (var 4 ⊗ x0) (var 5 ⊗ x1) (x .on)) tt;
   }
 
-  lowest-fixes : {Crosses : ℤ → Type 0} {c : Condition} → Fixes Crosses g c → Fixes Crosses f c
+  lowest-fixes : {Towards : ℤ → Type 0} {c : Condition} → Fixes Towards g c → Fixes Towards f c
   lowest-fixes {c = c} x = record {
     crosses = x .crosses;
     on = eq-cancel (f .num ∷ f .den ∷ g .num ∷ g .den ∷ c .p ∷ c .q ∷ []) (po x3 (l .lowest .positive)) (var 4 ⊗ x0) (var 5 ⊗ x1)
         (eqn (neg (var 4)) (x2 ⊗ x1) (x0 ⊗ x3) (l .same) ⊹ eqn x1 (var 4 ⊗ x2) (var 5 ⊗ x3) (x .on)) tt;
   }
 
-  named-lowest : {Crosses : ℤ → Type 0} {own own′ : Type 0} {cs : List Condition} {k : ℕ} → (own → own′) → (own′ → own)
-      → SideNamed own (Fixes Crosses f) cs k → SideNamed own′ (Fixes Crosses g) cs k
-  named-lowest {Crosses = Crosses} {cs = cs} to from p = record {
-    whole = λ o. p .whole (from o);
-    cut = λ n. first-same cs (p .cut (λ o. n (to o)));
+  named-lowest : {Towards : ℤ → Type 0} {own own′ : Type 0} {cs : List Condition} {k : ℕ} → (own → own′) → (own′ → own)
+      → SideNamed own (Fixes Towards f) cs k → SideNamed own′ (Fixes Towards g) cs k
+  named-lowest {Towards = Towards} {cs = cs} to from p = record {
+    remains = λ o. p .remains (from o);
+    fixed = λ n. first-same cs (p .fixed (λ o. n (to o)));
   }
     where
-      first-same : (cs : List Condition) {k : ℕ} → FirstOf (Fixes Crosses f) cs k → FirstOf (Fixes Crosses g) cs k
+      first-same : (cs : List Condition) {k : ℕ} → FirstOf (Fixes Towards f) cs k → FirstOf (Fixes Towards g) cs k
       first-same (c ∷ cs) (here p) = here (fixes-lowest p)
       first-same (c ∷ cs) (later n r) = later (λ q. n (lowest-fixes q)) (first-same cs r)
 
@@ -127,10 +120,10 @@ module _ {f g : Fraction} (h : pos 0 <ℤ f .den) (l : LowestOf (f .num) (f .den
 
 -- ---- the stroke's own ends
 pub own-start : {cs : List Condition} → StartSide cs zeroth noSide
-own-start = record { whole = λ _. refl; cut = λ n. absurd (n refl) }
+own-start = record { remains = λ _. refl; fixed = λ n. absurd (n refl) }
 
 pub own-end : {cs : List Condition} → EndSide cs unit noSide
-own-end = record { whole = λ _. refl; cut = λ n. absurd (n refl) }
+own-end = record { remains = λ _. refl; fixed = λ n. absurd (n refl) }
 
 -- ---- a number that is named is that of a side, or of none exactly where the end is the stroke's own
 first-below : {A : Type 0} {P : A → Type 0} {xs : List A} {k : ℕ} → FirstOf P xs k → k < length xs
@@ -140,8 +133,8 @@ first-below (later n f) = let h = first-below f in omega arith
 named-own : {own own′ : Type 0} {P : Condition → Type 0} {cs : List Condition} {k : ℕ} → length cs < noSide → own ⊎ (own → ⊥) → (own → own′) → (own′ → own)
     → SideNamed own P cs k → ((k ≡ noSide) ↔ own′) × ((k ≡ noSide → ⊥) → k < length cs)
 named-own few t to from p =
-    ⊎-elim (λ o. ((λ _. to o, λ _. p .whole o), λ n. absurd (n (p .whole o))))
-    (λ n. let h = first-below (p .cut n) in ((λ e. absurd (omega arith), λ o. absurd (n (from o))), λ _. h)) t
+    ⊎-elim (λ o. ((λ _. to o, λ _. p .remains o), λ n. absurd (n (p .remains o))))
+    (λ n. let h = first-below (p .fixed n) in ((λ e. absurd (omega arith), λ o. absurd (n (from o))), λ _. h)) t
 
 module _ {K : ℤ → ℤ → Type 0} {cs : List Condition} {kept : Bool} {t0 t1 : Fraction} {i j : ℕ} (p : Part K kept t0 t1) (few : length cs < noSide) where
   pub own-ends : (kept ≡ true → StartSide cs t0 i) → (kept ≡ true → EndSide cs t1 j) → (kept ≡ false → (i ≡ noSide) × (j ≡ noSide))
@@ -193,18 +186,18 @@ Met cs f = All (λ (c : Condition). (c .p *ℤ f .num) ≤ℤ (c .q *ℤ f .den)
 module _ {cs : List Condition} {p q : ℤ} where
   start-more : {f e : Fraction} {i j : ℕ} → pos 0 ≤ℤ f .num → pos 0 <ℤ f .den → pos 0 <ℤ e .den → Met cs f
       → StartCut p q (length cs) f i e j → StartSide cs f i → StartSide (cs ++ record { p = p; q = q } ∷ []) e j
-  start-more low hf he met same-start n = record { whole = n .whole; cut = λ o. first-before _ (n .cut o) }
+  start-more low hf he met same-start n = record { remains = n .remains; fixed = λ o. first-before _ (n .fixed o) }
   start-more {f} {e} low hf he met (later-start l x) n = record {
-    whole = λ o. absurd (clash (f .num ∷ f .den ∷ e .num ∷ e .den ∷ []) (lt (x0 ⊗ x3) (x2 ⊗ x1) l ⊞ nn x0 low ⊠ po x3 he ⊞ eq (neg x1) x2 (con (pos 0)) o) tt);
-    cut = λ o. first-behind (all-map (λ (c : Condition) m. not-inward f e hf he m l) met) x;
+    remains = λ o. absurd (clash (f .num ∷ f .den ∷ e .num ∷ e .den ∷ []) (lt (x0 ⊗ x3) (x2 ⊗ x1) l ⊞ nn x0 low ⊠ po x3 he ⊞ eq (neg x1) x2 (con (pos 0)) o) tt);
+    fixed = λ o. first-behind (all-map (λ (c : Condition) m. not-inward f e hf he m l) met) x;
   }
 
   end-more : {f e : Fraction} {i j : ℕ} → f .num ≤ℤ f .den → pos 0 <ℤ f .den → pos 0 <ℤ e .den → Met cs f
       → EndCut p q (length cs) f i e j → EndSide cs f i → EndSide (cs ++ record { p = p; q = q } ∷ []) e j
-  end-more high hf he met same-end n = record { whole = n .whole; cut = λ o. first-before _ (n .cut o) }
+  end-more high hf he met same-end n = record { remains = n .remains; fixed = λ o. first-before _ (n .fixed o) }
   end-more {f} {e} high hf he met (sooner-end l x) n = record {
-    whole = λ o. absurd (clash (f .num ∷ f .den ∷ e .num ∷ e .den ∷ []) (lt (x2 ⊗ x1) (x0 ⊗ x3) l ⊞ le x0 x1 high ⊠ po x3 he ⊞ eq x1 x2 x3 o) tt);
-    cut = λ o. first-behind (all-map (λ (c : Condition) m. not-outward f e hf he m l) met) x;
+    remains = λ o. absurd (clash (f .num ∷ f .den ∷ e .num ∷ e .den ∷ []) (lt (x2 ⊗ x1) (x0 ⊗ x3) l ⊞ le x0 x1 high ⊠ po x3 he ⊞ eq x1 x2 x3 o) tt);
+    fixed = λ o. first-behind (all-map (λ (c : Condition) m. not-outward f e hf he m l) met) x;
   }
 
 module _ {A : ℕ} {cs : List Condition} {s r : SidedSpan} {p q : ℤ} (g : KeptBy A cs s) (c : SidedCut p q (length cs) s r) where

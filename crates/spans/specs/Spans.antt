@@ -4,14 +4,15 @@
 --   InSpan s n d   n/d lies in the span s
 --   ProperSpan s   s lies in 0 to 1, unless it is empty, and its denominators are positive
 --   Sized A s      its numbers are not above A
---   SpanCut p q s r   what `cut` promises: r is what of s has p·t ≤ q, with numbers no larger than those of s, p and q
+--   SpanCut p q s r   r is what of s has p·t ≤ q, with numbers no larger than those of s, p and q
 --   SpanOf A K s   s is proper, its numbers are not above A, and its fractions are those that are kept
 --   wholeSpan      from 0/1 to 1/1, the stroke's own ends
 --   SomeLeft s     some fraction lies in s: the first is not above the last
---   StartCut, EndCut p q k f i g j   the start (the end) f of a span, named by i, becomes g, named by j: it stays, or it is put where the stroke
---                  crosses the side k, of p and q, inward (outward), and then it is later (sooner) than it was
---   SidedCut p q k s r   what `cut` promises: r is what of s has p·t ≤ q, and where some of it is left its sides are named by k or as before
---   KeptBy A cs s  s has exactly the fractions that meet all of cs, and its sides are named
+--   StartCut p q k f i g j   the start was f, fixed by the side i, and is g, fixed by the side j: both as before, or the stroke crosses the side k, of p
+--                  and q, inward at g, which is later than f, and j is k
+--   EndCut p q k f i g j   the same of the end: the stroke crosses the side outward at g, which is sooner than f
+--   SidedCut p q k s r   what `cut` promises: r is what of s has p·t ≤ q, and where some is left, of its start and its end StartCut and EndCut hold
+--   KeptBy A cs s  s has exactly the fractions that meet all of cs, its numbers are not above A, and where some is left its sides are those that fixed it
 use mathlib.Core.List.{List}
 use Prim.Native.Nat.{ℕ, _≤_}
 use lib.IntN.{ℤ, pos, _*ℤ_}

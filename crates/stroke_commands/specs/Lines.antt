@@ -2,8 +2,9 @@
 --   withPart fs kept t0 t1   the fields fs and K n0 d0 n1 d1
 --   withSides fs side0 side1   the fields fs and Z0 Z1
 --   partFields a       N P K n0 d0 n1 d1 ax ay bx by
---   strokeFields a     the same and Z0 Z1;  countedFields a: the same and S Z0 Z1;  cornerFields a: N P K n0 d0 n1 d1
---                      Z0 Z1
+--   strokeFields a     partFields and Z0 Z1;  countedFields a: partFields and S Z0 Z1;  cornerFields a: N P K n0 d0 n1
+--                      d1 Z0 Z1. N is the refusal, P its place, K 1 for kept, S the count of shortenings, Z0 and Z1 the
+--                      sides
 --   PairArguments      what lb and cs ask of: a window and a stroke;  CornerArguments, cb: the numbers of a window's
 --                      corners, and a stroke
 --   AsksPair text p    the text is l b r t x1 y1 x2 y2 of these

@@ -1,5 +1,4 @@
--- The way of one coordinate from a to b: plainly beyond lo or hi, plainly between them, and cut by the two conditions of its axis.
---   CutAcross lo hi a b s r   r is what of the span s is from lo to hi on the way from a to b
+-- The way of one coordinate from a to b: plainly beyond lo or hi, plainly between them, and by the two conditions of its axis.
 use mathlib.Core.List.{[], _∷_}
 use Prim.Native.Nat.{_≤_}
 use lib.IntN.{ℤ, pos, negℤ, _-ℤ_, _*ℤ_}
@@ -7,14 +6,8 @@ use lib.Signed.{_≤ℤ_, _<ℤ_}
 use Rattle.whole.proofs.Certificates.{ge, clash, po, nn, le, _⊞_, _⊠_}
 use Rattle.whole.proofs.Expressions.{Expr, var, con, _⊕_, _⊖_, _⊗_, neg}
 use Rattle.whole.proofs.Order.{next-≤}
-use Rattle.grid.specs.declared.Stroke.{Stroke}
-use Rattle.grid.specs.declared.Window.{Window}
-use Rattle.spans.specs.declared.Span.{Span}
 use Rattle.spans.specs.Parts.{Time}
-use Rattle.spans.specs.Spans.{InSpan, ProperSpan, Sized, SpanCut, SpanOf}
-use Rattle.spans.proofs.Cutting.{in-time}
-use Rattle.spans.proofs.Parts.{all, in-all}
-use Rattle.strokes.specs.Strokes.{KeepsCoordinate, Keeps}
+use Rattle.strokes.specs.Strokes.{KeepsCoordinate}
 
 -- a bound, the way's two ends, and a fraction
 abbrev L : Expr

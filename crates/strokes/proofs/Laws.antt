@@ -6,20 +6,16 @@ use mathlib.Core.Logic.{inr}
 use native.Mathlib.Omega.{arith}
 use borrow.Author.Tests.{eqb-true, eqb-false}
 use lib.Dec.{eqb}
-use lib.IntN.{ℤ, _*ℤ_}
-use lib.Signed.{_≤ℤ_}
 use Rattle.whole.proofs.Comparisons.{ff-tt}
 use Rattle.grid.specs.declared.Stroke.{Stroke}
 use Rattle.grid.specs.declared.Window.{Window}
-use Rattle.grid.specs.Sides.{Side, left, right, bottom, top}
 use Rattle.spans.specs.Sides.{OwnEnds}
 use Rattle.spans.proofs.Sides.{own-ends}
 use Rattle.strokes.specs.Laws.{InClosedWindow, StaysInside, SideOrOwnEnd, FourConditions}
-use Rattle.strokes.specs.Sides.{sideP, sideQ}
-use Rattle.strokes.specs.Strokes.{Keeps, Clipped, strokeCallRefusal}
+use Rattle.strokes.specs.Strokes.{Clipped, strokeCallRefusal}
 use Rattle.strokes.specs.declared.StrokeAnswer.{StrokeAnswer}
-use Rattle.strokes.proofs.Coordinates.{above-low, below-high, both-sides}
 use Rattle.strokes.proofs.Points.{point-inside}
+use Rattle.strokes.proofs.Sides.{keeps-meets, meets-keeps}
 
 pub clipped-inside : {w : Window} {s : Stroke} {a : StrokeAnswer} → Clipped w s a → a .kept ≡ true
     → InClosedWindow w (a .ax) (a .ay) × InClosedWindow w (a .bx) (a .by)
@@ -53,14 +49,5 @@ side-or-own-end w s a p = go (eqb (strokeCallRefusal w s .number) 0) refl
         (sym (p .refused (eqb-false (strokeCallRefusal w s .number) 0 t)))
         (record { start = (λ _. refl, λ _. refl); end = (λ _. inr refl, λ _. refl); start-side = λ n. absurd (n refl); end-side = λ n. absurd (n refl) })
 
-each-side : {w : Window} {s : Stroke} {n d : ℤ} → Keeps w s n d → (k : Side) → (sideP s k *ℤ n) ≤ℤ (sideQ w s k *ℤ d)
-each-side h left = above-low (h .x)
-each-side h right = below-high (h .x)
-each-side h bottom = above-low (h .y)
-each-side h top = below-high (h .y)
-
 pub four-conditions : FourConditions
-four-conditions w s n d = (
-  λ h. (h .time, each-side h),
-  λ h. record { time = h .0; x = both-sides (h .1 left) (h .1 right); y = both-sides (h .1 bottom) (h .1 top) },
-)
+four-conditions w s n d = (keeps-meets, meets-keeps)

@@ -27,7 +27,7 @@ use Rattle.spans.proofs.Parts.{time-within}
 use Rattle.strokes.specs.declared.End.{End}
 use Rattle.strokes.specs.declared.ways.Way.{Way}
 use Rattle.strokes.specs.Strokes.{Keeps}
-use Rattle.strokes.specs.Workers.{ProperWay, WayAt, FromStartToEnd, WayOf, Overlap, OnWay, sideMet, StartBy, own, by-x, by-y, FinishBy, StartOf, FinishOf}
+use Rattle.strokes.specs.Workers.{ProperWay, WayAt, FromStartToEnd, WayOf, Overlap, OnWay, sideMet, uncut, by-x, by-y, StartOf, FinishOf}
 use Rattle.strokes.proofs.Points.{point-start}
 
 positive : {k : ℕ} → 0 < k → pos 0 <ℤ pos k
@@ -89,7 +89,7 @@ module _ {s : Stroke} {x y : Way} (fx : WayAt (s .x1) (s .x2) x) (fy : WayAt (s 
         ge-by ((pos (x .long)) ∷ n ∷ (pos (x .start)) ∷ d ∷ []) (po x0 (positive (fx .proper .long))) (con (pos 0) ⊗ x3) (x1 ⊗ con (pos 1))
         (le (x2 ⊗ x3) (x1 ⊗ x0) i ⊞ eq x3 x2 (con (pos 0)) (λ k. pos (p k))) tt;
     point = point-start {f = zeroth} (omega zarith) refl;
-    side = own p q;
+    side = uncut p q;
   }
 
   pub start-x : {v : ℤ} → 0 < x .start → y .start * x .long ≤ x .start * y .long → Rounded (along (s .y1) (s .y2) (pos (x .start)) (pos (x .long))) (pos (x .long)) v
@@ -123,7 +123,7 @@ module _ {s : Stroke} {x y : Way} (fx : WayAt (s .x1) (s .x2) x) (fy : WayAt (s 
         ge-by ((pos (x .long)) ∷ n ∷ (pos (x .end)) ∷ d ∷ []) (po x0 (positive (fx .proper .long))) (x1 ⊗ con (pos 1)) (con (pos 1) ⊗ x3)
         (le (x1 ⊗ x0) (x2 ⊗ x3) i ⊞ eq (neg x3) x2 x0 (λ k. pos (p k))) tt;
     point = record { across = rounded-exact (whole-way fx p) (omega zarith); up = rounded-exact (whole-way fy q) (omega zarith) };
-    side = own p q;
+    side = uncut p q;
   }
 
   pub finish-x : {v : ℤ} → x .end < x .long → x .end * y .long ≤ y .end * x .long → Rounded (along (s .y1) (s .y2) (pos (x .end)) (pos (x .long))) (pos (x .long)) v

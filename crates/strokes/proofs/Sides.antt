@@ -1,6 +1,6 @@
 -- The sides that fix the ends of what is kept, by the ways of the two coordinates: a side met on a way is crossed there, and a way that came in
 -- before was already between its two sides. And what is kept is what meets the conditions of the four sides.
-use mathlib.Core.Path.{_≡_, refl, sym, subst}
+use mathlib.Core.Path.{_≡_, refl, sym}
 use mathlib.Core.List.{[], _∷_}
 use mathlib.Core.Logic.{⊎-elim}
 use Prim.Native.Nat.{ℕ, zero, suc, _*_, _<_, _≤_}
@@ -9,7 +9,7 @@ use native.Mathlib.Omega.{arith}
 use lib.IntN.{ℤ, pos, negsuc, negℤ, _-ℤ_, _*ℤ_}
 use lib.Signed.{_≤ℤ_, _<ℤ_, ltZ}
 use Rattle.whole.specs.Choice.{if_then_else_}
-use Rattle.whole.proofs.Certificates.{gt, clash, eqn, eq-by, _⊹_, po, lt, _⊞_}
+use Rattle.whole.proofs.Certificates.{gt, clash, eqn, eq-by, po, lt, _⊞_}
 use Rattle.whole.proofs.Comparisons.{by-test, lt-yes, lt-no}
 use Rattle.whole.proofs.Expressions.{var, con, _⊕_, _⊖_, _⊗_, neg, x0, x1, x2, x3}
 use Rattle.whole.proofs.Order.{zarith, ≤-total}
@@ -19,13 +19,12 @@ use Rattle.grid.specs.declared.Stroke.{Stroke}
 use Rattle.grid.specs.declared.Window.{Window}
 use Rattle.rings.specs.Lists.{∅, _◂_}
 use Rattle.rings.proofs.Lists.{all-head, all-tail}
-use Rattle.spans.specs.Sides.{Condition, MeetsAll, Inward, Outward, Fixes, FirstOf, here, later, noSide, StartSide, EndSide}
-use Rattle.spans.specs.Parts.{Time}
+use Rattle.spans.specs.Sides.{Condition, MeetsAll, Inward, Outward, Fixes, FirstOf, here, later, StartSide, EndSide}
 use Rattle.spans.proofs.Sides.{not-inward, not-outward, own-start, own-end}
 use Rattle.strokes.specs.declared.ways.Way.{Way}
 use Rattle.strokes.specs.Sides.{conditions}
 use Rattle.strokes.specs.Strokes.{KeepsCoordinate, Keeps}
-use Rattle.strokes.specs.Workers.{ProperWay, FromStartToEnd, MetAt, rising, falling, WayOf, sideMet, StartBy, FinishBy, own, by-x, by-y}
+use Rattle.strokes.specs.Workers.{MetAt, rising, falling, WayOf, sideMet, StartBy, FinishBy, uncut, by-x, by-y}
 use Rattle.strokes.proofs.Coordinates.{above-low, below-high, both-sides}
 
 -- ---- what is kept
@@ -113,11 +112,11 @@ less-way m n k l e h =
 -- ---- both coordinates
 module _ {w : Window} {s : Stroke} {x y : Way} (f : WayOf (w .left) (w .right) (s .x1) (s .x2) x) (g : WayOf (w .bottom) (w .top) (s .y1) (s .y2) y) where
   pub start-side : {t : Fraction} {k : ℕ} → StartBy s x y t k → StartSide (conditions w s) t k
-  start-side (own p q) = own-start
+  start-side (uncut p q) = own-start
   start-side (by-x n h) =
       let t : Fraction = record { num = pos (x .start); den = pos (x .long) } in record {
-        whole = λ o. absurd (unequal n o);
-        cut = λ _. in-met (s .x1) (s .x2) t (FirstOf (Fixes Inward t) (conditions w s)) (f .way .at) (f .comes n) (λ l. here l) (λ m u. later m (here u));
+        remains = λ o. absurd (unequal n o);
+        fixed = λ _. in-met (s .x1) (s .x2) t (FirstOf (Fixes Inward t) (conditions w s)) (f .way .at) (f .comes n) (λ l. here l) (λ m u. later m (here u));
       }
   start-side (by-y h) =
       let before : Fraction = record { num = pos (x .start); den = pos (x .long) } in
@@ -127,18 +126,18 @@ module _ {w : Window} {s : Stroke} {x y : Way} (f : WayOf (w .left) (w .right) (
       let left = not-inward before t (long f) (long g) (above-low k) sooner in
       let right = not-inward before t (long f) (long g) (below-high k) sooner in
       let n : 0 < y .start = some-way (x .start) (y .start) (x .long) (y .long) h in record {
-        whole = λ o. absurd (unequal n o);
-        cut = λ _.
+        remains = λ o. absurd (unequal n o);
+        fixed = λ _.
             in-met (s .y1) (s .y2) t (FirstOf (Fixes Inward t) (conditions w s)) (g .way .at) (g .comes n) (λ l. later left (later right (here l)))
             (λ m u. later left (later right (later m (here u))));
       }
 
   pub end-side : {t : Fraction} {k : ℕ} → FinishBy s x y t k → EndSide (conditions w s) t k
-  end-side (own p q) = own-end
+  end-side (uncut p q) = own-end
   end-side (by-x n h) =
       let t : Fraction = record { num = pos (x .end); den = pos (x .long) } in record {
-        whole = λ o. absurd (unequal n (sym o));
-        cut = λ _. out-met (s .x1) (s .x2) t (FirstOf (Fixes Outward t) (conditions w s)) (f .way .to) (f .goes n) (λ l. here l) (λ m u. later m (here u));
+        remains = λ o. absurd (unequal n (sym o));
+        fixed = λ _. out-met (s .x1) (s .x2) t (FirstOf (Fixes Outward t) (conditions w s)) (f .way .to) (f .goes n) (λ l. here l) (λ m u. later m (here u));
       }
   end-side (by-y h) =
       let after : Fraction = record { num = pos (x .end); den = pos (x .long) } in
@@ -148,8 +147,8 @@ module _ {w : Window} {s : Stroke} {x y : Way} (f : WayOf (w .left) (w .right) (
       let left = not-outward after t (long f) (long g) (above-low k) sooner in
       let right = not-outward after t (long f) (long g) (below-high k) sooner in
       let n : y .end < y .long = less-way (y .end) (x .end) (y .long) (x .long) (f .way .proper .high) h in record {
-        whole = λ o. absurd (unequal n (sym o));
-        cut = λ _.
+        remains = λ o. absurd (unequal n (sym o));
+        fixed = λ _.
             out-met (s .y1) (s .y2) t (FirstOf (Fixes Outward t) (conditions w s)) (g .way .to) (g .goes n) (λ l. later left (later right (here l)))
             (λ m u. later left (later right (later m (here u))));
       }

@@ -3,19 +3,17 @@
 --   OneStrokeAnswer   two answers that are right for one window and one stroke are equal
 --   InClosedWindow w x y   the grid point (x, y) lies in the window or on its border
 --   StaysInside       the rounded points of a kept stroke never leave the window
---   SideOrOwnEnd      255 stands for t0 exactly where t0 is 0/1, and for t1 exactly where t1 is 1/1 or nothing is kept; else it is a side, 0 to 3
+--   SideOrOwnEnd      the side of t0 is 255 exactly where t0 is 0/1, and that of t1 exactly where t1 is 1/1 or nothing is kept; else it is one of 0 to 3
 --   FourConditions    a fraction from 0 to 1 is kept exactly where it satisfies p·t ≤ q for each of the four sides
 use mathlib.Core.Path.{_≡_}
 use mathlib.Core.Bool.{true}
 use mathlib.Core.Logic.{_↔_}
-use lib.IntN.{ℤ, _*ℤ_}
+use lib.IntN.{ℤ}
 use lib.Signed.{_≤ℤ_}
 use Rattle.grid.specs.declared.Stroke.{Stroke}
 use Rattle.grid.specs.declared.Window.{Window}
-use Rattle.grid.specs.Sides.{Side}
-use Rattle.spans.specs.Parts.{Time}
-use Rattle.spans.specs.Sides.{OwnEnds}
-use Rattle.strokes.specs.Sides.{sideP, sideQ}
+use Rattle.spans.specs.Sides.{MeetsAll, OwnEnds}
+use Rattle.strokes.specs.Sides.{conditions}
 use Rattle.strokes.specs.Strokes.{Keeps, Clipping}
 use Rattle.strokes.specs.declared.StrokeAnswer.{StrokeAnswer}
 
@@ -37,5 +35,4 @@ SideOrOwnEnd = (w : Window) (s : Stroke) (a : StrokeAnswer) → Clipping w s a �
 
 -- the rules' own words for what is kept; `Keeps` says the same of the point's two coordinates
 abbrev pub FourConditions : Type 0
-FourConditions = (w : Window) (s : Stroke) (n d : ℤ)
-    → Keeps w s n d ↔ (Time n d × ((k : Side) → (sideP s k *ℤ n) ≤ℤ (sideQ w s k *ℤ d)))
+FourConditions = (w : Window) (s : Stroke) (n d : ℤ) → Keeps w s n d ↔ MeetsAll (conditions w s) n d

@@ -63,7 +63,7 @@ pub record Clipped (w : Window) (s : Stroke) (a : StrokeAnswer) : Type 0 where
   pub end-side : a .kept ≡ true → EndSide (conditions w s) (a .t1) (a .side1)
   pub missed : a .kept ≡ false → a ≡ blank none
 
--- What is kept is said of points and not of a rule's steps, so that every engine can promise it, and then they agree.
+-- What is kept is said of points, and its sides of their conditions p·t ≤ q, not of a rule's steps: so every engine can promise it, and then they agree.
 pub record Clipping (w : Window) (s : Stroke) (a : StrokeAnswer) : Type 0 where
   pub refused : (strokeCallRefusal w s .number ≡ 0 → ⊥) → a ≡ blank (strokeCallRefusal w s)
   pub done : strokeCallRefusal w s .number ≡ 0 → Clipped w s a

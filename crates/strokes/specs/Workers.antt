@@ -3,7 +3,7 @@
 --   MayReach lo hi a b   the two ends are not both below lo, nor both above hi: the way from a to b may come between them
 --   EndsInside w s, Reaching w s   EndsBetween, and MayReach, for both coordinates of a stroke and the window's sides
 --   Ranged a b c d       four numbers of the table in rising order, the last above the first
---   Risen, Fallen a p q b r   r is the way up, or down, from a to b, which is between two sides from p to q
+--   Risen, Fallen a p q b r   r is the way up, or down, from a to b; from the coordinate p to the coordinate q it is between two sides
 --   ProperWay r          a way has a length of 1 to 32,766, and its start and its end are on it in this order
 --   WayAt a b r          r is such a way from a to b, and its two coordinates are exact
 --   FromStartToEnd r n d   the fraction n/d of the way is from its start to its end
@@ -12,11 +12,13 @@
 --                        where it comes in or goes out on the way it meets a side there
 --   Overlap x y          neither way ends before the other starts
 --   OnWay f              f is a fraction from 0 to 1, with a denominator no larger than the longest way
---   sideMet a b lower upper   the side that the way from a to b meets coming in, by its number: the lower one where it rises, the upper one where it falls
---   StartBy s x y t k    t is the later start of the two ways, and k names the side that is met there, that of x where both are met at once
---   FinishBy s x y t k   t is the earlier end of the two ways, and k names the side that is met there, looking back
+--   sideMet a b i j      the side that the way from a to b meets coming in, by its number: i where it rises, j where it falls
+--   StartBy s x y t k    t is the later start of the two ways, and k names the side that is met there, that of x where both are met at once; noSide
+--                        where both start with the stroke
+--   FinishBy s x y t k   t is the earlier end of the two ways, and k names the side that is met there looking back, that of x where both are met at
+--                        once; noSide where both end with the stroke
 --   StartOf, FinishOf s x y e   e is the later start, or the earlier end, of the two ways, with the rounded point and its side
---   keptAnswer a b t u   the answer for a stroke that is kept from the point of a to that of b, with the fractions t and u
+--   keptAnswer a b t u   the answer for a stroke that is kept from the point of a to that of b, with their sides and the fractions t and u
 --   KeptAnswer a b r     r is such an answer, with the fractions of a and b in lowest terms
 --   wholeAnswer s        the answer for a stroke that is kept whole
 --   missedCut, wholeCut s   what is left of a stroke that is missed, and of one that is kept whole
@@ -124,17 +126,17 @@ pub record OnWay (f : Fraction) : Type 0 where
   pub small : Within 32766 (f .den)
 
 abbrev pub sideMet : ℤ → ℤ → ℕ → ℕ → ℕ
-sideMet a b lower upper = if ltZ b a then upper else lower
+sideMet a b i j = if ltZ b a then j else i
 
 pub data StartBy (s : Stroke) (x y : Way) : Fraction → ℕ → Type 0 where
-  own : x .start ≡ 0 → y .start ≡ 0 → StartBy s x y zeroth noSide
+  uncut : x .start ≡ 0 → y .start ≡ 0 → StartBy s x y zeroth noSide
   by-x : 0 < x .start → y .start * x .long ≤ x .start * y .long
       → StartBy s x y (record { num = pos (x .start); den = pos (x .long) }) (sideMet (s .x1) (s .x2) 0 1)
   by-y : x .start * y .long < y .start * x .long
       → StartBy s x y (record { num = pos (y .start); den = pos (y .long) }) (sideMet (s .y1) (s .y2) 2 3)
 
 pub data FinishBy (s : Stroke) (x y : Way) : Fraction → ℕ → Type 0 where
-  own : x .end ≡ x .long → y .end ≡ y .long → FinishBy s x y unit noSide
+  uncut : x .end ≡ x .long → y .end ≡ y .long → FinishBy s x y unit noSide
   by-x : x .end < x .long → x .end * y .long ≤ y .end * x .long
       → FinishBy s x y (record { num = pos (x .end); den = pos (x .long) }) (sideMet (s .x2) (s .x1) 0 1)
   by-y : y .end * x .long < x .end * y .long

@@ -17,11 +17,11 @@ const BOTTOM: u8 = 2;
 
 const TOP: u8 = 3;
 
-// The side that a way from a to b meets where it comes in: the lower one where it rises, the upper one where it falls.
-fn side_met(a: i32, b: i32, lower: u8, upper: u8) -> u8
-    ensures { λ r. ⌜ r ≡ sideMet a b lower upper ⌝ }
+// The side that a way from a to b meets where it comes in: `low` where it rises, `high` where it falls.
+fn side_met(a: i32, b: i32, low: u8, high: u8) -> u8
+    ensures { λ r. ⌜ r ≡ sideMet a b low high ⌝ }
 {
-    if b < a { upper } else { lower }
+    if b < a { high } else { low }
 }
 
 // Where both coordinates have come in: at the later start. The coordinate that comes in there is on its side, so that only the other is rounded.

@@ -1,7 +1,7 @@
 -- What is kept of a stroke turned round: n/d of the way back is 1 − n/d of the way, so that the last fraction becomes the first.
 use mathlib.Core.Path.{_≡_, subst}
 use mathlib.Core.List.{[], _∷_}
-use lib.IntN.{ℤ, pos, negsuc, _+ℤ_, _-ℤ_, _*ℤ_}
+use lib.IntN.{ℤ, pos, negsuc, _-ℤ_, _*ℤ_}
 use lib.Signed.{_≤ℤ_}
 use Rattle.whole.proofs.Certificates.{ge, le}
 use Rattle.whole.proofs.Expressions.{con, _⊕_, _⊖_, _⊗_, x0, x1, x2, x3}
@@ -18,7 +18,7 @@ use Rattle.strokes.specs.Strokes.{KeepsCoordinate, Keeps, PointAt}
 use Rattle.turned_round.specs.Laws.{turnRound, oneMinus}
 
 -- ---- the way back
-along-back : (a b n d : ℤ) → along a b n d ≡ along b a (d -ℤ n) d
+pub along-back : (a b n d : ℤ) → along a b n d ≡ along b a (d -ℤ n) d
 along-back a b n d = ring (a ∷ b ∷ n ∷ d ∷ []) (x0 ⊗ x3 ⊕ x2 ⊗ (x1 ⊖ x0)) (x1 ⊗ x3 ⊕ (x3 ⊖ x2) ⊗ (x0 ⊖ x1)) tt
 
 keeps-coordinate : {lo hi a b n d : ℤ} → KeepsCoordinate lo hi a b n d → KeepsCoordinate lo hi b a (d -ℤ n) d
@@ -27,7 +27,7 @@ keeps-coordinate {lo} {hi} {a} {b} {n} {d} k = record {
   below = subst (λ (x : ℤ). x ≤ℤ (hi *ℤ d)) (along-back a b n d) (k .below);
 }
 
-time-back : {n d : ℤ} → Time n d → Time (d -ℤ n) d
+pub time-back : {n d : ℤ} → Time n d → Time (d -ℤ n) d
 time-back {n} {d} t = record { den = t .den; low = omega (zarith, sub-is d n, t .high); high = omega (zarith, sub-is d n, t .low) }
 
 pub keeps-back : {w : Window} {s : Stroke} (n d : ℤ) → Keeps w s n d → Keeps w (turnRound s) (d -ℤ n) d

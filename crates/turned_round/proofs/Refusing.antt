@@ -16,6 +16,7 @@ use Rattle.grid.specs.Refusals.{first, none, refuse, offTable, numberOff, badSt
 use Rattle.grid.specs.Refusals.{windowRefusal, strokeRefusal, strokesRefusal}
 use Rattle.grid.specs.Table.{onTable, firstOff, ends}
 use Rattle.strokes.specs.Strokes.{strokeCallRefusal}
+use Rattle.corners.specs.Corners.{cyrusBeckRefusal}
 use Rattle.batch.specs.Batches.{batchRefusal}
 use Rattle.turned_round.specs.Laws.{turnRound, swap, strokesTurnedRound}
 
@@ -114,10 +115,18 @@ later-turned r rs qs h = go (eqb (r .number) 0)
     go true = h
     go false = same r
 
+stroke-turned : (s : Stroke) → SameRefusal (strokeRefusal s) (strokeRefusal (turnRound s))
+unfolding strokeRefusal allOn
+stroke-turned s = off-alike (ends s) (ends (turnRound s)) (exchange (onTable (s .x1)) (onTable (s .y1)) (onTable (s .x2)) (onTable (s .y2)) true)
+
 pub call-turned : (w : Window) (s : Stroke) → SameRefusal (strokeCallRefusal w s) (strokeCallRefusal w (turnRound s))
-unfolding strokeCallRefusal strokeRefusal allOn
-call-turned w s = later-turned (windowRefusal w) (strokeRefusal s ∷ []) (strokeRefusal (turnRound s) ∷ [])
-    (only-turned (off-alike (ends s) (ends (turnRound s)) (exchange (onTable (s .x1)) (onTable (s .y1)) (onTable (s .x2)) (onTable (s .y2)) true)))
+unfolding strokeCallRefusal
+call-turned w s = later-turned (windowRefusal w) (strokeRefusal s ∷ []) (strokeRefusal (turnRound s) ∷ []) (only-turned (stroke-turned s))
+
+pub corners-turned : (zs : List ℤ) (s : Stroke) → SameRefusal (cyrusBeckRefusal zs s) (cyrusBeckRefusal zs (turnRound s))
+unfolding cyrusBeckRefusal
+corners-turned zs s =
+    later-turned _ _ _ (later-turned _ _ _ (later-turned _ (strokeRefusal s ∷ []) (strokeRefusal (turnRound s) ∷ []) (only-turned (stroke-turned s))))
 
 module _ (which : ℕ → Bool) (zs : List ℤ) where
   abbrev ys : List ℤ

@@ -1,9 +1,8 @@
 -- The sides of a stroke turned round: a side's condition p·t ≤ q becomes −p·t ≤ q − p, so that what is crossed inward at f is crossed outward at 1 − f.
-use mathlib.Core.Path.{_≡_, sym, ap, _∙_}
-use mathlib.Core.List.{[], _∷_}
+use mathlib.Core.Path.{_≡_}
+use mathlib.Core.List.{List, [], _∷_}
 use Prim.Native.Nat.{ℕ}
 use lib.IntN.{ℤ, pos, negsuc, negℤ, _-ℤ_, _*ℤ_}
-use lib.Signed.{_<ℤ_}
 use Rattle.whole.proofs.Certificates.{gt, eq, eqn, eq-by, _⊹_, po, lt, _⊞_}
 use Rattle.whole.proofs.Expressions.{Expr, Env, var, con, _⊖_, _⊗_, neg, x0, x1, x2, x3}
 use Rattle.whole.proofs.Polynomials.{ring}
@@ -11,9 +10,9 @@ use Rattle.fraction.specs.declared.Fraction.{Fraction}
 use Rattle.grid.specs.declared.Stroke.{Stroke}
 use Rattle.grid.specs.declared.Window.{Window}
 use Rattle.grid.specs.Sides.{Side, left, right, bottom, top}
-use Rattle.spans.specs.Sides.{Condition, Inward, Outward, Fixes, StartSide, EndSide}
-use Rattle.spans.proofs.Sides.{first-over}
-use Rattle.strokes.specs.Sides.{sideP, sideQ, condition, conditions}
+use Rattle.spans.specs.Sides.{Condition, Inward, Outward, Fixes, FirstOf, here, later, StartSide, EndSide}
+use Rattle.strokes.specs.Sides.{condition, conditions}
+use Rattle.batch.specs.Batches.{Each, none, _and_}
 use Rattle.turned_round.specs.Laws.{turnRound, oneMinus}
 
 -- ---- the condition of a side, for the stroke turned round
@@ -21,7 +20,7 @@ pub record Turned (c e : Condition) : Type 0 where
   pub p : e .p ≡ negℤ (c .p)
   pub q : e .q ≡ c .q -ℤ c .p
 
-pub condition-turned : (w : Window) (s : Stroke) (k : Side) → Turned (condition w s k) (condition w (turnRound s) k)
+condition-turned : (w : Window) (s : Stroke) (k : Side) → Turned (condition w s k) (condition w (turnRound s) k)
 condition-turned w s left = record {
   p = ring (s .x1 ∷ s .x2 ∷ []) (neg (x0 ⊖ x1)) (neg (neg (x1 ⊖ x0))) tt;
   q = ring (s .x1 ∷ s .x2 ∷ w .left ∷ []) (x1 ⊖ x2) (x0 ⊖ x2 ⊖ neg (x1 ⊖ x0)) tt;
@@ -38,6 +37,10 @@ condition-turned w s top = record {
   p = ring (s .y1 ∷ s .y2 ∷ []) (x0 ⊖ x1) (neg (x1 ⊖ x0)) tt;
   q = ring (s .y1 ∷ s .y2 ∷ w .top ∷ []) (x2 ⊖ x1) (x2 ⊖ x0 ⊖ (x1 ⊖ x0)) tt;
 }
+
+pub conditions-turned : (w : Window) (s : Stroke) → Each Turned (conditions w s) (conditions w (turnRound s))
+conditions-turned w s = _and_ (condition-turned w s left)
+    (_and_ (condition-turned w s right) (_and_ (condition-turned w s bottom) (_and_ (condition-turned w s top) none)))
 
 -- ---- where it is crossed
 module _ (c e : Condition) (h : Turned c e) (f : Fraction) where
@@ -70,32 +73,28 @@ module _ (c e : Condition) (h : Turned c e) (f : Fraction) where
   back-inward : Fixes Outward (oneMinus f) e → Fixes Inward f c
   back-inward x = record { crosses = gt ρ x0 (con (pos 0)) (po p′ (x .crosses) ⊞ eq (con (negsuc 0)) p′ (neg x0) (h .p)) tt; on = back-on (x .on) }
 
--- ---- the sides are exchanged
-module _ (w : Window) (s : Stroke) (f : Fraction) where
-  abbrev n : Expr
-  n = x0
+-- ---- the sides are exchanged, for whatever conditions turn so
+first-each : {A B : Type 0} {R : A → B → Type 0} {P : A → Type 0} {Q : B → Type 0} {xs : List A} {ys : List B} {k : ℕ} → Each R xs ys
+    → ((x : A) (y : B) → R x y → P x → Q y) → ((x : A) (y : B) → R x y → Q y → P x) → FirstOf P xs k → FirstOf Q ys k
+first-each (_and_ r rs) to from (here p) = here (to _ _ r p)
+first-each (_and_ r rs) to from (later n f) = later (λ q. n (from _ _ r q)) (first-each rs to from f)
 
-  abbrev d : Expr
-  d = x1
+module _ {cs es : List Condition} (h : Each Turned cs es) (f : Fraction) where
+  abbrev ends : Env
+  ends = f .num ∷ f .den ∷ []
 
-  pub start-back : {k : ℕ} → EndSide (conditions w s) f k → StartSide (conditions w (turnRound s)) (oneMinus f) k
+  pub start-back : {k : ℕ} → EndSide cs f k → StartSide es (oneMinus f) k
   start-back g = record {
-    whole = λ o. g .whole (eq-by (f .num ∷ f .den ∷ []) n d (eqn (con (negsuc 0)) (d ⊖ n) (con (pos 0)) o) tt);
-    cut = λ o.
-        first-over (condition w s) (condition w (turnRound s))
-        (λ k. outward-back (condition w s k) (condition w (turnRound s) k) (condition-turned w s k) f)
-        (λ k. back-outward (condition w s k) (condition w (turnRound s) k) (condition-turned w s k) f)
-        (left ∷ right ∷ bottom ∷ top ∷ [])
-        (g .cut (λ z. o (eq-by (f .num ∷ f .den ∷ []) (d ⊖ n) (con (pos 0)) (eqn (con (negsuc 0)) n d z) tt)));
+    remains = λ o. g .remains (eq-by ends x0 x1 (eqn (con (negsuc 0)) (x1 ⊖ x0) (con (pos 0)) o) tt);
+    fixed = λ o.
+        first-each h (λ c e t. outward-back c e t f) (λ c e t. back-outward c e t f)
+        (g .fixed (λ z. o (eq-by ends (x1 ⊖ x0) (con (pos 0)) (eqn (con (negsuc 0)) x0 x1 z) tt)));
   }
 
-  pub end-back : {k : ℕ} → StartSide (conditions w s) f k → EndSide (conditions w (turnRound s)) (oneMinus f) k
+  pub end-back : {k : ℕ} → StartSide cs f k → EndSide es (oneMinus f) k
   end-back g = record {
-    whole = λ o. g .whole (eq-by (f .num ∷ f .den ∷ []) n (con (pos 0)) (eqn (con (negsuc 0)) (d ⊖ n) d o) tt);
-    cut = λ o.
-        first-over (condition w s) (condition w (turnRound s))
-        (λ k. inward-back (condition w s k) (condition w (turnRound s) k) (condition-turned w s k) f)
-        (λ k. back-inward (condition w s k) (condition w (turnRound s) k) (condition-turned w s k) f)
-        (left ∷ right ∷ bottom ∷ top ∷ [])
-        (g .cut (λ z. o (eq-by (f .num ∷ f .den ∷ []) (d ⊖ n) d (eqn (con (negsuc 0)) n (con (pos 0)) z) tt)));
+    remains = λ o. g .remains (eq-by ends x0 (con (pos 0)) (eqn (con (negsuc 0)) (x1 ⊖ x0) x1 o) tt);
+    fixed = λ o.
+        first-each h (λ c e t. inward-back c e t f) (λ c e t. back-inward c e t f)
+        (g .fixed (λ z. o (eq-by ends (x1 ⊖ x0) x1 (eqn (con (negsuc 0)) x0 (con (pos 0)) z) tt)));
   }

@@ -1,5 +1,5 @@
 -- One stroke turned round: what answers it, made from the answer of the stroke, is right, and so it is the only answer that is.
-use mathlib.Core.Path.{_≡_, refl, sym, ap, _∙_, subst}
+use mathlib.Core.Path.{_≡_, refl, sym, _∙_, subst}
 use mathlib.Core.Bool.{Bool, true, false}
 use borrow.Author.Tests.{eqb-true, eqb-false}
 use lib.Dec.{eqb}
@@ -16,7 +16,7 @@ use Rattle.strokes.proofs.Unique.{clipped-unique}
 use Rattle.turned_round.specs.Laws.{turnRound, oneMinus, AnswerTurnedRound, TurnedRound, TurnedRoundByCodes}
 use Rattle.turned_round.proofs.Parts.{keeps-back, point-back, first-back, last-back}
 use Rattle.turned_round.proofs.Refusing.{SameRefusal, call-turned}
-use Rattle.turned_round.proofs.Sides.{start-back, end-back}
+use Rattle.turned_round.proofs.Sides.{conditions-turned, start-back, end-back}
 
 -- ---- an answer that keeps nothing, and its like
 blank-turned : {r q : Refusal} → SameRefusal r q → AnswerTurnedRound (blank r) (blank q)
@@ -60,8 +60,8 @@ module _ {w : Window} {s : Stroke} {a : StrokeAnswer} (p : Clipped w s a) where
     };
     start = λ _. point-back (p .finish e);
     finish = λ _. point-back (p .start e);
-    start-side = λ _. start-back w s (a .t1) (p .end-side e);
-    end-side = λ _. end-back w s (a .t0) (p .start-side e);
+    start-side = λ _. start-back (conditions-turned w s) (a .t1) (p .end-side e);
+    end-side = λ _. end-back (conditions-turned w s) (a .t0) (p .start-side e);
     missed = λ f. absurd (tt-ff f);
   }
 

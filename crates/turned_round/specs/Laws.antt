@@ -1,13 +1,16 @@
--- Laws of rounded points, whoever drew the line: halves go to the even grid number, and a stroke turned round, drawn from its end to its start, has
--- the same two grid points and the same two sides, exchanged. Over every window and every stroke or list of strokes, refused and missed ones too; proved in
--- proofs/Halves.antt, proofs/Strokes.antt and proofs/Batches.antt.
+-- Laws of rounding, and of a stroke turned round, drawn from its end to its start: whoever drew the line, halves go to the even grid number, and turned
+-- round the stroke has the same two grid points and the same two sides, exchanged. Over every window and every stroke or list of strokes, refused and
+-- missed ones too; proved in proofs/Halves.antt, proofs/Strokes.antt, proofs/Corners.antt and proofs/Batches.antt.
 --   HalvesToEven        where x/d is n and a half, it is rounded to an even number
 --   turnRound s         the stroke s turned round
 --   oneMinus f          1 − f, with the denominator of f, and so in lowest terms where f is
+--   SidesExchanged i j k l   the sides k and l are i and j, exchanged
 --   AnswerTurnedRound a b   a answers a stroke, and b the same stroke turned round: refused, missed or kept alike, with the points and the sides
 --                       exchanged, and where kept from 1 − t1 to 1 − t0; only a number off the table, 6, may have another place
 --   TurnedRound         so answers `strokes::liang_barsky`, and every call that promises `Clipping`
---   TurnedRoundByCodes  so does `codes::cohen_sutherland`; how often it shortens a missed stroke may differ, and is not said here
+--   TurnedRoundByCodes  so does `codes::cohen_sutherland`; of how often it shortens nothing is said here
+--   CornersTurnedRound a b   the same of two answers for a corner window, which have no points
+--   TurnedRoundInCorners   so answers `corners::cyrus_beck`
 --   swap turn x1 y1 x2 y2   the four numbers, or where `turn` says so the last two before the first two
 --   strokesTurnedRound which k zs   the strokes of the list zs, four numbers each and counted from k, of which those are turned round that `which`
 --                       names; numbers left over at the end stay
@@ -35,6 +38,8 @@ use Rattle.strokes.specs.Strokes.{Clipping}
 use Rattle.strokes.specs.declared.StrokeAnswer.{StrokeAnswer}
 use Rattle.codes.specs.Steps.{CohenSutherland}
 use Rattle.codes.specs.declared.CountedAnswer.{CountedAnswer}
+use Rattle.corners.specs.Corners.{CyrusBeck}
+use Rattle.corners.specs.declared.CornerAnswer.{CornerAnswer}
 use Rattle.batch.specs.Batches.{Batch}
 
 abbrev pub HalvesToEven : Type 0
@@ -47,6 +52,9 @@ turnRound s = record { x1 = s .x2; y1 = s .y2; x2 = s .x1; y2 = s .y1 }
 abbrev pub oneMinus : Fraction → Fraction
 oneMinus f = record { num = f .den -ℤ f .num; den = f .den }
 
+abbrev pub SidesExchanged : ℕ → ℕ → ℕ → ℕ → Type 0
+SidesExchanged i j k l = (k ≡ j) × (l ≡ i)
+
 pub record AnswerTurnedRound (a b : StrokeAnswer) : Type 0 where
   pub number : b .number ≡ a .number
   pub place : (a .number ≡ numberOff → ⊥) → b .place ≡ a .place
@@ -55,7 +63,7 @@ pub record AnswerTurnedRound (a b : StrokeAnswer) : Type 0 where
   pub finish : (b .bx ≡ a .ax) × (b .by ≡ a .ay)
   pub fractions : a .kept ≡ true → (b .t0 ≡ oneMinus (a .t1)) × (b .t1 ≡ oneMinus (a .t0))
   pub missed : a .kept ≡ false → (b .t0 ≡ zeroth) × (b .t1 ≡ zeroth)
-  pub sides : (b .side0 ≡ a .side1) × (b .side1 ≡ a .side0)
+  pub sides : SidesExchanged (a .side0) (a .side1) (b .side0) (b .side1)
 
 abbrev pub TurnedRound : Type 0
 TurnedRound = (w : Window) (s : Stroke) (a b : StrokeAnswer) → Clipping w s a → Clipping w (turnRound s) b → AnswerTurnedRound a b
@@ -63,6 +71,17 @@ TurnedRound = (w : Window) (s : Stroke) (a b : StrokeAnswer) → Clipping w s a 
 abbrev pub TurnedRoundByCodes : Type 0
 TurnedRoundByCodes = (w : Window) (s : Stroke) (a b : CountedAnswer) → CohenSutherland w s a → CohenSutherland w (turnRound s) b
     → AnswerTurnedRound (a .answer) (b .answer)
+
+pub record CornersTurnedRound (a b : CornerAnswer) : Type 0 where
+  pub number : b .number ≡ a .number
+  pub place : (a .number ≡ numberOff → ⊥) → b .place ≡ a .place
+  pub kept : b .kept ≡ a .kept
+  pub fractions : a .kept ≡ true → (b .t0 ≡ oneMinus (a .t1)) × (b .t1 ≡ oneMinus (a .t0))
+  pub missed : a .kept ≡ false → (b .t0 ≡ zeroth) × (b .t1 ≡ zeroth)
+  pub sides : SidesExchanged (a .side0) (a .side1) (b .side0) (b .side1)
+
+abbrev pub TurnedRoundInCorners : Type 0
+TurnedRoundInCorners = (zs : List ℤ) (s : Stroke) (a b : CornerAnswer) → CyrusBeck zs s a → CyrusBeck zs (turnRound s) b → CornersTurnedRound a b
 
 -- ---- many strokes
 abbrev pub swap : Bool → ℤ → ℤ → ℤ → ℤ → List ℤ

@@ -82,4 +82,5 @@ worked =
     stroke-holds refl ◂ stroke-holds refl ◂ stroke-holds refl ◂ stroke-holds refl ◂ stroke-holds refl ◂ stroke-holds refl
     ◂ stroke-holds refl ◂ stroke-holds refl ◂ outline-holds refl refl ◂ outline-holds refl refl
     ◂ outline-holds refl refl ◂ outline-holds refl refl ◂ outline-holds refl refl ◂ stroke-holds refl ◂ stroke-holds refl
-    ◂ stroke-holds refl ◂ stroke-holds refl ◂ stroke-holds refl ◂ stroke-holds refl ◂ corner-holds refl ◂ corner-holds refl ◂ ∅
+    ◂ stroke-holds refl ◂ stroke-holds refl ◂ stroke-holds refl ◂ stroke-holds refl ◂ corner-holds refl ◂ corner-holds refl ◂ corner-holds refl
+    ◂ corner-holds refl ◂ stroke-holds refl ◂ ∅

@@ -1,4 +1,4 @@
--- The worked examples A to Q, and E, M, O and Q turned round, in one table; all against the window 0 0 10 10 but Q, which names its corners.
+-- The worked examples A to S, and E, M, O, Q and R turned round, in one table; all against the window 0 0 10 10 but Q and R, which name its corners.
 --   table         the examples in their order
 --   Example       a stroke, by its two ends, and what both stroke calls answer, the count of shortenings included;
 --                 an outline, by its corners, and its verdict; or a corner window, by its corners, a stroke, and what
@@ -6,7 +6,7 @@
 --   Verdict       a ring, by its corners; no area; or refused, by the refusal's number
 --   Holds e       the calls' statements hold of this answer and of no other; of an outline's, in every order
 --   StrokeHolds, OutlineHolds   what Holds says of a stroke, and of an outline
---   ten           the window of all of them;  zeros n: a list of n zeros
+--   ten           the window of all but Q and R;  zeros n: a list of n zeros
 --   fromTo p q    the stroke from p to q
 --   coordinates ps   the numbers of the points ps;  ringNumbers cs: those of a ring's corners, four a corner
 --   expected e    the outline call's answer where e is the verdict, but for the counts of the passes, and its output:
@@ -18,8 +18,8 @@
 --   + n, - n      the whole number n, and n below 0
 --   n over d      the fraction n/d
 --   corner x y    a ring's corner with whole coordinates
---   kept t u p q n k   both stroke calls' answer: kept from t to u, with the rounded points p and q, after n shortenings; the
---                 two sides are k, and `own` stands for the stroke's own end
+--   kept t u p q n k   both stroke calls' answer: kept from t to u, with the rounded points p and q, after n shortenings; k
+--                 are the two sides, noSide for an end that is the stroke's own
 --   missedAfter n    both stroke calls' answer: missed, after n shortenings
 --   keptIn t u k     the Cyrus-Beck call's answer: kept from t to u, with the sides k
 use mathlib.Core.Bool.{true}
@@ -131,9 +131,6 @@ kept t u p q n k = record {
   shortenings = n;
 }
 
-abbrev pub own : ℕ
-own = noSide
-
 abbrev pub missedAfter : ℕ → CountedAnswer
 missedAfter n = record { answer = blank none; shortenings = n }
 
@@ -151,11 +148,11 @@ table =
     -- D
     ∷ stroke (- 1, + 24) (+ 11, - 14) (kept (7 over 19) (12 over 19) (3, 10) (7, 0) 4 (3, 2))
     -- E
-    ∷ stroke (- 1, + 0) (+ 1, + 1) (kept (1 over 2) (1 over 1) (0, 0) (1, 1) 1 (0, own))
+    ∷ stroke (- 1, + 0) (+ 1, + 1) (kept (1 over 2) (1 over 1) (0, 0) (1, 1) 1 (0, noSide))
     -- E turned round
-    ∷ stroke (+ 1, + 1) (- 1, + 0) (kept (0 over 1) (1 over 2) (1, 1) (0, 0) 1 (own, 0))
+    ∷ stroke (+ 1, + 1) (- 1, + 0) (kept (0 over 1) (1 over 2) (1, 1) (0, 0) 1 (noSide, 0))
     -- F
-    ∷ stroke (+ 10, + 10) (+ 10, + 10) (kept (0 over 1) (1 over 1) (10, 10) (10, 10) 0 (own, own))
+    ∷ stroke (+ 10, + 10) (+ 10, + 10) (kept (0 over 1) (1 over 1) (10, 10) (10, 10) 0 (noSide, noSide))
     -- G
     ∷ stroke (+ 11, + 10) (+ 11, + 10) (missedAfter 0)
     -- H
@@ -173,19 +170,25 @@ table =
     -- L
     ∷ outline ((+ 0, + 3) ∷ (- 2, - 3) ∷ (+ 3, + 1) ∷ (- 3, + 1) ∷ (+ 2, - 3) ∷ []) (refused 7)
     -- M
-    ∷ stroke (- 1, + 1) (+ 1, + 2) (kept (1 over 2) (1 over 1) (0, 2) (1, 2) 1 (0, own))
+    ∷ stroke (- 1, + 1) (+ 1, + 2) (kept (1 over 2) (1 over 1) (0, 2) (1, 2) 1 (0, noSide))
     -- M turned round
-    ∷ stroke (+ 1, + 2) (- 1, + 1) (kept (0 over 1) (1 over 2) (1, 2) (0, 2) 1 (own, 0))
+    ∷ stroke (+ 1, + 2) (- 1, + 1) (kept (0 over 1) (1 over 2) (1, 2) (0, 2) 1 (noSide, 0))
     -- N
     ∷ stroke (- 5, - 5) (+ 15, + 15) (kept (1 over 4) (3 over 4) (0, 0) (10, 10) 2 (0, 1))
     -- O
-    ∷ stroke (- 5, + 5) (+ 0, + 5) (kept (1 over 1) (1 over 1) (0, 5) (0, 5) 1 (0, own))
+    ∷ stroke (- 5, + 5) (+ 0, + 5) (kept (1 over 1) (1 over 1) (0, 5) (0, 5) 1 (0, noSide))
     -- O turned round
-    ∷ stroke (+ 0, + 5) (- 5, + 5) (kept (0 over 1) (0 over 1) (0, 5) (0, 5) 1 (own, 0))
+    ∷ stroke (+ 0, + 5) (- 5, + 5) (kept (0 over 1) (0 over 1) (0, 5) (0, 5) 1 (noSide, 0))
     -- P
-    ∷ stroke (+ 0, + 5) (+ 5, + 5) (kept (0 over 1) (1 over 1) (0, 5) (5, 5) 0 (own, own))
+    ∷ stroke (+ 0, + 5) (+ 5, + 5) (kept (0 over 1) (1 over 1) (0, 5) (5, 5) 0 (noSide, noSide))
     -- Q
-    ∷ cornered ((+ 0, + 0) ∷ (+ 10, + 0) ∷ (+ 0, + 10) ∷ []) (- 2, - 2) (+ 2, + 2) (keptIn (1 over 2) (1 over 1) (0, own))
+    ∷ cornered ((+ 0, + 0) ∷ (+ 10, + 0) ∷ (+ 0, + 10) ∷ []) (- 2, - 2) (+ 2, + 2) (keptIn (1 over 2) (1 over 1) (0, noSide))
     -- Q turned round
-    ∷ cornered ((+ 0, + 0) ∷ (+ 10, + 0) ∷ (+ 0, + 10) ∷ []) (+ 2, + 2) (- 2, - 2) (keptIn (0 over 1) (1 over 2) (own, 0))
+    ∷ cornered ((+ 0, + 0) ∷ (+ 10, + 0) ∷ (+ 0, + 10) ∷ []) (+ 2, + 2) (- 2, - 2) (keptIn (0 over 1) (1 over 2) (noSide, 0))
+    -- R
+    ∷ cornered ((+ 0, + 0) ∷ (+ 10, + 0) ∷ (+ 0, + 10) ∷ []) (- 2, + 3) (+ 12, + 3) (keptIn (1 over 7) (9 over 14) (2, 1))
+    -- R turned round
+    ∷ cornered ((+ 0, + 0) ∷ (+ 10, + 0) ∷ (+ 0, + 10) ∷ []) (+ 12, + 3) (- 2, + 3) (keptIn (5 over 14) (6 over 7) (1, 2))
+    -- S
+    ∷ stroke (+ 0, - 5) (+ 0, + 5) (kept (1 over 2) (1 over 1) (0, 0) (0, 5) 1 (2, noSide))
     ∷ []

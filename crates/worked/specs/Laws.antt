@@ -1,8 +1,9 @@
 -- Laws over several calls, proved in proofs/Worked.antt and proofs/Agreement.antt.
---   Worked               the worked examples A to Q, and E, M, O and Q turned round: each answer in the table satisfies the statements, and no other does
---   SameAnswer a b       `corners::cyrus_beck` answers by a what `strokes::liang_barsky` answers by b, without points.
---                        The place of 2 is an index in the numbers that the call was given, eight for four corners and
---                        four for a rectangle, and may differ; so may a side's number, which counts from the first corner
+--   Worked               the worked examples A to S, and E, M, O, Q and R turned round: each answer in the table satisfies the statements, and no other does
+--   SameAnswer a b       `corners::cyrus_beck` answers by a what `strokes::liang_barsky` answers by b, without points and
+--                        sides. The place of 2 is an index in the numbers that the call was given, eight for four
+--                        corners and four for a rectangle, and may differ. Edges are numbered from the first corner on,
+--                        so that at a corner of the window the other of two sides may be named
 --   RectangleAsCorners   a rectangle given as its four corners, in turn from any, has the same answer: the same
 --                        refusal, the same fractions. Left out is a rectangle that is turned over: as it stands it is
 --                        refused by 3, while its corners go counterclockwise all the same, and are a window

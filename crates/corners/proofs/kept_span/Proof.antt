@@ -11,13 +11,13 @@ use Rattle.convex.specs.Ways.{CornerOnTable, cornerAt}
 use Rattle.convex.proofs.Places.{corner, count}
 use Rattle.spans.specs.Spans.{largest, KeptBy}
 use Rattle.spans.proofs.Sides.{kept-by-none}
-use Rattle.corners.specs.Edges.{firstEdges}
+use Rattle.corners.specs.Edges.{firstConditions}
 use Rattle.corners.proofs.Edges.{ahead, ahead-below, both-on, edges-more}
 use Rattle.corners.proofs.kept_span.Statement.{statement}
 use Rattle.corners.proofs.kept_span.Tie as tie
 
 abbrev Inv-loop : tie.InvT-loop
-Inv-loop c s kept₀ count k₀ kept k = (k ≤ length (cornersOf c)) × KeptBy largest (firstEdges (cornersOf c) s k) kept
+Inv-loop c s kept₀ count k₀ kept k = (k ≤ length (cornersOf c)) × KeptBy largest (firstConditions (cornersOf c) s k) kept
 
 abbrev μ-loop : tie.MeasureT-loop
 μ-loop c s kept₀ count k₀ kept k = length (cornersOf c) - k
@@ -89,7 +89,7 @@ loop-again c =
     let k = l .before .loop .k in
     let e : suc k ≡ k + 1 = omega arith in (
       omega (arith, below l),
-      subst (λ (n : ℕ). KeptBy largest (firstEdges (cornersOf (now (a .c))) (a .s) n) (c .cut-by-edge .result)) e
+      subst (λ (n : ℕ). KeptBy largest (firstConditions (cornersOf (now (a .c))) (a .s) n) (c .cut-by-edge .result)) e
           (edges-more (p .0) k (below l) (p .1) (i .1) (first-is (c .before)) (second-is (c .before)) (c .cut-by-edge .ensures)),
     )
 
@@ -98,7 +98,7 @@ returns c =
     let l = c .before .loop in
     let a = c .before .before .before .args in
     let e : l .k ≡ length (cornersOf (now (a .c))) = omega (arith, c .loop-test .left, l .inv .0, count (now (a .c))) in
-    subst (λ (n : ℕ). KeptBy largest (firstEdges (cornersOf (now (a .c))) (a .s) n) (l .kept)) e (l .inv .1)
+    subst (λ (n : ℕ). KeptBy largest (firstConditions (cornersOf (now (a .c))) (a .s) n) (l .kept)) e (l .inv .1)
 
 pub kept-span-spec : {M : Type 1} → statement M
 kept-span-spec =

@@ -12,14 +12,14 @@ returns c =
     let a = c .before .args in
     let f = c .before .fits in
     let falls = sym (λ i. ltZ (toZ-ofZ (f .b) i) (toZ-ofZ (f .a) i)) ∙ c .if1 .taken in
-    sym (ap (λ (t : Bool). if t then a .upper else a .lower) falls)
+    sym (ap (λ (t : Bool). if t then a .high else a .low) falls)
 
 returns-2 : tie.Need-returns-2
 returns-2 c =
     let a = c .before .args in
     let f = c .before .fits in
     let rises = sym (λ i. ltZ (toZ-ofZ (f .b) i) (toZ-ofZ (f .a) i)) ∙ c .if1 .left in
-    sym (ap (λ (t : Bool). if t then a .upper else a .lower) rises)
+    sym (ap (λ (t : Bool). if t then a .high else a .low) rises)
 
 pub side-met-spec : {M : Type 1} → statement M
 side-met-spec = tie.close (tie.spec returns returns-2)
