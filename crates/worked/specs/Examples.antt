@@ -1,4 +1,4 @@
--- The worked examples A to S, and E, M, O, Q and R turned round, in one table; all against the window 0 0 10 10 but Q and R, which name its corners.
+-- The worked examples A to S, and E, M, O, Q and R turned round, in one table. Q and R have a corner window, all others the window 0 0 10 10.
 --   table         the examples in their order
 --   Example       a stroke, by its two ends, and what both stroke calls answer, the count of shortenings included;
 --                 an outline, by its corners, and its verdict; or a corner window, by its corners, a stroke, and what
