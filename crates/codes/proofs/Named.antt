@@ -23,7 +23,7 @@ use Rattle.codes.proofs.Forms.{form, _≼_, beyond-form, inside-form, o
 use Rattle.codes.proofs.Shortenings.{Ordered}
 
 -- ---- the first of the four sides of which P holds
-pub first-at : (w : Window) (s : Stroke) (P : Condition → Type 0) (k : Side) → P (condition w s k)
+first-at : (w : Window) (s : Stroke) (P : Condition → Type 0) (k : Side) → P (condition w s k)
     → ((j : Side) → placeOf j < placeOf k → P (condition w s j) → ⊥) → FirstOf P (conditions w s) (placeOf k)
 first-at w s P left p n = here p
 first-at w s P right p n = later (n left (omega arith)) (here p)
@@ -57,12 +57,12 @@ module _ (p q : ℤ) (x y : Fraction) (hx : pos 0 <ℤ x .den) (hy : pos 0 <ℤ 
 
 -- x is beyond, y is on the line
 module _ (p q : ℤ) (x y : Fraction) (b : pos 0 <ℤ form p (negℤ q) x) (on : form p (negℤ q) y ≡ pos 0) (hx : pos 0 <ℤ x .den) (hy : pos 0 <ℤ y .den) where
-  comes-later : Inward p → (x .num *ℤ y .den) <ℤ (y .num *ℤ x .den)
-  comes-later h = gt-by (x .num ∷ x .den ∷ y .num ∷ y .den ∷ p ∷ q ∷ []) (lt P (con (pos 0)) h) (x0 ⊗ x3) (x2 ⊗ x1)
+  is-later : Inward p → (x .num *ℤ y .den) <ℤ (y .num *ℤ x .den)
+  is-later h = gt-by (x .num ∷ x .den ∷ y .num ∷ y .den ∷ p ∷ q ∷ []) (lt P (con (pos 0)) h) (x0 ⊗ x3) (x2 ⊗ x1)
       (po x3 hy ⊠ po (at x0 x1) b ⊞ eq (neg x1) (at x2 x3) (con (pos 0)) on) tt
 
-  comes-sooner : Outward p → (y .num *ℤ x .den) <ℤ (x .num *ℤ y .den)
-  comes-sooner h = gt-by (x .num ∷ x .den ∷ y .num ∷ y .den ∷ p ∷ q ∷ []) (po P h) (x2 ⊗ x1) (x0 ⊗ x3)
+  is-sooner : Outward p → (y .num *ℤ x .den) <ℤ (x .num *ℤ y .den)
+  is-sooner h = gt-by (x .num ∷ x .den ∷ y .num ∷ y .den ∷ p ∷ q ∷ []) (po P h) (x2 ⊗ x1) (x0 ⊗ x3)
       (po x3 hy ⊠ po (at x0 x1) b ⊞ eq (neg x1) (at x2 x3) (con (pos 0)) on) tt
 
 module _ (p q : ℤ) (x : Fraction) where
@@ -85,7 +85,7 @@ module _ (w : Window) (s : Stroke) {f g : Fraction} (c : Fraction) (k : Side) (o
       let b = start-beyond w s f g k e in
       let on = on-form w s k c (line .on) in
       let in-p = falls p q f g (o .proper .den0) (o .proper .den1) (o .order) (beyond-form w s k f (b .0)) (inside-form w s k g (b .1)) in
-      let l = comes-later p q f c (beyond-form w s k f (b .0)) on (o .proper .den0) (line .den) in-p in record {
+      let l = is-later p q f c (beyond-form w s k f (b .0)) on (o .proper .den0) (line .den) in-p in record {
         remains = λ z. absurd (clash (f .num ∷ f .den ∷ c .num ∷ c .den ∷ [])
             (lt (x0 ⊗ x3) (x2 ⊗ x1) l ⊞ nn x0 (o .proper .low) ⊠ po x3 (line .den) ⊞ eq (neg x1) x2 (con (pos 0)) z) tt);
         fixed = λ _.
@@ -99,7 +99,7 @@ module _ (w : Window) (s : Stroke) {f g : Fraction} (c : Fraction) (k : Side) (o
       let b = end-beyond w s f g k e in
       let on = on-form w s k c (line .on) in
       let out-p = rises p q f g (o .proper .den0) (o .proper .den1) (o .order) (inside-form w s k f (b .0)) (beyond-form w s k g (b .1)) in
-      let l = comes-sooner p q g c (beyond-form w s k g (b .1)) on (o .proper .den1) (line .den) out-p in record {
+      let l = is-sooner p q g c (beyond-form w s k g (b .1)) on (o .proper .den1) (line .den) out-p in record {
         remains = λ z. absurd (clash (g .num ∷ g .den ∷ c .num ∷ c .den ∷ [])
             (lt (x2 ⊗ x1) (x0 ⊗ x3) l ⊞ le x0 x1 (o .proper .high) ⊠ po x3 (line .den) ⊞ eq x1 x2 x3 z) tt);
         fixed = λ _.

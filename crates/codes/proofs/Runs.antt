@@ -2,8 +2,7 @@
 -- A code depends on the fraction's value alone, and a stroke meets the line of a side that it passes at one fraction alone.
 use mathlib.Core.Path.{_≡_, refl, sym, ap, subst, _∙_}
 use mathlib.Core.List.{[], _∷_}
-use Prim.Native.Nat.{ℕ, zero, suc, _≤_}
-use native.Mathlib.Nat.{suc-ne-zero}
+use Prim.Native.Nat.{ℕ, suc, _≤_}
 use native.Mathlib.Omega.{arith}
 use lib.Bits.{bitOr}
 use lib.IntN.{ℤ, pos, _*ℤ_}
@@ -17,6 +16,7 @@ use Rattle.fraction.specs.declared.Fraction.{Fraction}
 use Rattle.grid.specs.declared.Stroke.{Stroke}
 use Rattle.grid.specs.declared.Window.{Window}
 use Rattle.grid.specs.Sides.{Side, left, right, bottom, top, placeOf, sideAt}
+use Rattle.grid.proofs.Refusals.{done-or-refused}
 use Rattle.spans.specs.Parts.{zeroth, unit}
 use Rattle.strokes.specs.Strokes.{strokeCallRefusal}
 use Rattle.strokes.proofs.Unique.{one-stroke-answer}
@@ -76,10 +76,6 @@ same-side : {j k : Side} → placeOf j ≡ placeOf k → j ≡ k
 same-side {j} {k} e = sym (side-of j) ∙ ap sideAt e ∙ side-of k
 
 -- ---- one run
-zero-or-not : (n : ℕ) {A : Type 0} → (n ≡ 0 → A) → ((n ≡ 0 → ⊥) → A) → A
-zero-or-not zero f g = f refl
-zero-or-not (suc n) f g = g (suc-ne-zero n)
-
 module _ {w : Window} {s : Stroke} where
   decides-more : {f g f′ g′ : Fraction} → Shortening w s f g f′ g′ → 2 ≤ decided w s f g
   decides-more (start k e on) = omega arith
@@ -122,13 +118,13 @@ module _ {w : Window} {s : Stroke} where
 pub one-counted-answer : OneCountedAnswer
 one-counted-answer w s a b p q =
     let answer = one-stroke-answer w s (a .answer) (b .answer) (p .clipping) (q .clipping) in
-    let count = zero-or-not (strokeCallRefusal w s .number)
+    let count = done-or-refused (strokeCallRefusal w s)
     (λ z. run-unique (p .done z) (q .done z)) (λ n. p .refused n ∙ sym (q .refused n)) in
     λ i. record { answer = answer i; shortenings = count i }
 
 pub never-more-than-four : NeverMoreThanFour
 never-more-than-four w s r p =
-    zero-or-not (strokeCallRefusal w s .number) (λ z. whole-run-few (p .done z)) (λ n. omega (arith, p .refused n))
+    done-or-refused (strokeCallRefusal w s) (λ z. whole-run-few (p .done z)) (λ n. omega (arith, p .refused n))
 
 pub engines-agree : EnginesAgree
 engines-agree w s r a p q = one-stroke-answer w s (r .answer) a (p .clipping) q

@@ -2,11 +2,8 @@
 use mathlib.Core.Path.{_≡_, refl, sym, ap, _∙_, subst}
 use mathlib.Core.Bool.{Bool, true, false}
 use mathlib.Core.List.{List}
-use mathlib.Core.Logic.{inr}
 use Prim.Native.Nat.{ℕ}
 use native.Mathlib.Omega.{arith}
-use borrow.Author.Tests.{eqb-true, eqb-false}
-use lib.Dec.{eqb}
 use lib.ListN.{length}
 use Rattle.whole.proofs.Comparisons.{ff-tt, tt-ff}
 use Rattle.fraction.specs.declared.Fraction.{Fraction}
@@ -14,6 +11,7 @@ use Rattle.fraction.specs.Fraction.{LowestOf, lessThan}
 use Rattle.fraction.proofs.Comparing.{less-taken, less-left}
 use Rattle.grid.specs.Refusals.{none}
 use Rattle.grid.specs.declared.Stroke.{Stroke}
+use Rattle.grid.proofs.Refusals.{done-or-refused}
 use Rattle.rings.specs.Points.{Point}
 use Rattle.convex.specs.Corners.{cornersOf}
 use Rattle.convex.proofs.Places.{count}
@@ -23,7 +21,7 @@ use Rattle.spans.specs.Sides.{StartSide, EndSide, OwnEnds}
 use Rattle.spans.specs.Spans.{SpanOf, SomeLeft, KeptBy}
 use Rattle.spans.proofs.Cutting.{in-time}
 use Rattle.spans.proofs.Parts.{part-unique, part-missed, none-left, in-first, in-last, span-part}
-use Rattle.spans.proofs.Sides.{start-lowest, end-lowest, start-unique, end-unique, own-ends}
+use Rattle.spans.proofs.Sides.{start-lowest, end-lowest, start-unique, end-unique, own-ends, no-ends}
 use Rattle.corners.specs.Edges.{edgeConditions}
 use Rattle.corners.specs.Corners.{cyrusBeckRefusal, KeepsIn, blankAnswer, CornerClipped}
 use Rattle.corners.specs.Laws.{OneCornerAnswer, EdgeOrOwnEnd}
@@ -89,24 +87,18 @@ clip-unique {cs} {s} {a} {b} p q = go (a .kept) refl
         λ i. record { number = number i; place = place i; kept = same .0 i; t0 = same .1 i; t1 = same .2 i; side0 = in-by i; side1 = out-by i }
 
 pub one-corner-answer : OneCornerAnswer
-one-corner-answer zs s a b p q = go (eqb (cyrusBeckRefusal zs s .number) 0) refl
-  where
-    go : (t : Bool) → eqb (cyrusBeckRefusal zs s .number) 0 ≡ t → a ≡ b
-    go true t = let e = eqb-true (cyrusBeckRefusal zs s .number) 0 t in clip-unique (p .done e) (q .done e)
-    go false t = let e = eqb-false (cyrusBeckRefusal zs s .number) 0 t in p .refused e ∙ sym (q .refused e)
+one-corner-answer zs s a b p q =
+    done-or-refused (cyrusBeckRefusal zs s) (λ z. clip-unique (p .done z) (q .done z)) (λ n. p .refused n ∙ sym (q .refused n))
 
 pub edge-or-own-end : EdgeOrOwnEnd
-edge-or-own-end zs s a p = go (eqb (cyrusBeckRefusal zs s .number) 0) refl
-  where
-    go : (t : Bool) → eqb (cyrusBeckRefusal zs s .number) 0 ≡ t → OwnEnds (length (cornersOf zs)) (a .kept) (a .t0) (a .t1) (a .side0) (a .side1)
-    go true t =
-        let e = eqb-true (cyrusBeckRefusal zs s .number) 0 t in
-        let c = p .done e in
-        let n = edges-count (cornersOf zs) s (length (cornersOf zs)) in
-        subst (λ (n : ℕ). OwnEnds n (a .kept) (a .t0) (a .t1) (a .side0) (a .side1)) n
-        (own-ends (c .part) (omega (arith, n, count zs, nothing-refused zs s e .0 .few)) (c .start-side) (c .end-side)
-        (λ e. (ap (λ (b : CornerAnswer). b .side0) (c .missed e), ap (λ (b : CornerAnswer). b .side1) (c .missed e))))
-    go false t =
-        subst (λ (b : CornerAnswer). OwnEnds (length (cornersOf zs)) (b .kept) (b .t0) (b .t1) (b .side0) (b .side1))
-        (sym (p .refused (eqb-false (cyrusBeckRefusal zs s .number) 0 t)))
-        (record { start = (λ _. refl, λ _. refl); end = (λ _. inr refl, λ _. refl); start-side = λ n. absurd (n refl); end-side = λ n. absurd (n refl) })
+edge-or-own-end zs s a p =
+    done-or-refused (cyrusBeckRefusal zs s)
+    (λ z.
+    let c = p .done z in
+    let n = edges-count (cornersOf zs) s (length (cornersOf zs)) in
+    subst (λ (n : ℕ). OwnEnds n (a .kept) (a .t0) (a .t1) (a .side0) (a .side1)) n
+    (own-ends (c .part) (omega (arith, n, count zs, nothing-refused zs s z .0 .few)) (c .start-side) (c .end-side)
+    (λ e. (ap (λ (b : CornerAnswer). b .side0) (c .missed e), ap (λ (b : CornerAnswer). b .side1) (c .missed e)))))
+    (λ n.
+    subst (λ (b : CornerAnswer). OwnEnds (length (cornersOf zs)) (b .kept) (b .t0) (b .t1) (b .side0) (b .side1)) (sym (p .refused n))
+    no-ends)

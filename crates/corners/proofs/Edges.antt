@@ -27,7 +27,7 @@ use Rattle.convex.proofs.Convexity.{next-edge}
 use Rattle.spans.specs.declared.SidedSpan.{SidedSpan}
 use Rattle.spans.specs.Sides.{Condition}
 use Rattle.spans.specs.Spans.{largest, SidedCut, KeptBy}
-use Rattle.spans.proofs.Sides.{kept-by-more}
+use Rattle.spans.proofs.SidedCuts.{kept-by-more}
 use Rattle.corners.specs.Corners.{pointAt}
 use Rattle.corners.specs.Edges.{edgeP, edgeQ, edgeCondition, firstConditions, EdgeCut}
 use Rattle.corners.specs.Laws.{EveryEdge}

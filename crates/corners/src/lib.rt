@@ -56,8 +56,8 @@ fn cut_by_edge(a: Corner, b: Corner, s: Stroke, side: u8, kept: SidedSpan) -> Si
     )
 }
 
-// The kept fractions, edge by edge from the first corner on; the last edge leads back to it. Both corners of an edge are read anew: carried over,
-// the one would take longer to unpack.
+// The kept fractions, edge by edge from the first corner on; the last edge leads back to it. Both corners of an edge are read: one that is carried
+// from turn to turn takes longer, since the compiler puts its two numbers into one and takes them out again.
 fn kept_span(c: &[i32], s: Stroke) -> SidedSpan
     requires { ⌜ CornersOnTable (now c) ⌝ }
     requires { ⌜ StrokeOnTable s ⌝ }

@@ -2,7 +2,9 @@
 use mathlib.Core.Path.{_≡_, refl, sym}
 use mathlib.Core.Bool.{Bool, true, false, _&&_}
 use mathlib.Core.List.{List, [], _∷_}
-use Prim.Native.Nat.{ℕ, _%_, _<_, _≤_}
+use mathlib.Core.Logic.{_⊎_, inl, inr, ⊎-elim}
+use Prim.Native.Nat.{ℕ, zero, suc, _%_, _<_, _≤_}
+use native.Mathlib.Nat.{suc-ne-zero}
 use native.Mathlib.Omega.{arith}
 use borrow.Author.Tests.{eq-eqb, ne-eqb, eqb-true, eqb-false, leb-true, ltb-false}
 use lib.Dec.{eqb, leb, ltb}
@@ -20,6 +22,14 @@ use Rattle.grid.specs.declared.Window.{Window}
 use Rattle.grid.specs.declared.Stroke.{Stroke}
 use Rattle.grid.specs.declared.Refusal.{Refusal}
 use Rattle.grid.proofs.Ranges.{off-later, off-none, within-on, before-off}
+
+-- ---- a call is done or refused
+pub done-or-refused : (r : Refusal) {A : Type 0} → (r .number ≡ 0 → A) → ((r .number ≡ 0 → ⊥) → A) → A
+done-or-refused r f g = ⊎-elim f g (test (r .number))
+  where
+    test : (n : ℕ) → (n ≡ 0) ⊎ (n ≡ 0 → ⊥)
+    test zero = inl refl
+    test (suc n) = inr (suc-ne-zero n)
 
 -- ---- the first that applies
 pub stops : (r : Refusal) (rs : List Refusal) → (r .number ≡ 0 → ⊥) → first (r ∷ rs) ≡ r

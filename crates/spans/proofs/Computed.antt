@@ -15,7 +15,7 @@ use Rattle.spans.specs.Sides.{Condition}
 use Rattle.spans.specs.Spans.{ProperSpan, wholeSpan, SidedCut, KeptBy}
 use Rattle.spans.specs.declared.SidedSpan.{SidedSpan}
 use Rattle.spans.proofs.Cutting.{comes-sooner, leaves-later, untouched}
-use Rattle.spans.proofs.Sides.{kept-by-none, kept-by-more, sided-as-before, sided-in, sided-never, sided-out}
+use Rattle.spans.proofs.SidedCuts.{kept-by-none, kept-by-more, sided-as-before, sided-in, sided-never, sided-out}
 
 unfoldable pub cutBy : ℤ → ℤ → ℕ → SidedSpan → SidedSpan
 cutBy p q k s =

@@ -1,4 +1,5 @@
 pub mod Cutting
 pub mod Parts
 pub mod Sides
+pub mod SidedCuts
 pub mod Computed

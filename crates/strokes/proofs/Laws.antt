@@ -1,16 +1,14 @@
 -- The laws of specs/Laws.antt: a rounded point of a kept fraction is inside, the number of an end that is not the stroke's own is that of a side, and
 -- the four conditions are those of the two coordinates.
-use mathlib.Core.Path.{_≡_, refl, sym, ap, subst, _∙_}
-use mathlib.Core.Bool.{Bool, true, false}
-use mathlib.Core.Logic.{inr}
+use mathlib.Core.Path.{_≡_, sym, ap, subst, _∙_}
+use mathlib.Core.Bool.{true}
 use native.Mathlib.Omega.{arith}
-use borrow.Author.Tests.{eqb-true, eqb-false}
-use lib.Dec.{eqb}
 use Rattle.whole.proofs.Comparisons.{ff-tt}
 use Rattle.grid.specs.declared.Stroke.{Stroke}
 use Rattle.grid.specs.declared.Window.{Window}
+use Rattle.grid.proofs.Refusals.{done-or-refused}
 use Rattle.spans.specs.Sides.{OwnEnds}
-use Rattle.spans.proofs.Sides.{own-ends}
+use Rattle.spans.proofs.Sides.{own-ends, no-ends}
 use Rattle.strokes.specs.Laws.{InClosedWindow, StaysInside, SideOrOwnEnd, FourConditions}
 use Rattle.strokes.specs.Strokes.{Clipped, strokeCallRefusal}
 use Rattle.strokes.specs.declared.StrokeAnswer.{StrokeAnswer}
@@ -25,14 +23,10 @@ clipped-inside p e =
     (point-inside (f .time .den) f (p .start e), point-inside (l .time .den) l (p .finish e))
 
 pub stays-inside : StaysInside
-stays-inside w s a p e = go (eqb (strokeCallRefusal w s .number) 0) refl
-  where
-    go : (b : Bool) → eqb (strokeCallRefusal w s .number) 0 ≡ b
-        → InClosedWindow w (a .ax) (a .ay) × InClosedWindow w (a .bx) (a .by)
-    go true t = clipped-inside (p .done (eqb-true (strokeCallRefusal w s .number) 0 t)) e
-    go false t =
-        let r = p .refused (eqb-false (strokeCallRefusal w s .number) 0 t) in
-        absurd (ff-tt (sym (ap (λ (b : StrokeAnswer). b .kept) r) ∙ e))
+stays-inside w s a p e =
+    done-or-refused (strokeCallRefusal w s)
+    (λ z. clipped-inside (p .done z) e)
+    (λ n. absurd (ff-tt (sym (ap (λ (b : StrokeAnswer). b .kept) (p .refused n)) ∙ e)))
 
 clipped-own : {w : Window} {s : Stroke} {a : StrokeAnswer} → Clipped w s a → OwnEnds 4 (a .kept) (a .t0) (a .t1) (a .side0) (a .side1)
 clipped-own p =
@@ -40,14 +34,12 @@ clipped-own p =
     (λ e. (ap (λ (b : StrokeAnswer). b .side0) (p .missed e), ap (λ (b : StrokeAnswer). b .side1) (p .missed e)))
 
 pub side-or-own-end : SideOrOwnEnd
-side-or-own-end w s a p = go (eqb (strokeCallRefusal w s .number) 0) refl
-  where
-    go : (b : Bool) → eqb (strokeCallRefusal w s .number) 0 ≡ b → OwnEnds 4 (a .kept) (a .t0) (a .t1) (a .side0) (a .side1)
-    go true t = clipped-own (p .done (eqb-true (strokeCallRefusal w s .number) 0 t))
-    go false t =
-        subst (λ (b : StrokeAnswer). OwnEnds 4 (b .kept) (b .t0) (b .t1) (b .side0) (b .side1))
-        (sym (p .refused (eqb-false (strokeCallRefusal w s .number) 0 t)))
-        (record { start = (λ _. refl, λ _. refl); end = (λ _. inr refl, λ _. refl); start-side = λ n. absurd (n refl); end-side = λ n. absurd (n refl) })
+side-or-own-end w s a p =
+    done-or-refused (strokeCallRefusal w s)
+    (λ z. clipped-own (p .done z))
+    (λ n.
+    subst (λ (b : StrokeAnswer). OwnEnds 4 (b .kept) (b .t0) (b .t1) (b .side0) (b .side1)) (sym (p .refused n))
+    no-ends)
 
 pub four-conditions : FourConditions
 four-conditions w s n d = (keeps-meets, meets-keeps)

@@ -64,7 +64,8 @@ earlier-end a b k l n h j p i = ⊎-elim (λ e. absurd (n (omega zarith) (togeth
     together : k ≡ a → b ≡ l
     together e =
         let i : (pos a *ℤ pos l) ≤ℤ (pos b *ℤ pos k) = omega zarith in
-        let m = ge-by ((pos a) ∷ (pos b) ∷ (pos k) ∷ (pos l) ∷ []) (po x2 (positive p)) x3 x1 (le (x0 ⊗ x3) (x1 ⊗ x2) i ⊞ eq (neg x3) x2 x0 (λ t. pos (e t))) tt in
+        let m = ge-by ((pos a) ∷ (pos b) ∷ (pos k) ∷ (pos l) ∷ []) (po x2 (positive p)) x3 x1
+        (le (x0 ⊗ x3) (x1 ⊗ x2) i ⊞ eq (neg x3) x2 x0 (λ t. pos (e t))) tt in
         omega zarith
 
 -- ---- a place on a way, as a fraction
@@ -92,7 +93,8 @@ module _ {s : Stroke} {x y : Way} (fx : WayAt (s .x1) (s .x2) x) (fy : WayAt (s 
     side = uncut p q;
   }
 
-  pub start-x : {v : ℤ} → 0 < x .start → y .start * x .long ≤ x .start * y .long → Rounded (along (s .y1) (s .y2) (pos (x .start)) (pos (x .long))) (pos (x .long)) v
+  pub start-x : {v : ℤ} → 0 < x .start → y .start * x .long ≤ x .start * y .long
+      → Rounded (along (s .y1) (s .y2) (pos (x .start)) (pos (x .long))) (pos (x .long)) v
       → StartOf s x y (record { t = record { num = pos (x .start); den = pos (x .long) }; x = x .at; y = v; side = sideMet (s .x1) (s .x2) 0 1 })
   start-x n h r = let k = fx .proper in record {
     way = on-way (k .long) (k .small) (let o = k .order in let e = k .high in omega arith);
@@ -126,7 +128,8 @@ module _ {s : Stroke} {x y : Way} (fx : WayAt (s .x1) (s .x2) x) (fy : WayAt (s 
     side = uncut p q;
   }
 
-  pub finish-x : {v : ℤ} → x .end < x .long → x .end * y .long ≤ y .end * x .long → Rounded (along (s .y1) (s .y2) (pos (x .end)) (pos (x .long))) (pos (x .long)) v
+  pub finish-x : {v : ℤ} → x .end < x .long → x .end * y .long ≤ y .end * x .long
+      → Rounded (along (s .y1) (s .y2) (pos (x .end)) (pos (x .long))) (pos (x .long)) v
       → FinishOf s x y (record { t = record { num = pos (x .end); den = pos (x .long) }; x = x .to; y = v; side = sideMet (s .x2) (s .x1) 0 1 })
   finish-x n h r = let k = fx .proper in record {
     way = on-way (k .long) (k .small) (k .high);

@@ -50,10 +50,13 @@ upper hi a b = record { p = b -ℤ a; q = hi -ℤ a }
 module _ (a b c : ℤ) (f : Fraction) (at : along a b (f .num) (f .den) ≡ c *ℤ f .den) where
   at-lower : negℤ (b -ℤ a) *ℤ f .num ≡ (a -ℤ c) *ℤ f .den
   at-lower =
-      eq-by (a ∷ b ∷ f .num ∷ f .den ∷ c ∷ []) (neg (x1 ⊖ x0) ⊗ x2) ((x0 ⊖ var 4) ⊗ x3) (eqn (con (negsuc 0)) (x0 ⊗ x3 ⊕ x2 ⊗ (x1 ⊖ x0)) (var 4 ⊗ x3) at) tt
+      eq-by (a ∷ b ∷ f .num ∷ f .den ∷ c ∷ []) (neg (x1 ⊖ x0) ⊗ x2) ((x0 ⊖ var 4) ⊗ x3)
+      (eqn (con (negsuc 0)) (x0 ⊗ x3 ⊕ x2 ⊗ (x1 ⊖ x0)) (var 4 ⊗ x3) at) tt
 
   at-upper : (b -ℤ a) *ℤ f .num ≡ (c -ℤ a) *ℤ f .den
-  at-upper = eq-by (a ∷ b ∷ f .num ∷ f .den ∷ c ∷ []) ((x1 ⊖ x0) ⊗ x2) ((var 4 ⊖ x0) ⊗ x3) (eqn (con (pos 1)) (x0 ⊗ x3 ⊕ x2 ⊗ (x1 ⊖ x0)) (var 4 ⊗ x3) at) tt
+  at-upper =
+      eq-by (a ∷ b ∷ f .num ∷ f .den ∷ c ∷ []) ((x1 ⊖ x0) ⊗ x2) ((var 4 ⊖ x0) ⊗ x3)
+      (eqn (con (pos 1)) (x0 ⊗ x3 ⊕ x2 ⊗ (x1 ⊖ x0)) (var 4 ⊗ x3) at) tt
 
 -- coming in: Q holds of the number of the side, i of the lower or j of the upper
 module _ {lo hi : ℤ} (a b : ℤ) (f : Fraction) (Q : ℕ → Type 0) {i j : ℕ} where
@@ -92,7 +95,8 @@ module _ {lo hi a b : ℤ} {r : Way} (g : WayOf lo hi a b r) where
       let e = p .high in
       let i = mul-le-mul h (le-refl (r .long)) in
       let j = mul-le-mul k (le-refl (r .long)) in
-      g .keeps (pos n) (pos (r .long)) (record { den = omega zarith; low = omega zarith; high = omega zarith }) (record { from = omega zarith; upto = omega zarith })
+      g .keeps (pos n) (pos (r .long)) (record { den = omega zarith; low = omega zarith; high = omega zarith })
+      (record { from = omega zarith; upto = omega zarith })
 
 long : {lo hi a b : ℤ} {r : Way} → WayOf lo hi a b r → pos 0 <ℤ pos (r .long)
 long g = omega (zarith, g .way .proper .long)

@@ -1,11 +1,10 @@
 -- Two answers that satisfy the statement for one window and one stroke are equal: the kept part is the only one, and so are each rounded point and each side.
 use mathlib.Core.Path.{_≡_, refl, sym, subst, _∙_}
 use mathlib.Core.Bool.{Bool, true, false}
-use Prim.Native.Nat.{ℕ, zero, suc}
-use native.Mathlib.Nat.{suc-ne-zero}
 use Rattle.fraction.specs.declared.Fraction.{Fraction}
 use Rattle.grid.specs.declared.Stroke.{Stroke}
 use Rattle.grid.specs.declared.Window.{Window}
+use Rattle.grid.proofs.Refusals.{done-or-refused}
 use Rattle.spans.specs.Sides.{StartSide, EndSide}
 use Rattle.spans.proofs.Parts.{part-unique}
 use Rattle.spans.proofs.Sides.{start-unique, end-unique}
@@ -48,10 +47,5 @@ module _ {w : Window} {s : Stroke} where
           }
 
 pub one-stroke-answer : OneStrokeAnswer
-one-stroke-answer w s a b p q = go (strokeCallRefusal w s .number) refl
-  where
-    go : (n : ℕ) → strokeCallRefusal w s .number ≡ n → a ≡ b
-    go zero z = clipped-unique (p .done z) (q .done z)
-    go (suc n) z =
-        let refused : strokeCallRefusal w s .number ≡ 0 → ⊥ = λ k. suc-ne-zero n (sym z ∙ k) in
-        p .refused refused ∙ sym (q .refused refused)
+one-stroke-answer w s a b p q =
+    done-or-refused (strokeCallRefusal w s) (λ z. clipped-unique (p .done z) (q .done z)) (λ n. p .refused n ∙ sym (q .refused n))

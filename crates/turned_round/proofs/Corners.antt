@@ -4,8 +4,6 @@ use mathlib.Core.Path.{_≡_, refl, sym, _∙_, subst}
 use mathlib.Core.Bool.{Bool, true, false}
 use mathlib.Core.List.{List, [], _∷_, _++_}
 use Prim.Native.Nat.{ℕ, zero, suc}
-use borrow.Author.Tests.{eqb-true, eqb-false}
-use lib.Dec.{eqb}
 use lib.IntN.{ℤ, _-ℤ_}
 use lib.ListN.{length}
 use Rattle.whole.proofs.Comparisons.{ff-tt, tt-ff}
@@ -14,6 +12,7 @@ use Rattle.whole.proofs.Polynomials.{ring}
 use Rattle.grid.specs.declared.Refusal.{Refusal}
 use Rattle.grid.specs.declared.Stroke.{Stroke}
 use Rattle.grid.specs.Refusals.{none}
+use Rattle.grid.proofs.Refusals.{done-or-refused}
 use Rattle.rings.specs.Points.{Point, det}
 use Rattle.rings.specs.Rings.{InRing, at}
 use Rattle.convex.specs.Corners.{next}
@@ -26,7 +25,7 @@ use Rattle.batch.specs.Batches.{Each, none as nothing, _and_}
 use Rattle.turned_round.specs.Laws.{turnRound, oneMinus, CornersTurnedRound, TurnedRoundInCorners}
 use Rattle.turned_round.proofs.Parts.{along-back, time-back, first-back, last-back}
 use Rattle.turned_round.proofs.Refusing.{SameRefusal, corners-turned}
-use Rattle.turned_round.proofs.Sides.{Turned, start-back, end-back}
+use Rattle.turned_round.proofs.Sides.{TurnedBack, start-back, end-back}
 
 -- ---- what is kept
 point-turned : (s : Stroke) (n d : ℤ) → pointAt s n d ≡ pointAt (turnRound s) (d -ℤ n) d
@@ -36,7 +35,7 @@ keeps-in-back : {cs : List Point} {s : Stroke} (n d : ℤ) → KeepsIn cs s n d 
 keeps-in-back {cs} {s} n d k = record { time = time-back (k .time); inside = subst (InRing cs) (point-turned s n d) (k .inside) }
 
 -- ---- the edges
-edge-turned : (cs : List Point) (s : Stroke) (k : ℕ) → Turned (edgeCondition cs s k) (edgeCondition cs (turnRound s) k)
+edge-turned : (cs : List Point) (s : Stroke) (k : ℕ) → TurnedBack (edgeCondition cs s k) (edgeCondition cs (turnRound s) k)
 edge-turned cs s k =
     let a = at cs k in
     let b = at cs (next (length cs) k) in
@@ -47,11 +46,11 @@ one-more : {A B : Type 0} {R : A → B → Type 0} {xs : List A} {ys : List B} {
 one-more nothing r = _and_ r nothing
 one-more (_and_ s ss) r = _and_ s (one-more ss r)
 
-first-turned : (cs : List Point) (s : Stroke) (n : ℕ) → Each Turned (firstConditions cs s n) (firstConditions cs (turnRound s) n)
+first-turned : (cs : List Point) (s : Stroke) (n : ℕ) → Each TurnedBack (firstConditions cs s n) (firstConditions cs (turnRound s) n)
 first-turned cs s zero = nothing
 first-turned cs s (suc n) = one-more (first-turned cs s n) (edge-turned cs s n)
 
-edges-turned : (cs : List Point) (s : Stroke) → Each Turned (edgeConditions cs s) (edgeConditions cs (turnRound s))
+edges-turned : (cs : List Point) (s : Stroke) → Each TurnedBack (edgeConditions cs s) (edgeConditions cs (turnRound s))
 edges-turned cs s = first-turned cs s (length cs)
 
 -- ---- an answer that keeps nothing, and its like
@@ -113,16 +112,10 @@ module _ {cs : List Point} {s : Stroke} {a : CornerAnswer} (p : CornerClipped cs
 
 -- ---- the call
 pub turned-round-in-corners : TurnedRoundInCorners
-turned-round-in-corners zs s a b p q = go (eqb (cyrusBeckRefusal zs s .number) 0) refl
-  where
-    same : SameRefusal (cyrusBeckRefusal zs s) (cyrusBeckRefusal zs (turnRound s))
-    same = corners-turned zs s
-
-    go : (z : Bool) → eqb (cyrusBeckRefusal zs s .number) 0 ≡ z → CornersTurnedRound a b
-    go true t =
-        let z = eqb-true (cyrusBeckRefusal zs s .number) 0 t in
-        clipped-turned (p .done z) (q .done (same .number ∙ z))
-    go false t =
-        let n = eqb-false (cyrusBeckRefusal zs s .number) 0 t in
-        subst (λ (x : CornerAnswer). CornersTurnedRound x b) (sym (p .refused n))
-        (subst (CornersTurnedRound (blankAnswer (cyrusBeckRefusal zs s))) (sym (q .refused (λ z. n (sym (same .number) ∙ z)))) (blank-turned same))
+turned-round-in-corners zs s a b p q =
+    let same = corners-turned zs s in
+    done-or-refused (cyrusBeckRefusal zs s)
+    (λ z. clipped-turned (p .done z) (q .done (same .number ∙ z)))
+    (λ n.
+    subst (λ (x : CornerAnswer). CornersTurnedRound x b) (sym (p .refused n))
+    (subst (CornersTurnedRound (blankAnswer (cyrusBeckRefusal zs s))) (sym (q .refused (λ z. n (sym (same .number) ∙ z)))) (blank-turned same)))

@@ -16,11 +16,11 @@ use Rattle.batch.specs.Batches.{Each, none, _and_}
 use Rattle.turned_round.specs.Laws.{turnRound, oneMinus}
 
 -- ---- the condition of a side, for the stroke turned round
-pub record Turned (c e : Condition) : Type 0 where
+pub record TurnedBack (c e : Condition) : Type 0 where
   pub p : e .p ≡ negℤ (c .p)
   pub q : e .q ≡ c .q -ℤ c .p
 
-condition-turned : (w : Window) (s : Stroke) (k : Side) → Turned (condition w s k) (condition w (turnRound s) k)
+condition-turned : (w : Window) (s : Stroke) (k : Side) → TurnedBack (condition w s k) (condition w (turnRound s) k)
 condition-turned w s left = record {
   p = ring (s .x1 ∷ s .x2 ∷ []) (neg (x0 ⊖ x1)) (neg (neg (x1 ⊖ x0))) tt;
   q = ring (s .x1 ∷ s .x2 ∷ w .left ∷ []) (x1 ⊖ x2) (x0 ⊖ x2 ⊖ neg (x1 ⊖ x0)) tt;
@@ -38,12 +38,12 @@ condition-turned w s top = record {
   q = ring (s .y1 ∷ s .y2 ∷ w .top ∷ []) (x2 ⊖ x1) (x2 ⊖ x0 ⊖ (x1 ⊖ x0)) tt;
 }
 
-pub conditions-turned : (w : Window) (s : Stroke) → Each Turned (conditions w s) (conditions w (turnRound s))
+pub conditions-turned : (w : Window) (s : Stroke) → Each TurnedBack (conditions w s) (conditions w (turnRound s))
 conditions-turned w s = _and_ (condition-turned w s left)
     (_and_ (condition-turned w s right) (_and_ (condition-turned w s bottom) (_and_ (condition-turned w s top) none)))
 
 -- ---- where it is crossed
-module _ (c e : Condition) (h : Turned c e) (f : Fraction) where
+module _ (c e : Condition) (h : TurnedBack c e) (f : Fraction) where
   abbrev ρ : Env
   ρ = c .p ∷ c .q ∷ f .num ∷ f .den ∷ e .p ∷ e .q ∷ []
 
@@ -79,7 +79,7 @@ first-each : {A B : Type 0} {R : A → B → Type 0} {P : A → Type 0} {Q : B �
 first-each (_and_ r rs) to from (here p) = here (to _ _ r p)
 first-each (_and_ r rs) to from (later n f) = later (λ q. n (from _ _ r q)) (first-each rs to from f)
 
-module _ {cs es : List Condition} (h : Each Turned cs es) (f : Fraction) where
+module _ {cs es : List Condition} (h : Each TurnedBack cs es) (f : Fraction) where
   abbrev ends : Env
   ends = f .num ∷ f .den ∷ []
 

@@ -1,14 +1,13 @@
 -- One stroke turned round: what answers it, made from the answer of the stroke, is right, and so it is the only answer that is.
 use mathlib.Core.Path.{_≡_, refl, sym, _∙_, subst}
 use mathlib.Core.Bool.{Bool, true, false}
-use borrow.Author.Tests.{eqb-true, eqb-false}
-use lib.Dec.{eqb}
 use lib.IntN.{ℤ, _-ℤ_}
 use Rattle.whole.proofs.Comparisons.{ff-tt, tt-ff}
 use Rattle.grid.specs.declared.Refusal.{Refusal}
 use Rattle.grid.specs.declared.Stroke.{Stroke}
 use Rattle.grid.specs.declared.Window.{Window}
 use Rattle.grid.specs.Refusals.{none}
+use Rattle.grid.proofs.Refusals.{done-or-refused}
 use Rattle.strokes.specs.Strokes.{Keeps, Clipped, strokeCallRefusal, blank}
 use Rattle.strokes.specs.declared.StrokeAnswer.{StrokeAnswer}
 use Rattle.strokes.proofs.Answers.{nothing-kept}
@@ -86,19 +85,13 @@ module _ {w : Window} {s : Stroke} {a : StrokeAnswer} (p : Clipped w s a) where
 
 -- ---- the calls
 pub turned-round : TurnedRound
-turned-round w s a b p q = go (eqb (strokeCallRefusal w s .number) 0) refl
-  where
-    same : SameRefusal (strokeCallRefusal w s) (strokeCallRefusal w (turnRound s))
-    same = call-turned w s
-
-    go : (z : Bool) → eqb (strokeCallRefusal w s .number) 0 ≡ z → AnswerTurnedRound a b
-    go true t =
-        let z = eqb-true (strokeCallRefusal w s .number) 0 t in
-        clipped-turned (p .done z) (q .done (same .number ∙ z))
-    go false t =
-        let n = eqb-false (strokeCallRefusal w s .number) 0 t in
-        subst (λ (x : StrokeAnswer). AnswerTurnedRound x b) (sym (p .refused n))
-        (subst (AnswerTurnedRound (blank (strokeCallRefusal w s))) (sym (q .refused (λ z. n (sym (same .number) ∙ z)))) (blank-turned same))
+turned-round w s a b p q =
+    let same = call-turned w s in
+    done-or-refused (strokeCallRefusal w s)
+    (λ z. clipped-turned (p .done z) (q .done (same .number ∙ z)))
+    (λ n.
+    subst (λ (x : StrokeAnswer). AnswerTurnedRound x b) (sym (p .refused n))
+    (subst (AnswerTurnedRound (blank (strokeCallRefusal w s))) (sym (q .refused (λ z. n (sym (same .number) ∙ z)))) (blank-turned same)))
 
 pub turned-round-by-codes : TurnedRoundByCodes
 turned-round-by-codes w s a b p q = turned-round w s (a .answer) (b .answer) (p .clipping) (q .clipping)

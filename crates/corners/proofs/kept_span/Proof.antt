@@ -10,7 +10,7 @@ use Rattle.convex.specs.Corners.{cornersOf, next}
 use Rattle.convex.specs.Ways.{CornerOnTable, cornerAt}
 use Rattle.convex.proofs.Places.{corner, count}
 use Rattle.spans.specs.Spans.{largest, KeptBy}
-use Rattle.spans.proofs.Sides.{kept-by-none}
+use Rattle.spans.proofs.SidedCuts.{kept-by-none}
 use Rattle.corners.specs.Edges.{firstConditions}
 use Rattle.corners.proofs.Edges.{ahead, ahead-below, both-on, edges-more}
 use Rattle.corners.proofs.kept_span.Statement.{statement}
@@ -41,7 +41,8 @@ next-of-requires : tie.Need-next-of-requires Inv-loop μ-loop
 next-of-requires c κs = c .before .loop-test .taken
 
 -- the place of the corner to which the edge leads
-led : (c : tie.After-next-of Inv-loop μ-loop) → let l = c .before .before in c .next-of .result ≡ ahead (now (l .before .before .before .args .c)) (l .before .loop .k)
+led : (c : tie.After-next-of Inv-loop μ-loop) → let l = c .before .before in
+    c .next-of .result ≡ ahead (now (l .before .before .before .args .c)) (l .before .loop .k)
 led c = let l = c .before .before in c .next-of .ensures ∙ ap (λ (n : ℕ). next n (l .before .loop .k)) (sym (count (now (l .before .before .before .args .c))))
 
 led-below : (c : tie.After-next-of Inv-loop μ-loop) → let zs = now (c .before .before .before .before .before .args .c) in c .next-of .result < length zs / 2
@@ -64,7 +65,8 @@ first-is c = c .before .before .corner-at .ensures
 
 second-is : (c : tie.After-corner-at2 Inv-loop μ-loop) → let l = c .before .before .before in let zs = now (l .before .before .before .args .c) in
     c .corner-at2 .result ≡ corner zs (ahead zs (l .before .loop .k))
-second-is c = let zs = now (c .before .before .before .before .before .before .args .c) in c .corner-at2 .ensures ∙ ap (λ (j : ℕ). cornerAt zs (2 * j)) (led (c .before))
+second-is c = let zs = now (c .before .before .before .before .before .before .args .c) in
+    c .corner-at2 .ensures ∙ ap (λ (j : ℕ). cornerAt zs (2 * j)) (led (c .before))
 
 cut-by-edge-requires : tie.Need-cut-by-edge-requires Inv-loop μ-loop
 cut-by-edge-requires c κs =

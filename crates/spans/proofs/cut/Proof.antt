@@ -21,7 +21,7 @@ use Rattle.spans.specs.Spans.{largest, SidedCut}
 use Rattle.spans.specs.declared.SidedSpan.{SidedSpan}
 use Rattle.spans.proofs.Cutting.{minus-within, comes-sooner, leaves-later, untouched}
 use Rattle.spans.proofs.Parts.{comparable}
-use Rattle.spans.proofs.Sides.{sided-as-before, sided-in, sided-never, sided-out}
+use Rattle.spans.proofs.SidedCuts.{sided-as-before, sided-in, sided-never, sided-out}
 use Rattle.spans.proofs.cut.Statement.{statement}
 use Rattle.spans.proofs.cut.Tie as tie
 
