@@ -27,8 +27,8 @@ extern "C" {
 /* ---- version */
 
 /* As one number, major * 10000 + minor * 100 + patch, and as text. A change of a struct or of an answer raises it. */
-#define GERLYANTU_VERSION 40000
-#define GERLYANTU_VERSION_TEXT "4.0.0"
+#define GERLYANTU_VERSION 50000
+#define GERLYANTU_VERSION_TEXT "5.0.0"
 
 /* ---- limits */
 
@@ -48,7 +48,7 @@ enum {
 /* ---- how many numbers an output has that is always long enough */
 
 enum {
-    GERLYANTU_BATCH_PER_STROKE = 5,                                                /* of gerlyantu_batch, for each stroke of the list */
+    GERLYANTU_BATCH_PER_STROKE = 5,                                                /* of both batches, for each stroke of the list */
     GERLYANTU_BATCH_ROOM = GERLYANTU_BATCH_PER_STROKE * GERLYANTU_STROKES,         /* 20480: for any list */
     GERLYANTU_RING_ROOM = 4 * (GERLYANTU_OUTLINE_CORNERS + 4),                     /* 272: of gerlyantu_clip_outline, for any outline */
     GERLYANTU_DRAWING_PER_STROKE = 4,                                              /* of gerlyantu_read_drawing, for each stroke drawn */
@@ -276,11 +276,18 @@ gerlyantu_stroke_answer gerlyantu_liang_barsky(gerlyantu_window w, gerlyantu_str
  * Refusals: 2 (index in the window, 0 to 3), 3 (0), 6 (index in the stroke, 0 to 3). */
 gerlyantu_counted_answer gerlyantu_cohen_sutherland(gerlyantu_window w, gerlyantu_stroke s);
 
-/* A list of strokes, four numbers each, against a rectangle. For each kept stroke in order, writes its index and its four rounded numbers: five
- * numbers a kept stroke, so GERLYANTU_BATCH_PER_STROKE for each stroke of the list are always enough.
+/* A list of strokes, four numbers each, against a rectangle. Gives the kept strokes but for those that only touch it, t0 = t1 in the answer of
+ * gerlyantu_liang_barsky: for each in order, writes its index and its four rounded numbers. These are five numbers a stroke given, so
+ * GERLYANTU_BATCH_PER_STROKE for each stroke of the list are always enough. A stroke of no length is no touch, nor is one with t0 < t1 whose two
+ * rounded points are the same.
  * Refusals: 2 (index in the window), 3 (0), 5 where length is not a multiple of four or there are more than 4,096 strokes (0), 6 (index in the
- * list), 8 (numbers needed). */
+ * list), 8 (numbers needed for what is given). */
 gerlyantu_answer gerlyantu_batch(gerlyantu_window w, const int32_t *strokes, size_t length, int32_t *out, size_t room);
+
+/* The same with the strokes that only touch: gives every kept stroke.
+ * Refusals: 2 (index in the window), 3 (0), 5 where length is not a multiple of four or there are more than 4,096 strokes (0), 6 (index in the
+ * list), 8 (numbers needed for what is given, touches too). */
+gerlyantu_answer gerlyantu_batch_with_touches(gerlyantu_window w, const int32_t *strokes, size_t length, int32_t *out, size_t room);
 
 /* What a convex corner window keeps of a stroke, by the Cyrus-Beck rule: 3 to 16 corners, two numbers each, counterclockwise.
  * Refusals: 3 for a length that is odd or not of 3 to 16 corners (0), 2 (index in the list of corners), 3 where they are not strictly convex

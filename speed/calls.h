@@ -32,6 +32,7 @@ struct ReleaseAnswer { u8 number; usize place; };
     struct StrokeAnswer prefix##_liang_barsky(struct Window w, struct Stroke s); \
     struct CountedAnswer prefix##_cohen_sutherland(struct Window w, struct Stroke s); \
     struct Answer prefix##_batch(struct Window w, const i32 *strokes, usize count, i32 *out, usize room); \
+    struct Answer prefix##_batch_with_touches(struct Window w, const i32 *strokes, usize count, i32 *out, usize room); \
     struct CornerAnswer prefix##_cyrus_beck(const i32 *corners, usize count, struct Stroke s); \
     struct OutlineAnswer \
     prefix##_clip_outline(struct Window w, u32 order, const i32 *outline, usize count, i32 *out, usize room); \
@@ -51,5 +52,9 @@ tuned_clip_convex(struct Window w, u32 order, const i32 *outline, usize count, i
 // The same by four passes that look at every corner, without a rectangle round the outline first.
 struct OutlineAnswer
 tuned_clip_plainly(struct Window w, u32 order, const i32 *outline, usize count, i32 *out, usize room);
+// Strokes in a form that takes fewer instructions for what is cut than the one that the other rows are measured against.
+struct StrokeAnswer faster_liang_barsky(struct Window w, struct Stroke s);
+struct Answer faster_batch(struct Window w, const i32 *strokes, usize count, i32 *out, usize room);
+struct Answer faster_batch_with_touches(struct Window w, const i32 *strokes, usize count, i32 *out, usize room);
 
 #endif

@@ -23,9 +23,9 @@ static inline enum Place place(struct Window w, struct Stroke s) {
     return w.top < s.y1 && w.top < s.y2 ? OUTSIDE : NEITHER;
 }
 
-// Whether anything is left of a stroke that is neither. Products stay below 2^31, as ways are at most 32766 long. A point on a side has
-// that side's number, so a point costs one division.
-static inline __attribute__((always_inline)) i32 cut(struct Window w, struct Stroke s, struct Cut *c) {
+// Whether anything is left of a stroke that is neither; without touches a single point is nothing. Products stay below 2^31, as ways are at most
+// 32766 long. A point on a side has that side's number, so a point costs one division.
+static inline __attribute__((always_inline)) i32 cut(struct Window w, struct Stroke s, struct Cut *c, i32 touches) {
     // where it comes in and goes out along each axis, as parts n of the way d; in 0 and out d where it does not
     u32 dx, dy, in_x = 0, in_y = 0, out_x, out_y;
     i32 at_x = s.x1, at_y = s.y1, to_x = s.x2, to_y = s.y2;
@@ -55,11 +55,13 @@ static inline __attribute__((always_inline)) i32 cut(struct Window w, struct Str
     if (dx == 0) dx = out_x = 1;
     if (dy == 0) dy = out_y = 1;
     if ((in_x | in_y) == 0) {
+        // what starts inside and goes out at once only touches
+        if (!touches && (out_x == 0 || out_y == 0)) return 0;
         c->n0 = 0; c->d0 = 1; c->ax = s.x1; c->ay = s.y1; c->side0 = NO_SIDE;
     } else {
-        // missed where it goes out along one axis before it comes in along the other
+        // missed where it goes out along one axis before it comes in along the other, and a touch where both are at one place
         u32 x = in_x * dy, y = in_y * dx;
-        if (x > out_y * dx || y > out_x * dy) return 0;
+        if (touches ? x > out_y * dx || y > out_x * dy : x >= out_y * dx || y >= out_x * dy) return 0;
         if (x >= y) {
             c->n0 = in_x; c->d0 = dx; c->ax = at_x; c->side0 = s.x2 < s.x1;
             c->ay = rounded(s.y1, s.y2, in_x, dx);

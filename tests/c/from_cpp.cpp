@@ -64,6 +64,24 @@ static void check_outline() {
     for (int i = 0; i < 12; i++) SAME(ring[i], want[i]);
 }
 
+// B of the rules only touches: the batch leaves it out unless it is asked for by name. F is a dot that is meant.
+static void check_touches() {
+    const int32_t strokes[8] = {-5, 5, 5, -5, 10, 10, 10, 10};
+    const int32_t want[10] = {0, 0, 0, 0, 0, 1, 10, 10, 10, 10};
+    int32_t rows[2 * GERLYANTU_BATCH_PER_STROKE] = {};
+    const gerlyantu_answer a = gerlyantu_batch(ten, strokes, 8, rows, GERLYANTU_BATCH_PER_STROKE);
+    SAME(a.number, GERLYANTU_DONE);
+    SAME(a.count, 5);
+    for (int i = 0; i < 5; i++) SAME(rows[i], want[5 + i]);
+    const gerlyantu_answer short_of = gerlyantu_batch_with_touches(ten, strokes, 8, rows, GERLYANTU_BATCH_PER_STROKE);
+    SAME(short_of.number, GERLYANTU_NO_ROOM);
+    SAME(short_of.place, 10);
+    const gerlyantu_answer b = gerlyantu_batch_with_touches(ten, strokes, 8, rows, 2 * GERLYANTU_BATCH_PER_STROKE);
+    SAME(b.number, GERLYANTU_DONE);
+    SAME(b.count, 10);
+    for (int i = 0; i < 10; i++) SAME(rows[i], want[i]);
+}
+
 static void check_refused() {
     int32_t rows[2 * GERLYANTU_BATCH_PER_STROKE] = {};
     const int32_t strokes[8] = {1, 1, 2, 2, 3, 3, 4, 4};
@@ -101,6 +119,7 @@ int main() {
     check_stroke();
     check_corner_window();
     check_outline();
+    check_touches();
     check_refused();
     check_book();
     printf("linked: %d checks from C++, %d failed\n", checks, failed);

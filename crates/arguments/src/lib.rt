@@ -24,6 +24,8 @@ pub const CB: u64 = 0x1_63_62;
 
 pub const BATCH: u64 = 0x1_62_61_74_63_68;
 
+pub const TOUCHES: u64 = 0x1_74_6f_75_63_68_65_73;
+
 pub const OUTLINE: u64 = 0x1_6f_75_74_6c_69_6e_65;
 
 pub const DRAW: u64 = 0x1_64_72_61_77;

@@ -10,7 +10,7 @@ use Rattle.view.specs.Views.{extent}
 use Rattle.layers.specs.Layers.{stripPath, drawnPaths}
 use Rattle.frames.specs.Frames.{placed}
 use Rattle.labels.specs.Labels.{labels}
-use Rattle.touches.specs.Touches.{points}
+use Rattle.dots.specs.Dots.{points}
 
 unfoldable pub artwork : Window → Window → List ℤ → ℕ → List ℤ → ℕ → List ℕ
 artwork w v zs n xs k =

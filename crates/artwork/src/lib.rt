@@ -29,5 +29,5 @@ pub fn put_artwork(
     let c = labels::put_labels(page, b, v, strokes, drawn);
     // The points come last: a number's border could hide one.
     let d = frames::put_placed(page, c, v);
-    touches::put_all(page, d, e, strokes, rows, kept)
+    dots::put_all(page, d, e, strokes, rows, kept)
 }

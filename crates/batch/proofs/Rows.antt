@@ -7,34 +7,34 @@ use native.Mathlib.Omega.{arith}
 use lib.IntN.{ℤ, pos}
 use lib.ListN.{length, drop, length-append}
 use Rattle.whole.specs.Choice.{if_then_else_}
-use Rattle.whole.proofs.Comparisons.{ff-tt}
 use Rattle.grid.specs.declared.Stroke.{Stroke}
 use Rattle.grid.specs.declared.Window.{Window}
-use Rattle.grid.specs.Refusals.{none}
 use Rattle.grid.specs.Table.{strokeAt, strokesOf, WindowOnTable, StrokesOnTable, NumbersOnTable}
 use Rattle.grid.proofs.Calls.{call-unique}
 use Rattle.grid.proofs.StrokeLists.{strokes-more, strokes-none, stroke-of-list}
 use Rattle.strokes.specs.Strokes.{Clipped}
-use Rattle.strokes.specs.Workers.{CutIs, KeepsAny}
-use Rattle.strokes.specs.declared.Cut.{Cut}
 use Rattle.strokes.specs.declared.StrokeAnswer.{StrokeAnswer}
-use Rattle.strokes.proofs.Answers.{nothing-kept}
 use Rattle.strokes.proofs.Computed.{clippedOf, clippedOf-is}
 use Rattle.strokes.proofs.Unique.{clipped-unique}
-use Rattle.batch.specs.Batches.{Each, row, rows, RowsOf, batchRefusal}
+use Rattle.cuts.specs.Cuts.{isGiven, noCut, CutIs, SaysGiven}
+use Rattle.cuts.specs.declared.Cut.{Cut}
+use Rattle.batch.specs.Batches.{Each, row, rows, RowsGiven, batchRefusal}
 use Rattle.batch.specs.Batches as batches
-use Rattle.batch.specs.Laws.{OneBatch}
+use Rattle.batch.specs.Laws.{OneBatch, OneBatchWithTouches}
 
 -- ---- one list of rows
 each-unique : {w : Window} {ss : List Stroke} {xs ys : List StrokeAnswer} → Each (Clipped w) ss xs → Each (Clipped w) ss ys → xs ≡ ys
 each-unique batches.none batches.none = refl
 each-unique (batches._and_ p ps) (batches._and_ q qs) = λ i. clipped-unique p q i ∷ each-unique ps qs i
 
-pub rows-unique : {w : Window} {zs xs ys : List ℤ} → RowsOf w zs xs → RowsOf w zs ys → xs ≡ ys
-rows-unique p q = p .are ∙ ap (rows 0) (each-unique (p .clipped) (q .clipped)) ∙ sym (q .are)
+pub rows-unique : {touches : Bool} {w : Window} {zs xs ys : List ℤ} → RowsGiven touches w zs xs → RowsGiven touches w zs ys → xs ≡ ys
+rows-unique {touches} p q = p .are ∙ ap (rows touches 0) (each-unique (p .clipped) (q .clipped)) ∙ sym (q .are)
 
 pub one-batch : OneBatch
 one-batch w zs a b before after after′ p q = call-unique (batchRefusal w zs) (λ xs ys. rows-unique) p q
+
+pub one-batch-with-touches : OneBatchWithTouches
+one-batch-with-touches w zs a b before after after′ p q = call-unique (batchRefusal w zs) (λ xs ys. rows-unique) p q
 
 -- ---- the rows of the computed answers
 module _ {w : Window} (on : WindowOnTable w) where
@@ -48,81 +48,70 @@ module _ {w : Window} (on : WindowOnTable w) where
       batches._and_ (clippedOf-is on (record { x1 = h 0 (omega arith); y1 = h 1 (omega arith); x2 = h 2 (omega arith); y2 = h 3 (omega arith) }))
       (each-clipped zs (λ k l. h (suc (suc (suc (suc k)))) (omega arith)))
 
--- the computed rows of the strokes from the place p on
-abbrev pub rowsFrom : Window → List ℤ → ℕ → List ℤ
-rowsFrom w zs p = rows (p / 4) (map (clippedOf w) (strokesOf (drop p zs)))
+module _ (touches : Bool) where
+  -- the computed rows of the strokes from the place p on
+  abbrev pub rowsFrom : Window → List ℤ → ℕ → List ℤ
+  rowsFrom w zs p = rows touches (p / 4) (map (clippedOf w) (strokesOf (drop p zs)))
 
-pub computed-rows : {w : Window} {zs : List ℤ} → WindowOnTable w → StrokesOnTable zs → RowsOf w zs (rowsFrom w zs 0)
-computed-rows {w} {zs} on t = record { answers = map (clippedOf w) (strokesOf zs); clipped = each-clipped on zs (t .on); are = refl }
+  pub computed-rows : {w : Window} {zs : List ℤ} → WindowOnTable w → StrokesOnTable zs → RowsGiven touches w zs (rowsFrom w zs 0)
+  computed-rows {w} {zs} on t = record { answers = map (clippedOf w) (strokesOf zs); clipped = each-clipped on zs (t .on); are = refl }
 
-module _ (w : Window) (zs : List ℤ) (p : ℕ) where
-  pub rows-more : p + 4 ≤ length zs → rowsFrom w zs p ≡ row (p / 4) (clippedOf w (strokeAt zs p)) ++ rowsFrom w zs (p + 4)
-  unfolding rows
-  rows-more h = let next : (p + 4) / 4 ≡ suc (p / 4) = omega arith in rw (strokes-more zs p h, next)
+  module _ (w : Window) (zs : List ℤ) (p : ℕ) where
+    pub rows-more : p + 4 ≤ length zs → rowsFrom w zs p ≡ row touches (p / 4) (clippedOf w (strokeAt zs p)) ++ rowsFrom w zs (p + 4)
+    unfolding rows
+    rows-more h = let next : (p + 4) / 4 ≡ suc (p / 4) = omega arith in rw (strokes-more zs p h, next)
 
-  pub rows-none : length zs ≤ p → rowsFrom w zs p ≡ []
-  unfolding rows
-  rows-none h = rw (strokes-none zs p h)
+    pub rows-none : length zs ≤ p → rowsFrom w zs p ≡ []
+    unfolding rows
+    rows-none h = rw (strokes-none zs p h)
 
--- ---- what is to be written from the place p on, by the cut of the stroke there
-module _ {w : Window} {zs : List ℤ} {c : Cut} {s : Stroke} (p : ℕ) (on : WindowOnTable w) (t : StrokesOnTable zs) (h : p + 4 ≤ length zs) (e : s ≡ strokeAt zs p)
-    (k : CutIs w s c) where
-  first-row : {a : StrokeAnswer} → Clipped w (strokeAt zs p) a → rowsFrom w zs p ≡ row (p / 4) a ++ rowsFrom w zs (p + 4)
-  first-row q = rows-more w zs p h ∙ ap (λ (a : StrokeAnswer). row (p / 4) a ++ rowsFrom w zs (p + 4)) (clipped-unique (clippedOf-is on (stroke-of-list p t h)) q)
+  -- ---- what is to be written from the place p on, by what is given of the stroke there
+  module _ {w : Window} {zs : List ℤ} {s : Stroke} (p : ℕ) (on : WindowOnTable w) (t : StrokesOnTable zs) (h : p + 4 ≤ length zs)
+      (e : s ≡ strokeAt zs p) where
+    abbrev answer : StrokeAnswer
+    answer = clippedOf w (strokeAt zs p)
 
-  there : CutIs w (strokeAt zs p) c
-  there = subst (λ (s : Stroke). CutIs w s c) e k
+    clipped : Clipped w s answer
+    clipped = subst (λ (s : Stroke). Clipped w s answer) (sym e) (clippedOf-is on (stroke-of-list p t h))
 
-  pub rows-kept : c .kept ≡ true → rowsFrom w zs p ≡ (pos (p / 4) ∷ c .ax ∷ c .ay ∷ c .bx ∷ c .by ∷ []) ++ rowsFrom w zs (p + 4)
-  rows-kept e = first-row (there .kept e .answer)
+    -- by the stroke's cut
+    pub rows-cut : {c : Cut} → CutIs touches w s c
+        → rowsFrom w zs p ≡ (if c .given then pos (p / 4) ∷ c .ax ∷ c .ay ∷ c .bx ∷ c .by ∷ [] else []) ++ rowsFrom w zs (p + 4)
+    rows-cut {c} k =
+        rows-more w zs p h ∙ ap (λ (xs : List ℤ). xs ++ rowsFrom w zs (p + 4)) (cut-row (isGiven touches answer) ∙ ap five (sym (k answer clipped)))
+      where
+        five : Cut → List ℤ
+        five c = if c .given then pos (p / 4) ∷ c .ax ∷ c .ay ∷ c .bx ∷ c .by ∷ [] else []
 
-  pub rows-missed : c .kept ≡ false → rowsFrom w zs p ≡ rowsFrom w zs (p + 4)
-  rows-missed e = first-row (nothing-kept (there .missed e))
+        cut-row : (b : Bool) → (if b then pos (p / 4) ∷ answer .ax ∷ answer .ay ∷ answer .bx ∷ answer .by ∷ [] else [])
+            ≡ five (if b then record { given = true; ax = answer .ax; ay = answer .ay; bx = answer .bx; by = answer .by } else noCut)
+        cut-row true = refl
+        cut-row false = refl
 
--- ---- how many numbers that are, by whether the window leaves anything of the stroke there
-row-length : (n : ℕ) (a : StrokeAnswer) {k : Bool} → a .kept ≡ k → length (row n a) ≡ length (if k then pos n ∷ a .ax ∷ a .ay ∷ a .bx ∷ a .by ∷ [] else [])
-row-length n a q = ap (λ (k : Bool). length (if k then pos n ∷ a .ax ∷ a .ay ∷ a .bx ∷ a .by ∷ [] else [])) q
+    -- and how many numbers that are, by whether it is given
+    pub rows-length : {b : Bool} → SaysGiven touches w s b → length (rowsFrom w zs p) ≡ (if b then 5 else 0) + length (rowsFrom w zs (p + 4))
+    rows-length g =
+        ap length (rows-more w zs p h) ∙ length-append (row touches (p / 4) answer) (rowsFrom w zs (p + 4))
+        ∙ ap (λ (n : ℕ). n + length (rowsFrom w zs (p + 4)))
+        (row-length (isGiven touches answer) ∙ ap (λ (b : Bool). if b then 5 else 0) (sym (g answer clipped)))
+      where
+        row-length : (b : Bool)
+            → length (if b then pos (p / 4) ∷ answer .ax ∷ answer .ay ∷ answer .bx ∷ answer .by ∷ [] else []) ≡ (if b then 5 else 0)
+        row-length true = refl
+        row-length false = refl
 
-module _ {w : Window} {zs : List ℤ} {b : Bool} {s : Stroke} (p : ℕ) (on : WindowOnTable w) (t : StrokesOnTable zs) (h : p + 4 ≤ length zs) (e : s ≡ strokeAt zs p)
-    (k : KeepsAny w s b) where
-  abbrev answer : StrokeAnswer
-  answer = clippedOf w (strokeAt zs p)
-
-  clipped : Clipped w (strokeAt zs p) answer
-  clipped = clippedOf-is on (stroke-of-list p t h)
-
-  touched : KeepsAny w (strokeAt zs p) b
-  touched = subst (λ (s : Stroke). KeepsAny w s b) e k
-
-  more : length (rowsFrom w zs p) ≡ length (row (p / 4) answer) + length (rowsFrom w zs (p + 4))
-  more = ap length (rows-more w zs p h) ∙ length-append (row (p / 4) answer) (rowsFrom w zs (p + 4))
-
-  pub length-kept : b ≡ true → length (rowsFrom w zs p) ≡ 5 + length (rowsFrom w zs (p + 4))
-  length-kept q = go (answer .kept) refl
+  -- ---- five numbers a stroke at the most
+  row-short : (k : ℕ) (a : StrokeAnswer) → length (row touches k a) ≤ 5
+  row-short k a = go (isGiven touches a)
     where
-      go : (k : Bool) → answer .kept ≡ k → length (rowsFrom w zs p) ≡ 5 + length (rowsFrom w zs (p + 4))
-      go true f = omega (arith, more, row-length (p / 4) answer f)
-      go false f = absurd (touched .kept q (λ n d m. ff-tt (sym f ∙ clipped .part .keeps n d m)))
+      go : (b : Bool) → length (if b then pos k ∷ a .ax ∷ a .ay ∷ a .bx ∷ a .by ∷ [] else []) ≤ 5
+      go true = omega arith
+      go false = omega arith
 
-  pub length-missed : b ≡ false → length (rowsFrom w zs p) ≡ length (rowsFrom w zs (p + 4))
-  length-missed q = go (answer .kept) refl
-    where
-      go : (k : Bool) → answer .kept ≡ k → length (rowsFrom w zs p) ≡ length (rowsFrom w zs (p + 4))
-      go true f = absurd (touched .missed q _ _ (clipped .part .first f .keeps))
-      go false f = omega (arith, more, row-length (p / 4) answer f)
-
--- five numbers a stroke at the most
-row-short : (k : ℕ) (a : StrokeAnswer) → length (row k a) ≤ 5
-row-short k a = go (a .kept)
-  where
-    go : (b : Bool) → length (if b then pos k ∷ a .ax ∷ a .ay ∷ a .bx ∷ a .by ∷ [] else []) ≤ 5
-    go true = omega arith
-    go false = omega arith
-
-rows-short : (k : ℕ) (answers : List StrokeAnswer) → length (rows k answers) ≤ 5 * length answers
-unfolding rows
-rows-short k [] = omega arith
-rows-short k (a ∷ answers) = omega (arith, length-append (row k a) (rows (suc k) answers), row-short k a, rows-short (suc k) answers)
+  rows-short : (k : ℕ) (answers : List StrokeAnswer) → length (rows touches k answers) ≤ 5 * length answers
+  unfolding rows
+  rows-short k [] = omega arith
+  rows-short k (a ∷ answers) = omega (arith, length-append (row touches k a) (rows touches (suc k) answers), row-short k a, rows-short (suc k) answers)
 
 strokes-short : (zs : List ℤ) → 4 * length (strokesOf zs) ≤ length zs
 unfolding strokesOf
@@ -132,8 +121,9 @@ strokes-short (a ∷ b ∷ []) = omega arith
 strokes-short (a ∷ b ∷ c ∷ []) = omega arith
 strokes-short (a ∷ b ∷ c ∷ d ∷ zs) = omega (arith, strokes-short zs)
 
-pub rows-of-short : {w : Window} {zs xs : List ℤ} → RowsOf w zs xs → length xs ≤ length zs / 4 * 5
-rows-of-short {w} {zs} {xs} p = omega (arith, ap length (p .are), rows-short 0 (p .answers), strokes-short zs, each-length (p .clipped))
+pub rows-of-short : {touches : Bool} {w : Window} {zs xs : List ℤ} → RowsGiven touches w zs xs → length xs ≤ length zs / 4 * 5
+rows-of-short {touches} {w} {zs} {xs} p =
+    omega (arith, ap length (p .are), rows-short touches 0 (p .answers), strokes-short zs, each-length (p .clipped))
   where
     each-length : {ss : List Stroke} {ys : List StrokeAnswer} → Each (Clipped w) ss ys → length ys ≡ length ss
     each-length batches.none = refl

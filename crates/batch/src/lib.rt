@@ -1,17 +1,20 @@
-// Many strokes against one rectangle: for each kept stroke its index and its two rounded points, into a lent output.
+// Many strokes against one rectangle: for each stroke that is given its index and its two rounded points, into a lent output. Strokes that only
+// touch are given where they are asked for by name.
+use cuts::Cut;
 use grid::Answer;
+use grid::Refusal;
 use grid::Window;
-use strokes::Cut;
 ghost use mathlib.Core.Path.{_≡_};
+ghost use mathlib.Core.Bool.{true, false};
 ghost use mathlib.Core.List.{List, [], _∷_};
 ghost use Prim.Native.Nat.{_+_, _≤_};
 ghost use lib.IntN.{ℤ};
 ghost use lib.ListN.{length};
 ghost use lib.Seq.{sets};
 ghost use Rattle.grid.specs.Table.{WindowOnTable, StrokesOnTable};
-ghost use Rattle.batch.specs.Batches.{RowsOf, Batch, WroteRows};
+ghost use Rattle.batch.specs.Batches.{RowsGiven, Batch, BatchWithTouches, WroteRows, RefusesRows};
 
-// Puts a kept stroke's index and points from n on.
+// Puts a stroke's index and points from n on.
 fn put(out: &mut [i32], n: usize, k: i32, c: Cut)
     requires { ⌜ n + 5 ≤ length (now out) ⌝ }
     ensures { λ _. ⌜ now (out .exit) ≡ sets (now (out .entry)) n (k ∷ c .ax ∷ c .ay ∷ c .bx ∷ c .by ∷ []) ⌝ }
@@ -28,15 +31,15 @@ fn put(out: &mut [i32], n: usize, k: i32, c: Cut)
 }
 
 // How many numbers the answer has.
-fn count_rows(w: Window, s: &[i32]) -> usize
+fn count_rows(w: Window, s: &[i32], touches: bool) -> usize
     requires { ⌜ WindowOnTable w ⌝ }
     requires { ⌜ StrokesOnTable (now s) ⌝ }
-    ensures { λ r. ⌜ ((xs : List ℤ) → RowsOf w (now (s .entry)) xs → r ≡ length xs) ⌝ }
+    ensures { λ r. ⌜ ((xs : List ℤ) → RowsGiven touches w (now (s .entry)) xs → r ≡ length xs) ⌝ }
 {
     let mut needed = 0;
     let mut at = 0;
     while at < s.len() {
-        if strokes::keeps_any(w, grid::stroke_at(s, at)) {
+        if cuts::gives(w, grid::stroke_at(s, at), touches) {
             needed += 5;
         }
         at += 4;
@@ -48,44 +51,88 @@ fn count_rows(w: Window, s: &[i32]) -> usize
 fn write_rows(w: Window, s: &[i32], out: &mut [i32]) -> usize
     requires { ⌜ WindowOnTable w ⌝ }
     requires { ⌜ StrokesOnTable (now s) ⌝ }
-    requires { ⌜ ((xs : List ℤ) → RowsOf w (now s) xs → length xs ≤ length (now out)) ⌝ }
-    ensures { λ r. ⌜ WroteRows w (now (s .entry)) r (now (out .entry)) (now (out .exit)) ⌝ }
+    requires { ⌜ ((xs : List ℤ) → RowsGiven false w (now s) xs → length xs ≤ length (now out)) ⌝ }
+    ensures { λ r. ⌜ WroteRows false w (now (s .entry)) r (now (out .entry)) (now (out .exit)) ⌝ }
 {
     let mut n = 0;
-    let mut k: u32 = 0;
-    let mut p = 0;
-    while p < s.len() {
-        let c = strokes::cut_stroke(w, grid::stroke_at(s, p));
-        if c.kept {
+    let mut k = 0;
+    let strokes = s.len() / 4;
+    while k < strokes {
+        let c = cuts::cut_stroke(w, grid::stroke_at(s, k * 4));
+        if c.given {
             put(out, n, k as i32, c);
             n += 5;
         }
         k += 1;
-        p += 4;
     }
     n
 }
 
-// The batch. With room for every stroke given one pass is enough; else the answer is counted first.
-// Its statement is `Batch`, specs/Batches.antt.
-pub fn batch(w: Window, s: &[i32], out: &mut [i32]) -> Answer
-    ensures { λ r. ⌜ Batch w (now (s .entry)) r (now (out .entry)) (now (out .exit)) ⌝ }
+// The same, touches too.
+fn write_with_touches(w: Window, s: &[i32], out: &mut [i32]) -> usize
+    requires { ⌜ WindowOnTable w ⌝ }
+    requires { ⌜ StrokesOnTable (now s) ⌝ }
+    requires { ⌜ ((xs : List ℤ) → RowsGiven true w (now s) xs → length xs ≤ length (now out)) ⌝ }
+    ensures { λ r. ⌜ WroteRows true w (now (s .entry)) r (now (out .entry)) (now (out .exit)) ⌝ }
+{
+    let mut n = 0;
+    let mut k = 0;
+    let strokes = s.len() / 4;
+    while k < strokes {
+        let cut = cuts::cut_with_touches(w, grid::stroke_at(s, k * 4));
+        if cut.given {
+            put(out, n, k as i32, cut);
+            n += 5;
+        }
+        k += 1;
+    }
+    n
+}
+
+// What a call of so much room refuses, 8 too: with room for every stroke that is known at once, else the answer is counted.
+fn refusal(w: Window, s: &[i32], room: usize, touches: bool) -> Refusal
+    ensures { λ r. ⌜ RefusesRows touches w (now (s .entry)) room r ⌝ }
 {
     let a = grid::window_refusal(w);
     if a.number != 0 {
-        return grid::refused_by(a);
+        return a;
     }
     let b = grid::strokes_refusal(s);
     if b.number != 0 {
-        return grid::refused_by(b);
+        return b;
     }
-    let room = out.len();
     if s.len() / 4 * 5 <= room {
-        return grid::given(write_rows(w, s, out), room);
+        return b;
     }
-    let needed = count_rows(w, s);
-    if needed <= room {
-        return grid::given(write_rows(w, s, out), room);
+    grid::room_refusal(count_rows(w, s, touches), room)
+}
+
+// The batch. Its statement is `Batch`, specs/Batches.antt.
+pub fn batch(w: Window, s: &[i32], out: &mut [i32]) -> Answer
+    ensures { λ r. ⌜ Batch w (now (s .entry)) r (now (out .entry)) (now (out .exit)) ⌝ }
+{
+    let r = refusal(w, s, out.len(), false);
+    if r.number != 0 {
+        return grid::refused_by(r);
     }
-    grid::given(needed, room)
+    Answer {
+        number: 0,
+        place: 0,
+        count: write_rows(w, s, out),
+    }
+}
+
+// The batch with the strokes that only touch. Its statement is `BatchWithTouches`, specs/Batches.antt.
+pub fn batch_with_touches(w: Window, s: &[i32], out: &mut [i32]) -> Answer
+    ensures { λ r. ⌜ BatchWithTouches w (now (s .entry)) r (now (out .entry)) (now (out .exit)) ⌝ }
+{
+    let r = refusal(w, s, out.len(), true);
+    if r.number != 0 {
+        return grid::refused_by(r);
+    }
+    Answer {
+        number: 0,
+        place: 0,
+        count: write_with_touches(w, s, out),
+    }
 }

@@ -1,4 +1,5 @@
 -- A number takes two bytes or more, so a line of less than 512 bytes has less than 256.
+use mathlib.Core.Bool.{Bool}
 use mathlib.Core.List.{List}
 use Prim.Native.Nat.{ℕ, _<_}
 use native.Mathlib.Omega.{arith}
@@ -19,7 +20,7 @@ narrower text {x} h a =
     let half = simp length-append at (two-bytes (behindFirst text) _ (a .numbers)) in
     record { room = a .room; numbers = a .numbers; few = omega (arith, half, length-drop (firstEnd text) text) }
 
-pub widened : {text : List ℕ} {after : List ℤ} {r : Reply} → length text < 512 → BatchLine 256 text after r →
-    BatchLine 20005 text after r
+pub widened : {touches : Bool} {text : List ℕ} {after : List ℤ} {r : Reply} → length text < 512 → BatchLine touches 256 text after r
+    → BatchLine touches 20005 text after r
 widened h (to-call x a t) = to-call x (wider a) t
-widened {text} h (to-none n s) = to-none (λ x a. n x (narrower text h a)) s
+widened {text = text} h (to-none n s) = to-none (λ x a. n x (narrower text h a)) s

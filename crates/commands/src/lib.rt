@@ -19,6 +19,7 @@ use arguments::MM4;
 use arguments::OUTLINE;
 use arguments::RELEASE;
 use arguments::STRIPS;
+use arguments::TOUCHES;
 use replies::Reply;
 
 // The reply to the line that the first `have` bytes are.
@@ -38,6 +39,7 @@ pub fn reply(line: &[u8], have: usize, lent: &mut [i32]) -> Reply
         LB | CS | CB => stroke_commands::reply(word, rest),
         MM2 | MM4 | BACK => millimetre_commands::reply(word, rest),
         BATCH => batch_commands::batch(rest, lent),
+        TOUCHES => batch_commands::touches(rest, lent),
         OUTLINE => outline_commands::outline(rest, lent),
         DRAW => drawing_commands::draw(rest, lent),
         ENTER | RELEASE | STRIPS => book_commands::reply(word, rest, lent),

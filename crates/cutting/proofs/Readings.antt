@@ -11,18 +11,19 @@ use lib.ListN.{length, take, drop}
 use lib.Seq.{take-at}
 use Rattle.whole.specs.Choice.{if_then_else_}
 use Rattle.grid.specs.Calls.{written, answeredBy, GivenBy}
-use Rattle.grid.specs.Refusals.{refuse, first, noArea, windowRefusal, strokesRefusal, roomRefusal, mostStrokes}
+use Rattle.grid.specs.Refusals.{refuse, noArea, roomRefusal, mostStrokes}
 use Rattle.grid.specs.declared.Answer.{Answer}
 use Rattle.grid.specs.declared.Refusal.{Refusal}
 use Rattle.grid.specs.declared.Stroke.{Stroke}
 use Rattle.grid.specs.declared.Window.{Window}
-use Rattle.grid.proofs.Refusals.{goes-on}
 use Rattle.drawing.specs.Drawings.{Drawing, fault, drawn, Means, numbersOf, refused, told, ReadsAs, ReadDrawing}
 use Rattle.drawing.specs.declared.DrawingAnswer.{DrawingAnswer}
 use Rattle.drawing.proofs.Strokes.{four-each}
 use Rattle.drawing.proofs.Theorems.{few-strokes, on-table}
 use Rattle.strokes.specs.declared.StrokeAnswer.{StrokeAnswer}
+use Rattle.cuts.specs.Cuts.{isGiven}
 use Rattle.batch.specs.Batches.{rows, RowsOf, batchRefusal, Batch}
+use Rattle.batch.proofs.Refusing.{nothing-refused as none-refused}
 use Rattle.batch.proofs.Rows.{rows-of-short}
 use Rattle.cutting.specs.Sheets.{refusedSheet, CutDrawing, faulty, no-area}
 use Rattle.cutting.specs.declared.Sheet.{Sheet}
@@ -100,12 +101,13 @@ read {bs} {a} {before} {after} room same r = go (r .drawing) (r .means) (r .call
 
 -- ---- the batch
 
-rows-by-five : (k : ℕ) (rest : List StrokeAnswer) → length (rows k rest) % 5 ≡ 0
+rows-by-five : (k : ℕ) (rest : List StrokeAnswer) → length (rows false k rest) % 5 ≡ 0
 unfolding rows
 rows-by-five k [] = refl
-rows-by-five k (a ∷ rest) = go (a .kept) (rows-by-five (suc k) rest)
+rows-by-five k (a ∷ rest) = go (isGiven false a) (rows-by-five (suc k) rest)
   where
-    go : (b : Bool) → length (rows (suc k) rest) % 5 ≡ 0 → length ((if b then pos k ∷ a .ax ∷ a .ay ∷ a .bx ∷ a .by ∷ [] else []) ++ rows (suc k) rest) % 5 ≡ 0
+    go : (b : Bool) → length (rows false (suc k) rest) % 5 ≡ 0
+        → length ((if b then pos k ∷ a .ax ∷ a .ay ∷ a .bx ∷ a .by ∷ [] else []) ++ rows false (suc k) rest) % 5 ≡ 0
     go true h = omega arith
     go false h = h
 
@@ -118,11 +120,9 @@ pub record Kept (w : Window) (zs : List ℤ) (b : Answer) (after : List ℤ) : T
   pub start : take (b .count / 5 * 5) after ≡ numbers
 
 nothing-refused : (bs : List ℕ) {w : Window} {ss : List Stroke} → Means bs (drawn w ss) → noArea w .number ≡ 0 → batchRefusal w (numbersOf ss) .number ≡ 0
-unfolding batchRefusal first
 nothing-refused bs {w} {ss} m n =
     let t = on-table bs m in
-    let e : windowRefusal w .number ≡ 0 = ap (λ (f : Refusal). f .number) (t .0) ∙ n in
-    ap (λ (f : Refusal). f .number) (goes-on (windowRefusal w) (strokesRefusal (numbersOf ss) ∷ []) e ∙ goes-on (strokesRefusal (numbersOf ss)) [] (t .1))
+    none-refused w (numbersOf ss) (ap (λ (f : Refusal). f .number) (t .0) ∙ n) (t .1)
 
 pub kept : {bs : List ℕ} {a : DrawingAnswer} {out : List ℤ} {b : Answer} {before after : List ℤ} (d : Drawn bs a out) → 20480 ≤ length before
     → Batch (a .window) (take (a .count * 4) out) b before after → Kept (a .window) (numbersOf (d .lines)) b after

@@ -1,9 +1,10 @@
 -- A drawing that is read and cut to its strip.
 --   refusedSheet n p    the sheet of a drawing that is refused with n at p: every other field is 0
---   Cut bytes sheet strokes rows   the bytes mean a drawing whose window has area: the sheet has the window and the counts, the list strokes starts
---                       with the numbers of its strokes and the list rows with the batch's rows
+--   Cut bytes sheet strokes rows   the bytes mean a drawing whose window has area: the sheet has the window, how many strokes are drawn and how many of
+--                       them have a row; the list strokes starts with the numbers of its strokes, and the list rows with the batch's rows
 --   CutDrawing bytes sheet strokes rows   what `cutting::cut_drawing` promises on these bytes: its answer, and the two outputs after it.
---                       A drawing's numbers are on the table, so a fault (11) and a window without area (3) are all that is refused
+--                       A drawing's numbers are on the table, so a fault (11) and a window without area (3) are all that is refused. What else is
+--                       in the two outputs is left open
 use mathlib.Core.Path.{_≡_}
 use mathlib.Core.List.{List}
 use Prim.Native.Nat.{ℕ, _*_}

@@ -4,9 +4,10 @@
 --   Lowest f              the denominator of f is positive, and only 1 divides both its numbers
 --   LowestOf n d f        what `lowest_small` and `lowest_signed` promise: f is n/d in lowest terms
 --   lessThan f g          what `less` answers: whether f is less than g, by the cross products
+--   equalTo f g           whether f and g are equal: neither is less than the other. In lowest terms they are then the same two numbers
 --   Comparable f g        both cross products of f and g fit 64 bits
 use mathlib.Core.Path.{_≡_}
-use mathlib.Core.Bool.{Bool}
+use mathlib.Core.Bool.{Bool, not, _||_}
 use Prim.Native.Nat.{ℕ}
 use lib.IntN.{ℤ, pos, _*ℤ_}
 use lib.Signed.{_<ℤ_, ltZ}
@@ -31,6 +32,9 @@ pub record LowestOf (n d : ℤ) (f : Fraction) : Type 0 where
 
 unfoldable pub lessThan : Fraction → Fraction → Bool
 lessThan f g = ltZ (f .num *ℤ g .den) (g .num *ℤ f .den)
+
+unfoldable pub equalTo : Fraction → Fraction → Bool
+equalTo f g = not (lessThan f g || lessThan g f)
 
 pub record Comparable (f g : Fraction) : Type 0 where
   pub one : Within 9223372036854775807 (f .num *ℤ g .den)

@@ -14,7 +14,7 @@ use outlines::OutlineAnswer;
 use strip_book::BookingAnswer;
 use strip_book::ReleaseAnswer;
 use strokes::StrokeAnswer;
-ghost use Rattle.batch.specs.Batches.{Batch};
+ghost use Rattle.batch.specs.Batches.{Batch, BatchWithTouches};
 ghost use Rattle.codes.specs.Steps.{CohenSutherland};
 ghost use Rattle.corners.specs.Corners.{CyrusBeck};
 ghost use Rattle.drawing.specs.Drawings.{ReadDrawing};
@@ -64,6 +64,17 @@ pub extern "C" fn gerlyantu_batch(w: Window, strokes: &[i32], out: &mut [i32]) -
     ensures { λ r. ⌜ Batch w (now (strokes .entry)) r (now (out .entry)) (now (out .exit)) ⌝ }
 {
     batch::batch(w, strokes, out)
+}
+
+#[no_mangle]
+pub extern "C" fn gerlyantu_batch_with_touches(
+    w: Window,
+    strokes: &[i32],
+    out: &mut [i32],
+) -> Answer
+    ensures { λ r. ⌜ BatchWithTouches w (now (strokes .entry)) r (now (out .entry)) (now (out .exit)) ⌝ }
+{
+    batch::batch_with_touches(w, strokes, out)
 }
 
 #[no_mangle]

@@ -12,6 +12,7 @@ use arguments::MM4;
 use arguments::OUTLINE;
 use arguments::RELEASE;
 use arguments::STRIPS;
+use arguments::TOUCHES;
 use words::Integer;
 use words::Natural;
 use words::Single;
@@ -60,7 +61,7 @@ fn wanted(word: u64) -> Wants {
         MM4 => taking(4, 0, 0),
         LB | CS => taking(8, 0, 0),
         CB => taking(5, 1, 64),
-        BATCH => taking(6, 6, 20000),
+        BATCH | TOUCHES => taking(6, 6, 20000),
         OUTLINE => taking(7, 7, 256),
         ENTER => taking(6, 1, 20000),
         RELEASE => taking(3, 1, 20000),
@@ -78,7 +79,7 @@ fn kind_at(word: u64, place: usize) -> Kind {
             2 => Kind::UpTo(40960),
             _ => Kind::Whole,
         },
-        BATCH | STRIPS => match place {
+        BATCH | TOUCHES | STRIPS => match place {
             1 => Kind::UpTo(40960),
             _ => Kind::Whole,
         },

@@ -2,8 +2,9 @@
 --   RefusedText   the texts for all refusals, by number and place
 --   CutText       the texts for all drawings that are cut
 --   Report refused cut bytes text number place   text is the report on the drawing whose bytes these are, where `refused n p` is the text of a refusal
---       and `cut w zs n xs k` the text of a drawing that is cut: its strip w, the numbers zs of its n strokes, and the batch's rows xs of the k that are
---       kept; number and place are the refusal's, or 0. A refusal is reported where the drawing has a fault or its window no area. No other can be: a
+--       and `cut w zs n xs k` the text of a drawing that is cut: its strip w, the numbers zs of its n strokes, the batch's rows xs, and how many
+--       strokes have one, k. These are the strokes that reports call kept: one that only touches is not among them. Number and place are the
+--       refusal's, or 0. A refusal is reported where the drawing has a fault or its window no area. No other can be: a
 --       drawing's numbers are on the table
 use mathlib.Core.Path.{_≡_}
 use mathlib.Core.List.{List}

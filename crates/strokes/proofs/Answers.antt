@@ -1,7 +1,5 @@
--- The answers where nothing of a stroke is left, all of it, or the part that a span of kept fractions leaves; and the cuts of these.
-use mathlib.Core.Path.{_≡_, refl, sym, _∙_}
-use mathlib.Core.Bool.{true}
-use Prim.Native.Nat.{ℕ}
+-- The answers where nothing of a stroke is left, all of it, or the part that a span of kept fractions leaves.
+use mathlib.Core.Path.{refl}
 use native.Mathlib.Omega.{arith}
 use lib.IntN.{ℤ, _*ℤ_}
 use lib.Signed.{_≤ℤ_, _<ℤ_}
@@ -23,8 +21,7 @@ use Rattle.spans.proofs.Parts.{all, all-proper, all-sized, in-all, part-missed,
 use Rattle.spans.proofs.Sides.{start-lowest, end-lowest, own-start, own-end}
 use Rattle.strokes.specs.Sides.{conditions}
 use Rattle.strokes.specs.Strokes.{Keeps, PointAt, Clipped, blank}
-use Rattle.strokes.specs.Workers.{EndsInside, keptAnswer, wholeAnswer, missedCut, CutIs}
-use Rattle.strokes.specs.declared.Cut.{Cut}
+use Rattle.strokes.specs.Workers.{EndsInside, keptAnswer, wholeAnswer}
 use Rattle.strokes.specs.declared.End.{End}
 use Rattle.strokes.proofs.Coordinates.{all-between}
 use Rattle.strokes.proofs.Points.{point-start, point-finish, point-lowest}
@@ -97,14 +94,3 @@ module _ {w : Window} {s : Stroke} where
       (record { t = zeroth; x = s .x1; y = s .y1; side = noSide }) (record { t = unit; x = s .x2; y = s .y2; side = noSide })
       (point-start {f = zeroth} (omega zarith) refl) (point-finish {f = unit} (omega zarith) refl) own-start own-end
       (lowest-zeroth refl) (lowest-unit refl)
-
-  -- ---- cuts
-  pub cut-missed : ((n d : ℤ) → Keeps w s n d → ⊥) → CutIs w s missedCut
-  cut-missed never = record { missed = λ e. never; kept = λ e. absurd (ff-tt e) }
-
-  pub cut-kept : {c : Cut} {t u : Fraction} {i j : ℕ} → c .kept ≡ true
-      → Clipped w s (keptAnswer (record { t = t; x = c .ax; y = c .ay; side = i }) (record { t = u; x = c .bx; y = c .by; side = j }) t u) → CutIs w s c
-  cut-kept {c} {t} {u} {i} {j} k a = record {
-    missed = λ e. absurd (tt-ff (sym k ∙ e));
-    kept = λ e. record { first = t; last = u; side0 = i; side1 = j; answer = a };
-  }

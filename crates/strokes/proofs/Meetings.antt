@@ -3,7 +3,7 @@
 use mathlib.Core.Path.{_≡_, refl}
 use mathlib.Core.Logic.{⊎-elim}
 use mathlib.Core.List.{[], _∷_}
-use Prim.Native.Nat.{ℕ, zero, suc, _*_, _<_, _≤_}
+use Prim.Native.Nat.{ℕ, zero, suc, _+_, _*_, _<_, _≤_}
 use native.Mathlib.Nat.{mul-le-mul, le-refl}
 use native.Mathlib.Omega.{arith}
 use lib.IntN.{ℤ, pos, _*ℤ_}
@@ -27,10 +27,10 @@ use Rattle.spans.proofs.Parts.{time-within}
 use Rattle.strokes.specs.declared.End.{End}
 use Rattle.strokes.specs.declared.ways.Way.{Way}
 use Rattle.strokes.specs.Strokes.{Keeps}
-use Rattle.strokes.specs.Workers.{ProperWay, WayAt, FromStartToEnd, WayOf, Overlap, OnWay, sideMet, uncut, by-x, by-y, StartOf, FinishOf}
+use Rattle.strokes.specs.Workers.{ProperWay, WayAt, FromStartToEnd, WayOf, Apart, Overlap, OnWay, sideMet, uncut, by-x, by-y, StartOf, FinishOf}
 use Rattle.strokes.proofs.Points.{point-start}
 
-positive : {k : ℕ} → 0 < k → pos 0 <ℤ pos k
+pub positive : {k : ℕ} → 0 < k → pos 0 <ℤ pos k
 positive h = omega zarith
 
 -- ---- the numbers of short ways, and their products, which fit 32 bits
@@ -43,8 +43,11 @@ start-small k = omega (arith, k .order, end-small k)
 pub product-fits : {m n : ℕ} → m ≤ 32766 → n ≤ 32766 → Fits w32 (m * n)
 product-fits h k = record { fits = omega (arith, mul-le-mul h k) }
 
+pub product-and-fits : {m n k : ℕ} → m ≤ 32766 → n ≤ 32766 → k ≤ 1 → Fits w32 (m * n + k)
+product-and-fits h k l = record { fits = omega (arith, mul-le-mul h k) }
+
 -- ---- one way ends before the other starts
-pub never-both : {x y : Way} → ProperWay x → ProperWay y → y .end * x .long < x .start * y .long → (n d : ℤ) → pos 0 <ℤ d → FromStartToEnd x n d
+never-both : {x y : Way} → ProperWay x → ProperWay y → y .end * x .long < x .start * y .long + 0 → (n d : ℤ) → pos 0 <ℤ d → FromStartToEnd x n d
     → FromStartToEnd y n d → ⊥
 never-both {x} {y} f g l n d h i j =
     let m : pos (y .end * x .long) <ℤ pos (x .start * y .long) = omega zarith in
@@ -69,7 +72,7 @@ earlier-end a b k l n h j p i = ⊎-elim (λ e. absurd (n (omega zarith) (togeth
         omega zarith
 
 -- ---- a place on a way, as a fraction
-on-way : {n d : ℕ} → 0 < d → d ≤ 32766 → n ≤ d → OnWay (record { num = pos n; den = pos d })
+pub on-way : {n d : ℕ} → 0 < d → d ≤ 32766 → n ≤ d → OnWay (record { num = pos n; den = pos d })
 on-way h k l = record { time = record { den = omega zarith; low = omega zarith; high = omega zarith }; small = abs-within k }
 
 -- a way that is not left before its end goes to its end
@@ -166,11 +169,15 @@ before m n {l} {d} t h hl hd i j =
 
 -- ---- what is kept is from the later start to the earlier end
 module _ {w : Window} {s : Stroke} {x y : Way} (f : WayOf (w .left) (w .right) (s .x1) (s .x2) x) (g : WayOf (w .bottom) (w .top) (s .y1) (s .y2) y) where
-  kept-on : {n d : ℤ} → Keeps w s n d → FromStartToEnd x n d × FromStartToEnd y n d
+  pub kept-on : {n d : ℤ} → Keeps w s n d → FromStartToEnd x n d × FromStartToEnd y n d
   kept-on {n} {d} k = (f .stays n d (k .time) (k .x), g .stays n d (k .time) (k .y))
 
-  pub none-kept : ((n d : ℤ) → pos 0 <ℤ d → FromStartToEnd x n d → FromStartToEnd y n d → ⊥) → (n d : ℤ) → Keeps w s n d → ⊥
-  none-kept never n d k = never n d (k .time .den) (kept-on k .0) (kept-on k .1)
+  pub none-kept : Apart 0 x y → (n d : ℤ) → Keeps w s n d → ⊥
+  none-kept apart n d k =
+      let o = kept-on k in
+      let px = f .way .proper in
+      let py = g .way .proper in
+      ⊎-elim (λ l. never-both px py l n d (k .time .den) (o .0) (o .1)) (λ l. never-both py px l n d (k .time .den) (o .1) (o .0)) apart
 
   module _ {a b : End} (p : StartOf s x y a) (q : FinishOf s x y b) where
     proper : ProperSpan (record { first = a .t; last = b .t })
@@ -199,7 +206,7 @@ module _ {w : Window} {s : Stroke} {x y : Way} (f : WayOf (w .left) (w .right) (
           };
         }
 
-    pub ends-meet : Overlap x y → (a .t .num *ℤ b .t .den) ≤ℤ (b .t .num *ℤ a .t .den)
+    pub ends-meet : {k : ℕ} → Overlap k x y → (a .t .num *ℤ b .t .den) ≤ℤ (b .t .num *ℤ a .t .den)
     ends-meet o =
         let hx = mul-le-mul (f .way .proper .order) (le-refl (x .long)) in
         let hy = mul-le-mul (g .way .proper .order) (le-refl (y .long)) in
@@ -208,35 +215,3 @@ module _ {w : Window} {s : Stroke} {x y : Way} (f : WayOf (w .left) (w .right) (
         q .greatest (a .t .num) (a .t .den) (p .way .time .den)
         (p .least (pos (x .end)) (pos (x .long)) (positive (f .way .proper .long)) (omega zarith) (omega zarith))
         (p .least (pos (y .end)) (pos (y .long)) (positive (g .way .proper .long)) (omega zarith) (omega zarith))
-
-  -- the later start is kept
-  pub some-kept : Overlap x y → ((n d : ℤ) → Keeps w s n d → ⊥) → ⊥
-  some-kept o never =
-      let k = f .way .proper in
-      let l = g .way .proper in
-      let hx = mul-le-mul (k .order) (le-refl (x .long)) in
-      let hy = mul-le-mul (l .order) (le-refl (y .long)) in
-      let i = o .x-first in
-      let j = o .y-first in
-      let s = k .order in
-      let e = k .high in
-      let s′ = l .order in
-      let e′ = l .high in
-      ⊎-elim
-      (λ h.
-      let t = on-way (k .long) (k .small) (omega arith) .time in
-      never (pos (x .start)) (pos (x .long))
-      (record {
-        time = t;
-        x = f .keeps _ _ t (record { from = omega zarith; upto = omega zarith });
-        y = g .keeps _ _ t (record { from = omega zarith; upto = omega zarith });
-      }))
-      (λ h.
-      let t = on-way (l .long) (l .small) (omega arith) .time in
-      never (pos (y .start)) (pos (y .long))
-      (record {
-        time = t;
-        x = f .keeps _ _ t (record { from = omega zarith; upto = omega zarith });
-        y = g .keeps _ _ t (record { from = omega zarith; upto = omega zarith });
-      }))
-      (≤-total (pos (y .start * x .long)) (pos (x .start * y .long)))

@@ -4,6 +4,7 @@
 --   InClosedWindow w x y   the grid point (x, y) lies in the window or on its border
 --   StaysInside       the rounded points of a kept stroke never leave the window
 --   SideOrOwnEnd      the side of t0 is 255 exactly where t0 is 0/1, and that of t1 exactly where t1 is 1/1 or nothing is kept; else it is one of 0 to 3
+--   DotKept           a stroke of no length inside, or on the border, is kept from 0/1 to 1/1
 --   FourConditions    a fraction from 0 to 1 is kept exactly where it satisfies p·t ≤ q for each of the four sides
 use mathlib.Core.Path.{_≡_}
 use mathlib.Core.Bool.{true}
@@ -12,6 +13,7 @@ use lib.IntN.{ℤ}
 use lib.Signed.{_≤ℤ_}
 use Rattle.grid.specs.declared.Stroke.{Stroke}
 use Rattle.grid.specs.declared.Window.{Window}
+use Rattle.spans.specs.Parts.{zeroth, unit}
 use Rattle.spans.specs.Sides.{MeetsAll, OwnEnds}
 use Rattle.strokes.specs.Sides.{conditions}
 use Rattle.strokes.specs.Strokes.{Keeps, Clipping}
@@ -32,6 +34,10 @@ StaysInside = (w : Window) (s : Stroke) (a : StrokeAnswer) → Clipping w s a �
 
 abbrev pub SideOrOwnEnd : Type 0
 SideOrOwnEnd = (w : Window) (s : Stroke) (a : StrokeAnswer) → Clipping w s a → OwnEnds 4 (a .kept) (a .t0) (a .t1) (a .side0) (a .side1)
+
+abbrev pub DotKept : Type 0
+DotKept = (w : Window) (s : Stroke) (a : StrokeAnswer) → Clipping w s a → a .number ≡ 0 → s .x1 ≡ s .x2 → s .y1 ≡ s .y2
+    → InClosedWindow w (s .x1) (s .y1) → (a .kept ≡ true) × (a .t0 ≡ zeroth) × (a .t1 ≡ unit)
 
 -- the rules' own words for what is kept; `Keeps` says the same of the point's two coordinates
 abbrev pub FourConditions : Type 0

@@ -10,7 +10,9 @@
 --   MetAt lo hi a b c    coming in between lo and hi, the way from a to b meets a side at c: lo where it rises, hi where it falls
 --   WayOf lo hi a b r    r is a way from a to b, and from its start to its end it is between lo and hi, nowhere else;
 --                        where it comes in or goes out on the way it meets a side there
---   Overlap x y          neither way ends before the other starts
+--   Apart k x y          one way ends before the other starts (k = 0), or at the latest as it starts (k = 1): the stroke misses, or at most touches.
+--                        Places on two ways are compared by cross products
+--   Overlap k x y        neither is so: some fraction is on both ways (k = 0), more than one is (k = 1)
 --   OnWay f              f is a fraction from 0 to 1, with a denominator no larger than the longest way
 --   sideMet a b i j      the side that the way from a to b meets coming in, by its number: i where it rises, j where it falls
 --   StartBy s x y t k    t is the later start of the two ways, and k names the side that is met there, that of x where both are met at once; noSide
@@ -21,13 +23,10 @@
 --   keptAnswer a b t u   the answer for a stroke that is kept from the point of a to that of b, with their sides and the fractions t and u
 --   KeptAnswer a b r     r is such an answer, with the fractions of a and b in lowest terms
 --   wholeAnswer s        the answer for a stroke that is kept whole
---   missedCut, wholeCut s   what is left of a stroke that is missed, and of one that is kept whole
---   Ends w s c           the points of a kept cut are those of an answer
---   CutIs w s c          c is what the window leaves of the stroke
---   KeepsAny w s b       b says whether the window keeps any point of the stroke
 use mathlib.Core.Path.{_≡_}
-use mathlib.Core.Bool.{Bool, true, false}
-use Prim.Native.Nat.{ℕ, _*_, _<_, _≤_}
+use mathlib.Core.Bool.{true}
+use mathlib.Core.Logic.{_⊎_}
+use Prim.Native.Nat.{ℕ, _+_, _*_, _<_, _≤_}
 use lib.IntN.{ℤ, pos, _-ℤ_, _*ℤ_}
 use lib.Signed.{_≤ℤ_, _<ℤ_, ltZ}
 use Rattle.whole.specs.Choice.{if_then_else_}
@@ -40,8 +39,7 @@ use Rattle.grid.specs.declared.Window.{Window}
 use Rattle.grid.specs.Table.{farthest}
 use Rattle.spans.specs.Parts.{Time, zeroth, unit}
 use Rattle.spans.specs.Sides.{noSide}
-use Rattle.strokes.specs.Strokes.{KeepsCoordinate, Keeps, PointAt, Clipped}
-use Rattle.strokes.specs.declared.Cut.{Cut}
+use Rattle.strokes.specs.Strokes.{KeepsCoordinate, PointAt}
 use Rattle.strokes.specs.declared.End.{End}
 use Rattle.strokes.specs.declared.StrokeAnswer.{StrokeAnswer}
 use Rattle.strokes.specs.declared.ways.Way.{Way}
@@ -55,7 +53,7 @@ pub record EndsBetween (lo hi a b : ℤ) : Type 0 where
 
 pub record MayReach (lo hi a b : ℤ) : Type 0 where
   pub up : a <ℤ lo → lo ≤ℤ b
-  pub down : lo ≤ℤ a → hi <ℤ a → b ≤ℤ hi
+  pub down : lo ≤ℤ b → hi <ℤ a → b ≤ℤ hi
 
 pub record EndsInside (w : Window) (s : Stroke) : Type 0 where
   pub x : EndsBetween (w .left) (w .right) (s .x1) (s .x2)
@@ -117,9 +115,12 @@ pub record WayOf (lo hi a b : ℤ) (r : Way) : Type 0 where
   pub goes : r .end < r .long → MetAt lo hi b a (r .to)
 
 -- ---- both ways
-pub record Overlap (x y : Way) : Type 0 where
-  pub x-first : x .start * y .long ≤ y .end * x .long
-  pub y-first : y .start * x .long ≤ x .end * y .long
+abbrev pub Apart : ℕ → Way → Way → Type 0
+Apart k x y = (y .end * x .long < x .start * y .long + k) ⊎ (x .end * y .long < y .start * x .long + k)
+
+pub record Overlap (k : ℕ) (x y : Way) : Type 0 where
+  pub x-first : x .start * y .long + k ≤ y .end * x .long
+  pub y-first : y .start * x .long + k ≤ x .end * y .long
 
 pub record OnWay (f : Fraction) : Type 0 where
   pub time : Time (f .num) (f .den)
@@ -184,26 +185,3 @@ pub record KeptAnswer (a b : End) (r : StrokeAnswer) : Type 0 where
 abbrev pub wholeAnswer : Stroke → StrokeAnswer
 wholeAnswer s =
     keptAnswer (record { t = zeroth; x = s .x1; y = s .y1; side = noSide }) (record { t = unit; x = s .x2; y = s .y2; side = noSide }) zeroth unit
-
--- ---- cuts
-abbrev pub missedCut : Cut
-missedCut = record { kept = false; ax = pos 0; ay = pos 0; bx = pos 0; by = pos 0 }
-
-abbrev pub wholeCut : Stroke → Cut
-wholeCut s = record { kept = true; ax = s .x1; ay = s .y1; bx = s .x2; by = s .y2 }
-
-pub record Ends (w : Window) (s : Stroke) (c : Cut) : Type 0 where
-  pub first : Fraction
-  pub last : Fraction
-  pub side0 : ℕ
-  pub side1 : ℕ
-  pub answer : Clipped w s
-      (keptAnswer (record { t = first; x = c .ax; y = c .ay; side = side0 }) (record { t = last; x = c .bx; y = c .by; side = side1 }) first last)
-
-pub record CutIs (w : Window) (s : Stroke) (c : Cut) : Type 0 where
-  pub missed : c .kept ≡ false → (n d : ℤ) → Keeps w s n d → ⊥
-  pub kept : c .kept ≡ true → Ends w s c
-
-pub record KeepsAny (w : Window) (s : Stroke) (b : Bool) : Type 0 where
-  pub missed : b ≡ false → (n d : ℤ) → Keeps w s n d → ⊥
-  pub kept : b ≡ true → ((n d : ℤ) → Keeps w s n d → ⊥) → ⊥

@@ -1,4 +1,4 @@
-// Strokes against a rectangle by the Liang-Barsky rule: what is kept with its fractions, or without them, for calls that need the points alone.
+// Strokes against a rectangle by the Liang-Barsky rule. `cuts` stands on the same workers and has the points alone.
 use fraction::Fraction;
 use grid::Stroke;
 use grid::Window;
@@ -6,11 +6,11 @@ use spans::NO_SIDE;
 ghost use mathlib.Core.Path.{_≡_};
 ghost use Rattle.grid.specs.Table.{WindowOnTable, StrokeOnTable};
 ghost use Rattle.strokes.specs.Strokes.{Clipped, Clipping, blank as Strokes·blank};
-ghost use Rattle.strokes.specs.Workers.{Reaching, OnWay, KeptAnswer, wholeAnswer, missedCut, wholeCut, CutIs, KeepsAny};
+ghost use Rattle.strokes.specs.Workers.{Reaching, OnWay, KeptAnswer, wholeAnswer};
 
-mod ends;
-mod plain;
-mod ways;
+pub mod ends;
+pub mod plain;
+pub mod ways;
 
 // What a stroke call answers: a refusal's number and place, or whether the stroke is kept, from which fraction of its way to which,
 // the two points there, rounded to the grid, and the sides that fixed the two fractions, by their numbers, or `NO_SIDE`.
@@ -35,15 +35,6 @@ pub struct End {
     pub x: i32,
     pub y: i32,
     pub side: u8,
-}
-
-// What a window leaves of a stroke: its two points, rounded to the grid.
-pub struct Cut {
-    pub kept: bool,
-    pub ax: i32,
-    pub ay: i32,
-    pub bx: i32,
-    pub by: i32,
 }
 
 // Not kept: a refusal, or a missed stroke.
@@ -118,7 +109,7 @@ fn crossing(w: Window, s: Stroke) -> StrokeAnswer
 {
     let x = ways::passage(w.left, w.right, s.x1, s.x2);
     let y = ways::passage(w.bottom, w.top, s.y1, s.y2);
-    if ways::apart(x, y) {
+    if ways::apart(x, y, 0) {
         return blank(0, 0);
     }
     let b = ends::finish(s, x, y);
@@ -146,87 +137,4 @@ pub fn liang_barsky(w: Window, s: Stroke) -> StrokeAnswer
         return blank(0, 0);
     }
     crossing(w, s)
-}
-
-// ---- the points alone, without the fractions: what the call for many strokes asks for
-
-// Nothing is left.
-fn missed() -> Cut
-    ensures { λ r. ⌜ r ≡ missedCut ⌝ }
-{
-    Cut {
-        kept: false,
-        ax: 0,
-        ay: 0,
-        bx: 0,
-        by: 0,
-    }
-}
-
-// All is left.
-fn whole_stroke(s: Stroke) -> Cut
-    ensures { λ r. ⌜ r ≡ wholeCut s ⌝ }
-{
-    Cut {
-        kept: true,
-        ax: s.x1,
-        ay: s.y1,
-        bx: s.x2,
-        by: s.y2,
-    }
-}
-
-// What is left of a stroke that is not plainly in or out; its end is found first, for the same reason.
-fn cut_across(w: Window, s: Stroke) -> Cut
-    requires { ⌜ WindowOnTable w ⌝ }
-    requires { ⌜ StrokeOnTable s ⌝ }
-    requires { ⌜ Reaching w s ⌝ }
-    ensures { λ r. ⌜ CutIs w s r ⌝ }
-{
-    let x = ways::passage(w.left, w.right, s.x1, s.x2);
-    let y = ways::passage(w.bottom, w.top, s.y1, s.y2);
-    if ways::apart(x, y) {
-        return missed();
-    }
-    let b = ends::finish(s, x, y);
-    let a = ends::start(s, x, y);
-    Cut {
-        kept: true,
-        ax: a.x,
-        ay: a.y,
-        bx: b.x,
-        by: b.y,
-    }
-}
-
-// What the window leaves of the stroke, the plain cases first.
-pub fn cut_stroke(w: Window, s: Stroke) -> Cut
-    requires { ⌜ WindowOnTable w ⌝ }
-    requires { ⌜ StrokeOnTable s ⌝ }
-    ensures { λ r. ⌜ CutIs w s r ⌝ }
-{
-    if plain::inside(w, s) {
-        return whole_stroke(s);
-    }
-    if plain::outside(w, s) {
-        return missed();
-    }
-    cut_across(w, s)
-}
-
-// Whether the window keeps anything of the stroke, be it a point on its border; no point is computed.
-pub fn keeps_any(w: Window, s: Stroke) -> bool
-    requires { ⌜ WindowOnTable w ⌝ }
-    requires { ⌜ StrokeOnTable s ⌝ }
-    ensures { λ r. ⌜ KeepsAny w s r ⌝ }
-{
-    if plain::inside(w, s) {
-        return true;
-    }
-    if plain::outside(w, s) {
-        return false;
-    }
-    let x = ways::passage(w.left, w.right, s.x1, s.x2);
-    let y = ways::passage(w.bottom, w.top, s.y1, s.y2);
-    !ways::apart(x, y)
 }

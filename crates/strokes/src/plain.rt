@@ -29,13 +29,10 @@ fn beyond(lo: i32, hi: i32, a: i32, b: i32) -> bool
     ensures { λ r. ⌜ (r ≡ true → (n d : ℤ) → Time n d → KeepsCoordinate lo hi a b n d → ⊥) ⌝ }
     ensures { λ r. ⌜ (r ≡ false → MayReach lo hi a b) ⌝ }
 {
-    if a < lo {
-        return b < lo;
+    if b < lo {
+        return a < lo;
     }
-    if hi < a {
-        return hi < b;
-    }
-    false
+    hi < whole::lesser(a, b)
 }
 
 // Whether the stroke is plainly in the window.
@@ -53,8 +50,8 @@ pub fn outside(w: Window, s: Stroke) -> bool
     ensures { λ r. ⌜ (r ≡ true → (n d : ℤ) → Keeps w s n d → ⊥) ⌝ }
     ensures { λ r. ⌜ (r ≡ false → Reaching w s) ⌝ }
 {
-    if beyond(w.left, w.right, s.x1, s.x2) {
+    if beyond(w.bottom, w.top, s.y1, s.y2) {
         return true;
     }
-    beyond(w.bottom, w.top, s.y1, s.y2)
+    beyond(w.left, w.right, s.x1, s.x2)
 }

@@ -1,11 +1,11 @@
 // The way of one coordinate, and where on it the coordinate is between two sides of the window.
 ghost use mathlib.Core.Path.{_≡_};
 ghost use mathlib.Core.Bool.{true, false};
-ghost use lib.IntN.{ℤ, pos};
+ghost use Prim.Native.Nat.{_≤_};
 ghost use lib.Signed.{_<ℤ_};
 ghost use Rattle.whole.specs.Within.{Within};
 ghost use Rattle.grid.specs.Table.{farthest};
-ghost use Rattle.strokes.specs.Workers.{MayReach, Ranged, Risen, Fallen, ProperWay, WayOf, FromStartToEnd, Overlap};
+ghost use Rattle.strokes.specs.Workers.{MayReach, Ranged, Risen, Fallen, ProperWay, WayOf, Apart, Overlap};
 
 // The way of one coordinate: how long it is, from where to where it is between two sides, and the coordinates there.
 // A way that is all between them is 1 long, so that one of no length is no exception.
@@ -82,15 +82,17 @@ pub fn passage(lo: i32, hi: i32, a: i32, b: i32) -> Way
     }
 }
 
-// Whether one coordinate goes out before the other comes in.
-pub fn apart(x: Way, y: Way) -> bool
+// Whether one coordinate goes out before the other comes in; with `least` 1 instead of 0, also whether it goes out as the other comes in, so that the
+// two are between their sides at one point at most. What both have in common is measured by the products of their lengths.
+pub fn apart(x: Way, y: Way, least: u32) -> bool
     requires { ⌜ ProperWay x ⌝ }
     requires { ⌜ ProperWay y ⌝ }
-    ensures { λ r. ⌜ (r ≡ true → (n d : ℤ) → pos 0 <ℤ d → FromStartToEnd x n d → FromStartToEnd y n d → ⊥) ⌝ }
-    ensures { λ r. ⌜ (r ≡ false → Overlap x y) ⌝ }
+    requires { ⌜ least ≤ 1 ⌝ }
+    ensures { λ r. ⌜ (r ≡ true → Apart least x y) ⌝ }
+    ensures { λ r. ⌜ (r ≡ false → Overlap least x y) ⌝ }
 {
-    if y.end * x.long < x.start * y.long {
+    if y.end * x.long < x.start * y.long + least {
         return true;
     }
-    x.end * y.long < y.start * x.long
+    x.end * y.long < y.start * x.long + least
 }

@@ -16,6 +16,7 @@ fn list_lines() {
     streams::tell(b"cs l b r t x1 y1 x2 y2\n");
     streams::tell(b"cb M c1 .. cM x1 y1 x2 y2\n");
     streams::tell(b"batch ROOM l b r t M s1 .. sM\n");
+    streams::tell(b"touches ROOM l b r t M s1 .. sM\n");
     streams::tell(b"outline ORDER ROOM l b r t M c1 .. cM\n");
     streams::tell(b"draw ROOM HEX\n");
     streams::tell(b"enter M t1 .. tM R l b r t\n");

@@ -15,15 +15,16 @@
 --   strokesTurnedRound which k zs   the strokes of the list zs, four numbers each and counted from k, of which those are turned round that `which`
 --                       names; numbers left over at the end stay
 --   rowsTurnedRound which xs   the rows xs of the batch, five numbers each, with the two points exchanged where `which` names the row's stroke
---   BatchTurnedRound which a after b after′   a and b are the batch's answers to such lists, and after and after′ what is then in the output, lent
---                       alike: the rows are the same but for the exchanged points, and behind them nothing differs
---   TurnedRoundInRows   so answers `batch::batch`, whichever of its strokes are turned round
+--   BatchTurnedRound which a after b after′   a and b are the answers of one and the same batch call to a list and to the list so turned
+--                       round, and after and after′ what is then in the output, lent alike: the rows are the same but for the exchanged points, and
+--                       behind them nothing differs
+--   TurnedRoundInRows   so answer `batch::batch` and `batch::batch_with_touches`, whichever of their strokes are turned round
 use mathlib.Core.Path.{_≡_}
 use mathlib.Core.Bool.{Bool, true, false}
 use mathlib.Core.List.{List, [], _∷_, _++_}
 use Prim.Native.Nat.{ℕ, suc}
 use lib.IntN.{ℤ, pos, natAbs, _+ℤ_, _-ℤ_, _*ℤ_}
-use lib.ListN.{take, drop}
+use lib.ListN.{drop}
 use lib.Signed.{_<ℤ_}
 use Rattle.whole.specs.Choice.{if_then_else_}
 use Rattle.fraction.specs.declared.Fraction.{Fraction}
@@ -40,7 +41,8 @@ use Rattle.codes.specs.Steps.{CohenSutherland}
 use Rattle.codes.specs.declared.CountedAnswer.{CountedAnswer}
 use Rattle.corners.specs.Corners.{CyrusBeck}
 use Rattle.corners.specs.declared.CornerAnswer.{CornerAnswer}
-use Rattle.batch.specs.Batches.{Batch}
+use Rattle.batch.specs.Batches.{RowsCall}
+use Rattle.batch.specs.Laws.{numbersGiven}
 
 abbrev pub HalvesToEven : Type 0
 HalvesToEven = (n x d r : ℤ) → pos 0 <ℤ d → pos 2 *ℤ x ≡ (pos 2 *ℤ n +ℤ pos 1) *ℤ d → Rounded x d r → Divides 2 r
@@ -106,8 +108,8 @@ pub record BatchTurnedRound (which : ℕ → Bool) (a : Answer) (after : List �
   pub number : b .number ≡ a .number
   pub place : (a .number ≡ numberOff → ⊥) → b .place ≡ a .place
   pub count : b .count ≡ a .count
-  pub rows : after′ ≡ rowsTurnedRound which (take (a .count) after) ++ drop (a .count) after
+  pub rows : after′ ≡ rowsTurnedRound which (numbersGiven a after) ++ drop (a .count) after
 
 abbrev pub TurnedRoundInRows : Type 0
-TurnedRoundInRows = (which : ℕ → Bool) (w : Window) (zs : List ℤ) (a b : Answer) (before after after′ : List ℤ)
-    → Batch w zs a before after → Batch w (strokesTurnedRound which 0 zs) b before after′ → BatchTurnedRound which a after b after′
+TurnedRoundInRows = (touches : Bool) (which : ℕ → Bool) (w : Window) (zs : List ℤ) (a b : Answer) (before after after′ : List ℤ)
+    → RowsCall touches w zs a before after → RowsCall touches w (strokesTurnedRound which 0 zs) b before after′ → BatchTurnedRound which a after b after′

@@ -26,7 +26,9 @@ fn numbers(call: Call) -> Vec<i128> {
         Call::LiangBarsky(window, stroke) => rectangle(window, stroke),
         Call::CohenSutherland(window, stroke) => counted(window, stroke),
         Call::CyrusBeck(window, stroke) => corner_window(&window, stroke),
-        Call::Batch(room, window, list) => lent(room, batch::write(window, &list, room)),
+        Call::Batch(touches, room, window, list) => {
+            lent(room, batch::write(touches, window, &list, room))
+        }
         Call::Outline(order, room, window, list) => {
             lent(room, outline::write(order, window, &list, room))
         }

@@ -1,5 +1,7 @@
 //! One line of the desk as a call; whatever is no call is none and gets `?`.
 
+use crate::batch::Touches;
+
 const LONGEST_LINE: usize = 400_000;
 const MOST_ROOM: i128 = 40_960;
 const MOST_WINDOW: i128 = 64;
@@ -17,7 +19,7 @@ pub enum Call {
     LiangBarsky([i32; 4], [i32; 4]),
     CohenSutherland([i32; 4], [i32; 4]),
     CyrusBeck(Vec<i32>, [i32; 4]),
-    Batch(usize, [i32; 4], Vec<i32>),
+    Batch(Touches, usize, [i32; 4], Vec<i32>),
     Outline(u32, usize, [i32; 4], Vec<i32>),
     Draw(usize, Vec<u8>),
     /// A strip book and the renter who calls; before them the room, behind them the strip or the slot.
@@ -48,7 +50,8 @@ impl Words<'_> {
             b"lb" => Call::LiangBarsky(self.four()?, self.four()?),
             b"cs" => Call::CohenSutherland(self.four()?, self.four()?),
             b"cb" => Call::CyrusBeck(self.list(MOST_WINDOW)?, self.four()?),
-            b"batch" => Call::Batch(self.room()?, self.four()?, self.list(MOST_LIST)?),
+            b"batch" => self.batch(Touches::LeftOut)?,
+            b"touches" => self.batch(Touches::Given)?,
             b"outline" => {
                 let order = self.number(0, MOST_ORDER)? as u32;
                 Call::Outline(order, self.room()?, self.four()?, self.list(MOST_OUTLINE)?)
@@ -59,6 +62,11 @@ impl Words<'_> {
             b"strips" => Call::Strips(self.room()?, self.list(MOST_LIST)?, self.grid()?),
             _ => return None,
         })
+    }
+
+    fn batch(&mut self, touches: Touches) -> Option<Call> {
+        let (room, window) = (self.room()?, self.four()?);
+        Some(Call::Batch(touches, room, window, self.list(MOST_LIST)?))
     }
 
     fn number(&mut self, least: i128, most: i128) -> Option<i128> {

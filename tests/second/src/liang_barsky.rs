@@ -18,6 +18,14 @@ pub struct Kept {
     pub sides: Sides,
 }
 
+impl Kept {
+    /// One common point of a stroke with length. The exact fractions decide, since two different points may be rounded to
+    /// the same one; a stroke of no length has 0 and 1.
+    pub fn only_touches(&self) -> bool {
+        self.t0 == self.t1
+    }
+}
+
 /// The refusals of a single stroke against a rectangle: 2, 3, 6.
 pub fn taken(window: [i32; 4], stroke: [i32; 4]) -> Result<(), Refusal> {
     let [range, area] = rectangle::faults(window);

@@ -1,5 +1,6 @@
 -- `strokes::crossing` meets its contract: what is kept is from the later start to the earlier end of the two ways. Assumes nothing.
 use mathlib.Core.Path.{sym, subst}
+use native.Mathlib.Omega.{arith}
 use borrow.Author.Needs.{needs}
 use Rattle.strokes.specs.Strokes.{Clipped}
 use Rattle.strokes.specs.Workers.{WayOf}
@@ -29,7 +30,7 @@ way-y c = let p = c .before .before .before .before .before .before .before .bef
     way-plain (p .0 .bottom) (p .0 .top) (p .1 .0 .y1) (p .1 .0 .y2) (c .passage2 .ensures)
 
 apart-requires : tie.Need-apart-requires
-apart-requires c κs = (way-x c .way .proper, way-y c .way .proper)
+apart-requires c κs = (way-x c .way .proper, (way-y c .way .proper, omega arith))
 
 blank-requires : tie.Need-blank-requires
 blank-requires c κs = search needs

@@ -1,6 +1,7 @@
 //! The worked examples of the rules and the vectors of the sources, the same for every seed.
 
 use super::{batches, by_hand, corner_windows, drawings, outlines, strokes};
+use crate::batch::Touches;
 
 pub fn lines() -> Vec<Vec<u8>> {
     [
@@ -33,8 +34,9 @@ fn of_strokes() -> Vec<Vec<u8>> {
         lines.push(strokes::of("cs", window, stroke));
         lines.push(corner_windows::of(&square, stroke));
     }
-    // A, B, D, E and F are kept.
-    lines.push(batches::of(26, window, &strokes.concat()));
+    // A, B, D, E and F are kept; B only touches.
+    lines.push(batches::of(Touches::LeftOut, 21, window, &strokes.concat()));
+    lines.push(batches::of(Touches::Given, 26, window, &strokes.concat()));
     lines
 }
 

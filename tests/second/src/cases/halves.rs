@@ -3,7 +3,7 @@
 //! tests hold this one to the answers.
 
 use super::line::Answered;
-use super::stroke_answers::{both_ways, kept, refused, refused_batch, Kept, Missed, OWN};
+use super::stroke_answers::{both_ways, kept, refused, refused_list, Kept, Missed, OWN};
 use super::stroke_kinds::{mirrored, turned};
 use super::windows::Window;
 use crate::table::MOST;
@@ -250,7 +250,7 @@ fn off_the_table() -> Vec<Answered> {
     }
     let (stroke, [forth, back]) = strokes[4];
     let good = EXAMPLES[0].stroke;
-    cases.push(refused_batch(SQUARE, good, stroke, forth));
-    cases.push(refused_batch(SQUARE, turned(good), turned(stroke), back));
+    cases.extend(refused_list(SQUARE, good, stroke, forth));
+    cases.extend(refused_list(SQUARE, turned(good), turned(stroke), back));
     cases
 }

@@ -5,6 +5,7 @@ use super::sketch::{counted, Sketch};
 use super::stroke_kinds::stroke;
 use super::windows::Window;
 use super::{batches, drawings, strokes};
+use crate::batch::Touches;
 use crate::random::Random;
 
 const MOST_STROKES: usize = 4_096;
@@ -37,17 +38,51 @@ fn long_lists(random: &mut Random) -> Vec<Vec<u8>> {
     let needed = 5 * MOST_STROKES;
     let mut last_off = list[..most].to_vec();
     last_off[most - 1] = 16_384;
-    vec![
-        batches::of(needed, WINDOW, &list[..most]),
-        batches::of(needed - 1, WINDOW, &list[..most]),
-        batches::of(40_960, WINDOW, &mixed(random)),
-        batches::of(3, WINDOW, &last_off),
-        batches::of(3, WINDOW, &list[..most - 1]),
-        batches::of(3, WINDOW, &list[..most + 1]),
-        batches::of(3, WINDOW, &list[..most + 4]),
-        batches::of(3, WINDOW, &list[..20_000]),
-        batches::of(3, WINDOW, &list),
-    ]
+    let batch = |room: usize, list: &[i32]| batches::of(Touches::LeftOut, room, WINDOW, list);
+    let touches = |room: usize, list: &[i32]| batches::of(Touches::Given, room, WINDOW, list);
+    let mut lines = vec![
+        batch(needed, &list[..most]),
+        batch(needed - 1, &list[..most]),
+        batch(40_960, &mixed(random)),
+        batch(3, &last_off),
+        batch(3, &list[..most - 1]),
+        batch(3, &list[..most + 1]),
+        batch(3, &list[..most + 4]),
+        batch(3, &list[..20_000]),
+        batch(3, &list),
+    ];
+    // All of them only touch; every other one does.
+    let only = touching(random, MOST_STROKES);
+    let by_turns: Vec<i32> = (0..most)
+        .map(|place| [&list, &only][place / 4 % 2][place])
+        .collect();
+    lines.extend([
+        batch(0, &only),
+        touches(needed, &only),
+        batch(needed / 2, &by_turns),
+        touches(3, &by_turns),
+        touches(3, &last_off),
+        touches(3, &only[..most - 1]),
+        touches(3, &list[..most + 4]),
+        touches(3, &list[..20_000]),
+        touches(3, &list),
+    ]);
+    lines
+}
+
+/// Strokes that end at the left side or at the bottom, or start there.
+fn touching(random: &mut Random, strokes: usize) -> Vec<i32> {
+    let mut list = Vec::new();
+    for _ in 0..strokes {
+        let (inside, beyond) = (random.between(0, 9), random.between(0, 9));
+        list.extend(random.pick(&[
+            [-1, beyond, 0, inside],
+            [0, inside, -1, beyond],
+            [beyond, -1, inside, 0],
+            [inside, 0, beyond, -1],
+        ]));
+    }
+    list
 }
 
 fn long_drawings(random: &mut Random) -> Vec<Vec<u8>> {
@@ -104,12 +139,15 @@ fn long_books() -> Vec<Vec<u8>> {
 
 fn long_lines(random: &mut Random) -> Vec<Vec<u8>> {
     let list = kept(random, 4 * MOST_STROKES);
-    let batch = batches::of(5 * MOST_STROKES, WINDOW, &list);
+    let batch = batches::of(Touches::LeftOut, 5 * MOST_STROKES, WINDOW, &list);
+    let few = [touching(random, 12), list[..48].to_vec()].concat();
+    let touches = batches::of(Touches::Given, 120, WINDOW, &few);
     let lb = strokes::of("lb", WINDOW, [-5, 5, 15, 5]);
     let cs = strokes::of("cs", WINDOW, [-5, 5, 15, 5]);
     let book = Book::full().without([1, 31]);
     vec![
         padded(&batch, LONGEST_LINE),
+        padded(&touches, 20_000),
         padded(&lb, 20_000),
         padded(&book.enter(1, [8, 8, 9, 9]), 20_000),
         padded(&book.release(1, 30), 20_000),

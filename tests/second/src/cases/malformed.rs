@@ -22,7 +22,41 @@ pub fn lines() -> Vec<Vec<u8>> {
         hexadecimal(),
         strange_bytes(),
     ];
-    lists.concat()
+    let mut lines = lists.concat();
+    lines.extend(touches(&lines));
+    lines
+}
+
+/// The lines of `batch` with the other word, which has the same arguments, and words that are nearly that one.
+fn touches(lines: &[Vec<u8>]) -> Vec<Vec<u8>> {
+    let mut others: Vec<Vec<u8>> = lines
+        .iter()
+        .filter_map(|line| line.strip_prefix(b"batch"))
+        .map(|arguments| [b"touches", arguments].concat())
+        .collect();
+    others.extend(all(&[
+        "touches",
+        "touches ",
+        "touch 0 0 0 1 1 0",
+        "touche 0 0 0 1 1 0",
+        "touchess 0 0 0 1 1 0",
+        "Touches 0 0 0 1 1 0",
+        "TOUCHES 0 0 0 1 1 0",
+        "touching 0 0 0 1 1 0",
+        "touches0 0 0 1 1 0",
+        "batch touches 0 0 0 1 1 0",
+        "touches batch 0 0 0 1 1 0",
+        " touches 0 0 0 1 1 0",
+        "touches  0 0 0 1 1 0",
+        "touches\t0 0 0 1 1 0",
+        "touches 0 0 0 1 1 0\r",
+        "touches 5 0 0 2147483648 10 4 1 2 3 4",
+        "touches 5 0 0 10 -2147483649 4 1 2 3 4",
+        "touches 5 0 0 10 10 4 2147483648 2 3 4",
+        "touches 5 0 0 2147483647 -2147483648 4 1 2 3 4",
+        "touches 5 0 0 10 10 4 1 -2147483648 2147483647 4",
+    ]));
+    others
 }
 
 /// No word, unknown ones, and every command with an argument too few or too many.

@@ -1,6 +1,6 @@
 //! The lines on which the two programs are compared. First come the worked examples, the same for every
 //! seed, then each family's fixed list, the few long lines, runs of a strip book, and random lines up to the count;
-//! at times the next line has a stroke turned round.
+//! at times the next line has the stroke turned round, or the list with its touches asked for.
 
 pub mod batches;
 mod book_answers;
@@ -30,6 +30,7 @@ mod floats;
 pub mod grounds;
 pub mod halves;
 mod line;
+mod list_answers;
 mod long;
 mod malformed;
 mod no_books;
@@ -44,6 +45,10 @@ mod slips;
 mod stroke_answers;
 pub mod stroke_kinds;
 pub mod strokes;
+pub mod touch_kinds;
+mod touch_rooms;
+pub mod touches;
+mod touches_afar;
 pub mod windows;
 
 use crate::random::Random;
@@ -76,6 +81,7 @@ fn fixed() -> Vec<Vec<u8>> {
         corner_windows::fixed(),
         corner_cuts::lines(),
         batches::fixed(),
+        touches::lines(),
         outline_limits::lines(),
         drawing_faults::lines(),
         book_by_hand::lines(),
@@ -84,14 +90,14 @@ fn fixed() -> Vec<Vec<u8>> {
     lists.concat()
 }
 
-/// At times the stroke of the line before, turned round.
+/// At times the line before once more: its stroke turned round, or its list with the touches asked for.
 fn next(random: &mut Random, before: Option<&Vec<u8>>) -> Vec<u8> {
-    if random.one_in(4) {
-        if let Some(line) = before.and_then(|line| strokes::turned_round(random, line)) {
-            return line;
-        }
-    }
-    any(random)
+    let again = before.and_then(|line| match random.below(4) {
+        0 => strokes::turned_round(random, line),
+        1 | 2 => batches::with_touches(random, line),
+        _ => None,
+    });
+    again.unwrap_or_else(|| any(random))
 }
 
 /// A line of some family; every twentieth or so is spoiled as a line of the desk.
@@ -105,13 +111,14 @@ fn any(random: &mut Random) -> Vec<u8> {
 }
 
 fn well_formed(random: &mut Random) -> Vec<u8> {
-    match random.below(114) {
+    match random.below(124) {
         0..=13 => floats::line(random),
         14..=45 => strokes::line(random),
         46..=65 => corner_windows::line(random),
         66..=76 => batches::line(random),
         77..=94 => outlines::line(random),
         95..=105 => drawings::line(random),
-        _ => book_runs::line(random),
+        106..=113 => book_runs::line(random),
+        _ => batches::touching(random),
     }
 }

@@ -1,9 +1,11 @@
 //! Lines of a stroke with their answers, put together from what is known by hand of it: by both rules, and turned round.
 
 use super::line::Answered;
+use super::list_answers::{self, by_both_names, rows, Known};
 use super::stroke_kinds::{mirrored, turned, Stroke};
+use super::strokes;
 use super::windows::Window;
-use super::{batches, strokes};
+use crate::batch::Touches;
 
 /// A stroke of which something is kept.
 #[derive(Clone, Copy)]
@@ -65,6 +67,15 @@ impl Kept {
         }
     }
 
+    fn known(&self) -> Known {
+        let ([n0, d0, n1, d1], [x, y, ..]) = (self.fractions, self.points);
+        if [n0, d0] == [n1, d1] {
+            Known::Touch(self.stroke, [x, y])
+        } else {
+            Known::Given(self.stroke, self.points)
+        }
+    }
+
     fn answered(&self, window: Window) -> [Answered; 2] {
         let head = [0, 0, 1];
         let numbers = [&head[..], &self.fractions, &self.points].concat();
@@ -72,7 +83,7 @@ impl Kept {
     }
 }
 
-/// Each stroke both ways round, by both rules and in one batch.
+/// Each stroke both ways round, by both rules and all in one list.
 pub fn both_ways(window: Window, missed: &[Missed], kept: &[Kept]) -> Vec<Answered> {
     let mut cases = Vec::new();
     for (stroke, [forth, back]) in missed {
@@ -85,7 +96,7 @@ pub fn both_ways(window: Window, missed: &[Missed], kept: &[Kept]) -> Vec<Answer
         cases.extend(kept.answered(window));
         cases.extend(kept.turned().answered(window));
     }
-    cases.push(in_a_batch(window, missed, kept));
+    cases.extend(in_a_list(window, missed, kept));
     cases
 }
 
@@ -97,11 +108,9 @@ pub fn refused(window: Window, stroke: Stroke, [forth, back]: [i32; 2]) -> [Answ
     [a, b, c, d]
 }
 
-/// The batch that has a refused stroke behind a good one: nothing is written.
-pub fn refused_batch(window: Window, good: Stroke, bad: Stroke, place: i32) -> Answered {
-    let list = [good, bad].concat();
-    let answer = [6, 4 + place, 0, 7_000_000, 7_000_001];
-    (batches::of(2, window, &list), text(&answer))
+/// The list that has a refused stroke behind a good one: nothing is written.
+pub fn refused_list(window: Window, good: Stroke, bad: Stroke, place: i32) -> [Answered; 2] {
+    list_answers::refused(2, window, &[good, bad].concat(), [6, 4 + place])
 }
 
 /// The sides stand last, behind the count.
@@ -125,20 +134,16 @@ fn by_both_rules(
     ]
 }
 
-/// The missed come first, so that an index is not the count of rows before it; the room is one number too long.
-fn in_a_batch(window: Window, missed: &[Missed], kept: &[Kept]) -> Answered {
+/// The missed come first, so that an index is not the count of rows before it. The room is one number too long where
+/// touches are asked for.
+fn in_a_list(window: Window, missed: &[Missed], kept: &[Kept]) -> [Answered; 2] {
     let missed = missed.iter().flat_map(|(s, _)| [*s, turned(*s)]);
-    let mut list: Vec<Stroke> = missed.collect();
-    let mut rows = Vec::new();
+    let mut list: Vec<Known> = missed.map(Known::Missed).collect();
     for kept in kept.iter().flat_map(|kept| [*kept, kept.turned()]) {
-        rows.push(list.len() as i32);
-        rows.extend(kept.points);
-        list.push(kept.stroke);
+        list.push(kept.known());
     }
-    let written = rows.len() as i32;
-    let answer = [&[0, 0, written], &rows[..], &[7_000_000 + written]].concat();
-    let line = batches::of(rows.len() + 1, window, &list.concat());
-    (line, text(&answer))
+    let needed = rows(Touches::Given, &list).len();
+    by_both_names(needed + 1, window, &list)
 }
 
 pub fn text(numbers: &[i32]) -> String {

@@ -25,7 +25,7 @@ pub fn stroke(random: &mut Random, window: Window) -> Stroke {
 }
 
 /// Ends up to half a window's size beyond it.
-fn around(random: &mut Random, window: Window) -> Stroke {
+pub fn around(random: &mut Random, window: Window) -> Stroke {
     let [left, bottom, right, top] = window;
     let (wide, high) = ((right - left) / 2 + 2, (top - bottom) / 2 + 2);
     let mut end = || {
@@ -74,7 +74,7 @@ fn through_a_corner(random: &mut Random, window: Window) -> Stroke {
 }
 
 /// A corner of the window, and in which direction the window lies of it in x and in y.
-fn corner(random: &mut Random, window: Window) -> ([i32; 2], [i32; 2]) {
+pub fn corner(random: &mut Random, window: Window) -> ([i32; 2], [i32; 2]) {
     let (right, top) = (random.one_in(2), random.one_in(2));
     let corner = [
         window[if right { 2 } else { 0 }],

@@ -1,7 +1,7 @@
 //! A stroke turned round has the same two grid points, exchanged: a half goes to the even number. Its sides are exchanged, too.
 
-use super::numbers;
 use super::seen::Seen;
+use super::{numbers, rows_of};
 use crate::answer::answer;
 use crate::call::{read, Call};
 use crate::cases::stroke_kinds::{self, Stroke};
@@ -205,17 +205,18 @@ fn halves_of(stroke: Stroke, answer: [i128; 13]) -> Vec<[i128; 2]> {
     halves
 }
 
-/// A batch of strokes turned round has the same rows but for the points, which are exchanged; they are those of `lb`.
+/// A list of strokes turned round has the same rows but for the points, which are exchanged; they are those of `lb`.
 #[test]
-fn rows_of_a_batch() {
+fn rows_of_a_list() {
     let mut random = Random::new(4);
     let mut rows = 0;
-    for _ in 0..2_000 {
+    for k in 0..2_000 {
+        let touches = batches::BOTH[k % 2];
         let window = windows::window(&mut random);
         let list = batches::many(&mut random, window);
         let strokes: Vec<Stroke> = list.chunks(4).map(|s| [s[0], s[1], s[2], s[3]]).collect();
         let turned: Vec<Stroke> = strokes.iter().copied().map(stroke_kinds::turned).collect();
-        let (forth, back) = (kept_rows(window, &strokes), kept_rows(window, &turned));
+        let [forth, back] = [&strokes, &turned].map(|list| rows_of(touches, window, list));
         assert_eq!(forth.len(), back.len(), "{window:?} {list:?}");
         for ([index, ax, ay, bx, by], back) in forth.iter().copied().zip(back) {
             assert_eq!(back, [index, bx, by, ax, ay], "{window:?} {list:?}");
@@ -225,12 +226,4 @@ fn rows_of_a_batch() {
         rows += forth.len();
     }
     assert!(rows > 8_000, "{rows} rows");
-}
-
-fn kept_rows(window: Window, strokes: &[Stroke]) -> Vec<[i128; 5]> {
-    let line = batches::of(5 * strokes.len(), window, &strokes.concat());
-    let answer = numbers(&line);
-    let written = &answer[3..3 + answer[2] as usize];
-    let row = |five: &[i128]| [five[0], five[1], five[2], five[3], five[4]];
-    written.chunks(5).map(row).collect()
 }

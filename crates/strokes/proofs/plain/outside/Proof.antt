@@ -17,8 +17,8 @@ returns c =
     let gw = c .before .before .before .before .before .struct-told .given in
     let gs = c .before .before .before .struct-told3 .given in (
       λ e n d k. c .before .beyond .ensures .0 (c .if1 .taken) n d (k .time)
-          (transport (λ i. KeepsCoordinate (sym (back w32 (st .args .w .left) (gw .0 .1)) i) (sym (back w32 (st .args .w .right) (gw .1 .1 .0 .1)) i)
-          (sym (back w32 (st .args .s .x1) (gs .0 .1)) i) (sym (back w32 (st .args .s .x2) (gs .1 .1 .0 .1)) i) n d) (k .x)),
+          (transport (λ i. KeepsCoordinate (sym (back w32 (st .args .w .bottom) (gw .1 .0 .1)) i) (sym (back w32 (st .args .w .top) (gw .1 .1 .1 .0 .1)) i)
+          (sym (back w32 (st .args .s .y1) (gs .1 .0 .1)) i) (sym (back w32 (st .args .s .y2) (gs .1 .1 .1 .0 .1)) i) n d) (k .y)),
       λ e. absurd (tt-ff e),
     )
 
@@ -31,14 +31,15 @@ returns-2 c =
     let gw = c .before .before .before .before .before .before .before .before .before .before .struct-told .given in
     let gs = c .before .before .before .before .before .before .before .before .struct-told3 .given in (
       λ e n d k. c .beyond2 .ensures .0 e n d (k .time)
-          (transport (λ i. KeepsCoordinate (sym (back w32 (st .args .w .bottom) (gw .1 .0 .1)) i) (sym (back w32 (st .args .w .top) (gw .1 .1 .1 .0 .1)) i)
-          (sym (back w32 (st .args .s .y1) (gs .1 .0 .1)) i) (sym (back w32 (st .args .s .y2) (gs .1 .1 .1 .0 .1)) i) n d) (k .y)),
+          (transport (λ i. KeepsCoordinate (sym (back w32 (st .args .w .left) (gw .0 .1)) i) (sym (back w32 (st .args .w .right) (gw .1 .1 .0 .1)) i)
+          (sym (back w32 (st .args .s .x1) (gs .0 .1)) i) (sym (back w32 (st .args .s .x2) (gs .1 .1 .0 .1)) i) n d) (k .x)),
       λ e. record {
         x = transport (λ i. MayReach (back w32 (st .args .w .left) (gw .0 .1) i) (back w32 (st .args .w .right) (gw .1 .1 .0 .1) i)
             (back w32 (st .args .s .x1) (gs .0 .1) i) (back w32 (st .args .s .x2) (gs .1 .1 .0 .1) i))
-            (c .before .before .before .before .before .before .beyond .ensures .1 (c .before .before .before .before .before .if1 .left));
+            (c .beyond2 .ensures .1 e);
         y = transport (λ i. MayReach (back w32 (st .args .w .bottom) (gw .1 .0 .1) i) (back w32 (st .args .w .top) (gw .1 .1 .1 .0 .1) i)
-            (back w32 (st .args .s .y1) (gs .1 .0 .1) i) (back w32 (st .args .s .y2) (gs .1 .1 .1 .0 .1) i)) (c .beyond2 .ensures .1 e);
+            (back w32 (st .args .s .y1) (gs .1 .0 .1) i) (back w32 (st .args .s .y2) (gs .1 .1 .1 .0 .1) i))
+            (c .before .before .before .before .before .before .beyond .ensures .1 (c .before .before .before .before .before .if1 .left));
       },
     )
 

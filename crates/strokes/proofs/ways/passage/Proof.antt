@@ -68,7 +68,6 @@ down-across-ranged c =
     let t1 : g .hi <ℤ g .a = lt-taken w32 (f .hi) (f .a) (c .before .if3 .taken) in
     let t2 : g .b <ℤ g .lo = lt-taken w32 (f .b) (f .lo) (c .if4 .taken) in
     let area = p .1 .1 .1 .1 .0 in
-    let reach = p .1 .1 .1 .1 .1 .down t0 t1 in
     record { a-on = p .1 .1 .1 .0; b-on = p .0; c-on = p .1 .0; d-on = p .1 .1 .0; first = omega zarith; middle = omega zarith; last = omega zarith; some = omega zarith }
 
 falling-requires : tie.Need-falling-requires
@@ -87,7 +86,7 @@ down-into-ranged c =
     let t1 : g .hi <ℤ g .a = lt-taken w32 (f .hi) (f .a) (c .before .if3 .taken) in
     let t2 : g .lo ≤ℤ g .b = lt-left w32 (f .b) (f .lo) (c .if4 .left) in
     let area = p .1 .1 .1 .1 .0 in
-    let reach = p .1 .1 .1 .1 .1 .down t0 t1 in
+    let reach = p .1 .1 .1 .1 .1 .down t2 t1 in
     record {
       a-on = p .1 .1 .1 .0;
       b-on = p .1 .1 .1 .0;
