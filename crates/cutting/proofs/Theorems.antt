@@ -16,15 +16,15 @@ use Rattle.drawing.proofs.Strokes.{four-each}
 use Rattle.drawing.proofs.Theorems.{means-unique, never-both}
 use Rattle.batch.specs.Batches.{RowsOf}
 use Rattle.batch.proofs.Rows.{rows-unique}
-use Rattle.cutting.specs.Sheets.{refusedSheet, Cut, CutDrawing, faulty, no-area, cut}
+use Rattle.cutting.specs.Sheets.{refusedSheet, CutSheet, CutDrawing, faulty, no-area, cut}
 use Rattle.cutting.specs.declared.Sheet.{Sheet}
 
-pub cut-of : {bs : List ℕ} {sheet : Sheet} {strokes rows : List ℤ} → CutDrawing bs sheet strokes rows → sheet .number ≡ 0 → Cut bs sheet strokes rows
+pub cut-of : {bs : List ℕ} {sheet : Sheet} {strokes rows : List ℤ} → CutDrawing bs sheet strokes rows → sheet .number ≡ 0 → CutSheet bs sheet strokes rows
 cut-of (faulty m) z = absurd (omega arith)
 cut-of (no-area m n) z = absurd (n z)
 cut-of (cut c) z = c
 
-module _ {bs : List ℕ} {sheet : Sheet} {strokes rows : List ℤ} (c : Cut bs sheet strokes rows) where
+module _ {bs : List ℕ} {sheet : Sheet} {strokes rows : List ℤ} (c : CutSheet bs sheet strokes rows) where
   pub strokes-fit : sheet .drawn * 4 ≤ length strokes
   strokes-fit = omega (arith, length-take (sheet .drawn * 4) strokes, ap length (c .strokes-start), four-each (c .lines), c .count)
 
@@ -39,7 +39,7 @@ window-of bs {w} {v} {ss} {ts} p q = let e : drawn w ss ≡ drawn v ts = means-u
 lines-of : (bs : List ℕ) {w v : Window} {ss ts : List Stroke} → Means bs (drawn w ss) → Means bs (drawn v ts) → ss ≡ ts
 lines-of bs {w} {v} {ss} {ts} p q = let e : drawn w ss ≡ drawn v ts = means-unique bs p q in cc
 
-same-cut : {bs : List ℕ} {a b : Sheet} {s t x y : List ℤ} → Cut bs a s x → Cut bs b t y → a ≡ b
+same-cut : {bs : List ℕ} {a b : Sheet} {s t x y : List ℤ} → CutSheet bs a s x → CutSheet bs b t y → a ≡ b
 same-cut {bs} {a} {b} c d =
     let w : a .window ≡ b .window = window-of bs (c .means) (d .means) in
     let l : c .lines ≡ d .lines = lines-of bs (c .means) (d .means) in

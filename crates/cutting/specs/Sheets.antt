@@ -1,7 +1,7 @@
 -- A drawing that is read and cut to its strip.
 --   refusedSheet n p    the sheet of a drawing that is refused with n at p: every other field is 0
---   Cut bytes sheet strokes rows   the bytes mean a drawing whose window has area: the sheet has the window, how many strokes are drawn and how many of
---                       them have a row; the list strokes starts with the numbers of its strokes, and the list rows with the batch's rows
+--   CutSheet bytes sheet strokes rows   the bytes mean a drawing whose window has area: the sheet has the window, how many strokes are drawn and how
+--                       many of them have a row; the list strokes starts with the numbers of its strokes, and the list rows with the batch's rows
 --   CutDrawing bytes sheet strokes rows   what `cutting::cut_drawing` promises on these bytes: its answer, and the two outputs after it.
 --                       A drawing's numbers are on the table, so a fault (11) and a window without area (3) are all that is refused. What else is
 --                       in the two outputs is left open
@@ -20,7 +20,7 @@ use Rattle.cutting.specs.declared.Sheet.{Sheet}
 abbrev pub refusedSheet : ℕ → ℕ → Sheet
 refusedSheet n p = record { number = n; place = p; window = record { left = pos 0; bottom = pos 0; right = pos 0; top = pos 0 }; drawn = 0; kept = 0 }
 
-pub record Cut (bytes : List ℕ) (sheet : Sheet) (strokes rows : List ℤ) : Type 0 where
+pub record CutSheet (bytes : List ℕ) (sheet : Sheet) (strokes rows : List ℤ) : Type 0 where
   pub lines : List Stroke
   pub means : Means bytes (drawn (sheet .window) lines)
   pub area : noArea (sheet .window) .number ≡ 0
@@ -37,4 +37,4 @@ pub data CutDrawing (bytes : List ℕ) : Sheet → List ℤ → List ℤ → Typ
   faulty : {strokes rows : List ℤ} {place : ℕ} → Means bytes (fault place) → CutDrawing bytes (refusedSheet badDrawing 0) strokes rows
   no-area : {strokes rows : List ℤ} {w : Window} {ss : List Stroke} → Means bytes (drawn w ss) → (noArea w .number ≡ 0 → ⊥)
       → CutDrawing bytes (refusedSheet (noArea w .number) (noArea w .place)) strokes rows
-  cut : {sheet : Sheet} {strokes rows : List ℤ} → Cut bytes sheet strokes rows → CutDrawing bytes sheet strokes rows
+  cut : {sheet : Sheet} {strokes rows : List ℤ} → CutSheet bytes sheet strokes rows → CutDrawing bytes sheet strokes rows

@@ -4,7 +4,7 @@ ghost use lib.ListN.{length};
 ghost use Rattle.cutting.specs.Sheets.{CutDrawing};
 use grid::Window;
 
-// A refusal's number and place; or the window, how many strokes are drawn, and how many of them are kept.
+// A refusal's number and place; or the window, how many strokes are drawn, and how many of them are kept: those that have a row.
 pub struct Sheet {
     pub number: u8,
     pub place: usize,
@@ -13,7 +13,7 @@ pub struct Sheet {
     pub kept: usize,
 }
 
-// Writes the strokes of a drawing, four numbers each, and the batch's rows, five numbers for each kept stroke.
+// Writes the strokes of a drawing, four numbers each, and the rows of the batch without touches, five numbers each.
 pub fn cut_drawing(bytes: &[u8], strokes: &mut [i32], rows: &mut [i32]) -> Sheet
     requires { ⌜ 16384 ≤ length (now strokes) ⌝ }
     requires { ⌜ 20480 ≤ length (now rows) ⌝ }

@@ -1,15 +1,14 @@
-// The table: its range, windows and strokes, the refusals that every call shares, and the answers of calls that give numbers into a lent output.
+// The table: its range, windows and strokes, the refusals that every call shares, and the answer of a call that gives numbers into a lent output.
 ghost use mathlib.Core.Path.{_≡_};
 ghost use mathlib.Core.Bool.{true};
-ghost use mathlib.Core.List.{List, [], _∷_};
+ghost use mathlib.Core.List.{[], _∷_};
 ghost use Prim.Native.Nat.{_+_, _≤_};
 ghost use lib.Dec.{eqb};
-ghost use lib.IntN.{ℤ};
 ghost use lib.ListN.{length};
 ghost use Rattle.whole.specs.Choice.{if_then_else_};
 ghost use Rattle.grid.specs.Table.{onTable, firstOff, strokeAt, WindowOnTable};
 ghost use Rattle.grid.specs.Refusals.{windowRefusal, strokeRefusal, strokesRefusal, roomRefusal};
-ghost use Rattle.grid.specs.Calls.{refusedBy, answered};
+ghost use Rattle.grid.specs.Calls.{refusedBy};
 
 // The numbers of the refusals, as specs/Refusals.antt defines them.
 pub const WINDOW_OFF: u8 = 2;
@@ -264,20 +263,5 @@ pub fn refused_by(r: Refusal) -> Answer
         number: r.number,
         place: r.place,
         count: 0,
-    }
-}
-
-// The answer of a call that gives so many numbers into an output of some room.
-pub fn given(need: usize, room: usize) -> Answer
-    ensures { λ r. ⌜ ((xs : List ℤ) → need ≡ length xs → r ≡ answered xs room) ⌝ }
-{
-    let short = room_refusal(need, room);
-    if short.number != 0 {
-        return refused_by(short);
-    }
-    Answer {
-        number: 0,
-        place: 0,
-        count: need,
     }
 }

@@ -25,7 +25,7 @@ module _ {refused : RefusedText} {cut : CutText} {bytes before after : List ℕ}
   refused-report (Sheets.no-area m n) h p = front p (no-area m n)
   refused-report (Sheets.cut c) h p = absurd (h (c .number))
 
-  pub cut-report : {sheet : Sheet} {strokes rows : List ℤ} → Sheets.Cut bytes sheet strokes rows
+  pub cut-report : {sheet : Sheet} {strokes rows : List ℤ} → Sheets.CutSheet bytes sheet strokes rows
       → Put before after 0 end (cut (sheet .window) (take (sheet .drawn * 4) strokes) (sheet .drawn) (take (sheet .kept * 5) rows) (sheet .kept))
       → Report refused cut bytes (take end after) 0 0 × Counts end after
   cut-report {sheet} c p =

@@ -7,7 +7,7 @@ use lib.IntN.{ℤ}
 use lib.ListN.{length, take}
 use denote.Ref.{now}
 use lib.Seq.{length-take-le}
-use Rattle.cutting.specs.Sheets.{Cut}
+use Rattle.cutting.specs.Sheets.{CutSheet}
 use Rattle.cutting.proofs.Theorems.{cut-of, rows-fit}
 use Rattle.reports.proofs.Reported.{refused-report, cut-report}
 use borrow.Author.Needs.{needs}
@@ -37,7 +37,7 @@ returns c =
 -- nothing was refused
 cut-sheet : (c : tie.Else1) →
     let d = c .before .before .before .before .cut-drawing in
-    Cut (now (c .before .before .before .before .before .before .before .before .before .args .bytes)) (d .result) (d .last .1 .0) (d .last .1 .1 .0)
+    CutSheet (now (c .before .before .before .before .before .before .before .before .before .args .bytes)) (d .result) (d .last .1 .0) (d .last .1 .1 .0)
 cut-sheet c = cut-of (c .before .before .before .before .cut-drawing .ensures) (c .if1 .left)
 
 mul-count : tie.Need-mul-count
