@@ -48,6 +48,10 @@ module _ {w : Window} (on : WindowOnTable w) where
       batches._and_ (clippedOf-is on (record { x1 = h 0 (omega arith); y1 = h 1 (omega arith); x2 = h 2 (omega arith); y2 = h 3 (omega arith) }))
       (each-clipped zs (λ k l. h (suc (suc (suc (suc k)))) (omega arith)))
 
+-- the row of stroke k, of which c is given
+abbrev pub cutRow : ℕ → Cut → List ℤ
+cutRow k c = pos k ∷ c .ax ∷ c .ay ∷ c .bx ∷ c .by ∷ []
+
 module _ (touches : Bool) where
   -- the computed rows of the strokes from the place p on
   abbrev pub rowsFrom : Window → List ℤ → ℕ → List ℤ
@@ -76,12 +80,12 @@ module _ (touches : Bool) where
 
     -- by the stroke's cut
     pub rows-cut : {c : Cut} → CutIs touches w s c
-        → rowsFrom w zs p ≡ (if c .given then pos (p / 4) ∷ c .ax ∷ c .ay ∷ c .bx ∷ c .by ∷ [] else []) ++ rowsFrom w zs (p + 4)
+        → rowsFrom w zs p ≡ (if c .given then cutRow (p / 4) c else []) ++ rowsFrom w zs (p + 4)
     rows-cut {c} k =
         rows-more w zs p h ∙ ap (λ (xs : List ℤ). xs ++ rowsFrom w zs (p + 4)) (cut-row (isGiven touches answer) ∙ ap five (sym (k answer clipped)))
       where
         five : Cut → List ℤ
-        five c = if c .given then pos (p / 4) ∷ c .ax ∷ c .ay ∷ c .bx ∷ c .by ∷ [] else []
+        five c = if c .given then cutRow (p / 4) c else []
 
         cut-row : (b : Bool) → (if b then pos (p / 4) ∷ answer .ax ∷ answer .ay ∷ answer .bx ∷ answer .by ∷ [] else [])
             ≡ five (if b then record { given = true; ax = answer .ax; ay = answer .ay; bx = answer .bx; by = answer .by } else noCut)

@@ -1,10 +1,10 @@
 -- The loop that writes the rows: n numbers of them stand in the output, and those of the strokes from k on are to come.
 use mathlib.Core.Path.{_≡_, sym, _∙_, subst}
 use mathlib.Core.Bool.{Bool, true, false}
-use mathlib.Core.List.{List, [], _∷_, _++_}
+use mathlib.Core.List.{List, [], _++_}
 use Prim.Native.Nat.{ℕ, _+_, _*_, _/_, _≤_}
 use native.Mathlib.Omega.{arith}
-use lib.IntN.{ℤ, pos}
+use lib.IntN.{ℤ}
 use lib.ListN.{length}
 use lib.Seq.{sets}
 use Rattle.whole.specs.Choice.{if_then_else_}
@@ -16,7 +16,7 @@ use Rattle.grid.proofs.StrokeLists.{stroke-of-list}
 use Rattle.cuts.specs.Cuts.{CutIs}
 use Rattle.cuts.specs.declared.Cut.{Cut}
 use Rattle.batch.specs.Batches.{RowsGiven, WroteRows}
-use Rattle.batch.proofs.Rows.{rowsFrom, rows-none, rows-cut, computed-rows}
+use Rattle.batch.proofs.Rows.{cutRow, rowsFrom, rows-none, rows-cut, computed-rows}
 
 pub record Writing (touches : Bool) (w : Window) (zs out₀ out : List ℤ) (n k : ℕ) : Type 0 where
   pub most : k * 4 ≤ length zs
@@ -41,24 +41,24 @@ module _ {touches : Bool} {w : Window} {zs out₀ : List ℤ} (on : WindowOnTabl
   module _ {s : Stroke} {c : Cut} {out : List ℤ} {n k : ℕ} (i : Writing touches w zs out₀ out n k) (h : k * 4 + 4 ≤ length zs)
       (e : s ≡ strokeAt zs (k * 4)) (cut : CutIs touches w s c) where
     due : {b : Bool} → c .given ≡ b → Filled (rowsFrom touches w zs 0)
-        ((if b then pos k ∷ c .ax ∷ c .ay ∷ c .bx ∷ c .by ∷ [] else []) ++ rowsFrom touches w zs ((k + 1) * 4)) out out₀ n
+        ((if b then cutRow k c else []) ++ rowsFrom touches w zs ((k + 1) * 4)) out out₀ n
     due b =
         let here : k * 4 / 4 ≡ k = omega arith in
         let on-by : k * 4 + 4 ≡ (k + 1) * 4 = omega arith in
         subst (λ (xs : List ℤ). Filled (rowsFrom touches w zs 0) xs out out₀ n)
         (rows-cut touches (k * 4) on t h e cut
-        ∙ (λ j. (if b j then pos (here j) ∷ c .ax ∷ c .ay ∷ c .bx ∷ c .by ∷ [] else []) ++ rowsFrom touches w zs (on-by j)))
+        ∙ (λ j. (if b j then cutRow (here j) c else []) ++ rowsFrom touches w zs (on-by j)))
         (i .filled)
 
     pub row-room : c .given ≡ true → (n + 5 ≤ length out) × (length out ≡ length out₀)
     row-room b = let f = due b in (omega (arith, filled-room f, f .same, i .room), f .same)
 
-    pub row-put : c .given ≡ true → {out′ : List ℤ} {n′ : ℕ} → out′ ≡ sets out n (pos k ∷ c .ax ∷ c .ay ∷ c .bx ∷ c .by ∷ []) → n′ ≡ n + 5
+    pub row-put : c .given ≡ true → {out′ : List ℤ} {n′ : ℕ} → out′ ≡ sets out n (cutRow k c) → n′ ≡ n + 5
         → Writing touches w zs out₀ out′ n′ (k + 1)
     row-put b wrote more = record {
       most = omega (arith, h);
       room = i .room;
-      filled = rw (wrote, more) (filled-put (pos k ∷ c .ax ∷ c .ay ∷ c .bx ∷ c .by ∷ []) (due b) (i .room));
+      filled = rw (wrote, more) (filled-put (cutRow k c) (due b) (i .room));
     }
 
     pub row-left-out : c .given ≡ false → {out′ : List ℤ} {n′ : ℕ} → out′ ≡ out → n′ ≡ n → Writing touches w zs out₀ out′ n′ (k + 1)
