@@ -32,7 +32,7 @@ use Rattle.strokes.proofs.Refusing.{not-refused, done-stroke}
 use Rattle.strokes.proofs.Unique.{clipped-unique}
 use Rattle.cuts.specs.Cuts.{isGiven}
 use Rattle.cuts.proofs.Given.{missed-left-out, given-kept, kept-given, given-exactly, touch-exactly}
-use Rattle.batch.specs.Batches.{RowsGiven, RowsCall, batchRefusal}
+use Rattle.batch.specs.Batches.{fiveOf, RowsGiven, RowsCall, batchRefusal}
 use Rattle.batch.specs.Laws.{numbersGiven, RowIs, HasRow, RowExactly, KeptHaveRows, TouchesHaveNone, MeantDots}
 use Rattle.batch.specs.Laws.{RowOfAStroke, RowsInOrder, RowInside, RowsStayInside, NeedIsGiven}
 use Rattle.batch.specs.Laws.{OnlyTouches, RowsBut, no-more, stays, left-out, TouchesLeftOut}
@@ -71,7 +71,7 @@ module _ (touches : Bool) {w : Window} {zs : List ℤ} (on : WindowOnTable w) (t
   -- with those of the stroke at p before those that follow
   record Next (k : ℕ) : Type 0 where
     given : isGiven touches (answer k) ≡ true → rowsFrom touches w zs (4 * k)
-        ≡ pos k ∷ answer k .ax ∷ answer k .ay ∷ answer k .bx ∷ answer k .by ∷ rowsFrom touches w zs (4 * suc k)
+        ≡ fiveOf k (answer k) ++ rowsFrom touches w zs (4 * suc k)
     passed : isGiven touches (answer k) ≡ false → rowsFrom touches w zs (4 * k) ≡ rowsFrom touches w zs (4 * suc k)
 
   next : (k : ℕ) → 4 * k < length zs → Next k
@@ -80,13 +80,13 @@ module _ (touches : Bool) {w : Window} {zs : List ℤ} (on : WindowOnTable w) (t
       let here : 4 * k / 4 ≡ k = omega arith in
       let on-by : 4 * k + 4 ≡ 4 * suc k = omega arith in
       let more : rowsFrom touches w zs (4 * k)
-      ≡ (if isGiven touches (answer k) then pos k ∷ answer k .ax ∷ answer k .ay ∷ answer k .bx ∷ answer k .by ∷ [] else [])
+      ≡ (if isGiven touches (answer k) then fiveOf k (answer k) else [])
       ++ rowsFrom touches w zs (4 * suc k) =
       rows-more touches w zs (4 * k) four
-      ∙ (λ i. (if isGiven touches (answer k) then pos (here i) ∷ answer k .ax ∷ answer k .ay ∷ answer k .bx ∷ answer k .by ∷ [] else [])
+      ∙ (λ i. (if isGiven touches (answer k) then fiveOf (here i) (answer k) else [])
       ++ rowsFrom touches w zs (on-by i)) in
       let by : Bool → List ℤ = λ b.
-      (if b then pos k ∷ answer k .ax ∷ answer k .ay ∷ answer k .bx ∷ answer k .by ∷ [] else []) ++ rowsFrom touches w zs (4 * suc k) in
+      (if b then fiveOf k (answer k) else []) ++ rowsFrom touches w zs (4 * suc k) in
       record { given = λ e. more ∙ ap by e; passed = λ e. more ∙ ap by e }
 
   -- row j of xs is of a stroke that is given
@@ -113,7 +113,7 @@ module _ (touches : Bool) {w : Window} {zs : List ℤ} (on : WindowOnTable w) (t
   }
 
   walk-row : {k : ℕ} {xs : List ℤ} → 4 * k < length zs → isGiven touches (answer k) ≡ true → Walk (suc k) xs
-      → Walk k (pos k ∷ answer k .ax ∷ answer k .ay ∷ answer k .bx ∷ answer k .by ∷ xs)
+      → Walk k (fiveOf k (answer k) ++ xs)
   walk-row {k} {xs} h e later = record {
     each = at;
     behind = behind;
@@ -124,7 +124,7 @@ module _ (touches : Bool) {w : Window} {zs : List ℤ} (on : WindowOnTable w) (t
   }
     where
       all : List ℤ
-      all = pos k ∷ answer k .ax ∷ answer k .ay ∷ answer k .bx ∷ answer k .by ∷ xs
+      all = fiveOf k (answer k) ++ xs
 
       own : RowIs all 0 k (answer k)
       own = record { within = omega arith; index = refl; start = (refl, refl); finish = (refl, refl) }

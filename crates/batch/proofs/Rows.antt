@@ -18,7 +18,7 @@ use Rattle.strokes.proofs.Computed.{clippedOf, clippedOf-is}
 use Rattle.strokes.proofs.Unique.{clipped-unique}
 use Rattle.cuts.specs.Cuts.{isGiven, noCut, CutIs, SaysGiven}
 use Rattle.cuts.specs.declared.Cut.{Cut}
-use Rattle.batch.specs.Batches.{Each, row, rows, RowsGiven, batchRefusal}
+use Rattle.batch.specs.Batches.{Each, fiveOf, row, rows, RowsGiven, batchRefusal}
 use Rattle.batch.specs.Batches as batches
 use Rattle.batch.specs.Laws.{OneBatch, OneBatchWithTouches}
 
@@ -69,30 +69,29 @@ module _ (touches : Bool) where
     unfolding rows
     rows-none h = rw (strokes-none zs p h)
 
-  -- ---- what is to be written from the place p on, by what is given of the stroke there
+  -- ---- the row of stroke k, by what is given of it
+  pub row-cut : {w : Window} {s : Stroke} {c : Cut} {a : StrokeAnswer} (k : ℕ) → CutIs touches w s c → Clipped w s a
+      → row touches k a ≡ (if c .given then cutRow k c else [])
+  row-cut {w} {s} {c} {a} k cut r = five (isGiven touches a) ∙ ap rowOf (sym (cut a r))
+    where
+      rowOf : Cut → List ℤ
+      rowOf c = if c .given then cutRow k c else []
+
+      five : (b : Bool) → (if b then fiveOf k a else [])
+          ≡ rowOf (if b then record { given = true; ax = a .ax; ay = a .ay; bx = a .bx; by = a .by } else noCut)
+      five true = refl
+      five false = refl
+
+  -- ---- what is to be written from the place p on
   module _ {w : Window} {zs : List ℤ} {s : Stroke} (p : ℕ) (on : WindowOnTable w) (t : StrokesOnTable zs) (h : p + 4 ≤ length zs)
       (e : s ≡ strokeAt zs p) where
     abbrev answer : StrokeAnswer
     answer = clippedOf w (strokeAt zs p)
 
-    clipped : Clipped w s answer
+    pub clipped : Clipped w s answer
     clipped = subst (λ (s : Stroke). Clipped w s answer) (sym e) (clippedOf-is on (stroke-of-list p t h))
 
-    -- by the stroke's cut
-    pub rows-cut : {c : Cut} → CutIs touches w s c
-        → rowsFrom w zs p ≡ (if c .given then cutRow (p / 4) c else []) ++ rowsFrom w zs (p + 4)
-    rows-cut {c} k =
-        rows-more w zs p h ∙ ap (λ (xs : List ℤ). xs ++ rowsFrom w zs (p + 4)) (cut-row (isGiven touches answer) ∙ ap five (sym (k answer clipped)))
-      where
-        five : Cut → List ℤ
-        five c = if c .given then cutRow (p / 4) c else []
-
-        cut-row : (b : Bool) → (if b then pos (p / 4) ∷ answer .ax ∷ answer .ay ∷ answer .bx ∷ answer .by ∷ [] else [])
-            ≡ five (if b then record { given = true; ax = answer .ax; ay = answer .ay; bx = answer .bx; by = answer .by } else noCut)
-        cut-row true = refl
-        cut-row false = refl
-
-    -- and how many numbers that are, by whether it is given
+    -- how many numbers that are, by whether it is given
     pub rows-length : {b : Bool} → SaysGiven touches w s b → length (rowsFrom w zs p) ≡ (if b then 5 else 0) + length (rowsFrom w zs (p + 4))
     rows-length g =
         ap length (rows-more w zs p h) ∙ length-append (row touches (p / 4) answer) (rowsFrom w zs (p + 4))
@@ -100,7 +99,7 @@ module _ (touches : Bool) where
         (row-length (isGiven touches answer) ∙ ap (λ (b : Bool). if b then 5 else 0) (sym (g answer clipped)))
       where
         row-length : (b : Bool)
-            → length (if b then pos (p / 4) ∷ answer .ax ∷ answer .ay ∷ answer .bx ∷ answer .by ∷ [] else []) ≡ (if b then 5 else 0)
+            → length (if b then fiveOf (p / 4) answer else []) ≡ (if b then 5 else 0)
         row-length true = refl
         row-length false = refl
 
@@ -108,7 +107,7 @@ module _ (touches : Bool) where
   row-short : (k : ℕ) (a : StrokeAnswer) → length (row touches k a) ≤ 5
   row-short k a = go (isGiven touches a)
     where
-      go : (b : Bool) → length (if b then pos k ∷ a .ax ∷ a .ay ∷ a .bx ∷ a .by ∷ [] else []) ≤ 5
+      go : (b : Bool) → length (if b then fiveOf k a else []) ≤ 5
       go true = omega arith
       go false = omega arith
 

@@ -3,16 +3,20 @@
 use cuts::Cut;
 use grid::Answer;
 use grid::Refusal;
+use grid::Stroke;
 use grid::Window;
+use strokes::plain;
+use strokes::plain::Place;
 ghost use mathlib.Core.Path.{_≡_};
 ghost use mathlib.Core.Bool.{true, false};
 ghost use mathlib.Core.List.{List, [], _∷_};
-ghost use Prim.Native.Nat.{_+_, _≤_};
+ghost use Prim.Native.Nat.{_+_, _<_, _≤_};
 ghost use lib.IntN.{ℤ};
 ghost use lib.ListN.{length};
 ghost use lib.Seq.{sets};
-ghost use Rattle.grid.specs.Table.{WindowOnTable, StrokesOnTable};
-ghost use Rattle.batch.specs.Batches.{RowsGiven, Batch, BatchWithTouches, WroteRows, RefusesRows};
+ghost use Rattle.grid.specs.Table.{WindowOnTable, StrokeOnTable, StrokesOnTable};
+ghost use Rattle.cuts.specs.Cuts.{touchesAt};
+ghost use Rattle.batch.specs.Batches.{RowsGiven, Batch, BatchWithTouches, RoomForRow, WroteRow, WroteRows, RefusesRows};
 
 // Puts a stroke's index and points from n on.
 fn put(out: &mut [i32], n: usize, k: i32, c: Cut)
@@ -28,6 +32,22 @@ fn put(out: &mut [i32], n: usize, k: i32, c: Cut)
     out[n + 2] = ay;
     out[n + 3] = bx;
     out[n + 4] = by;
+}
+
+// The same for a stroke that is kept whole. Its index comes last: else the compiler makes one piece of code of both, which copies the numbers first.
+fn put_whole(out: &mut [i32], n: usize, k: i32, s: Stroke)
+    requires { ⌜ n + 5 ≤ length (now out) ⌝ }
+    ensures { λ _. ⌜ now (out .exit) ≡ sets (now (out .entry)) n (k ∷ s .x1 ∷ s .y1 ∷ s .x2 ∷ s .y2 ∷ []) ⌝ }
+{
+    let x1 = s.x1;
+    let y1 = s.y1;
+    let x2 = s.x2;
+    let y2 = s.y2;
+    out[n + 1] = x1;
+    out[n + 2] = y1;
+    out[n + 3] = x2;
+    out[n + 4] = y2;
+    out[n] = k;
 }
 
 // How many numbers the answer has.
@@ -47,43 +67,45 @@ fn count_rows(w: Window, s: &[i32], touches: bool) -> usize
     needed
 }
 
-// Writes the answer, for which there is room, and says how many numbers it has.
-fn write_rows(w: Window, s: &[i32], out: &mut [i32]) -> usize
+// Puts the row of stroke k from n on, if it has one, and says where the next one starts; `least` is as `cuts::least_of` has it.
+fn write_row(w: Window, s: Stroke, k: usize, out: &mut [i32], n: usize, least: u32) -> usize
     requires { ⌜ WindowOnTable w ⌝ }
-    requires { ⌜ StrokesOnTable (now s) ⌝ }
-    requires { ⌜ ((xs : List ℤ) → RowsGiven false w (now s) xs → length xs ≤ length (now out)) ⌝ }
-    ensures { λ r. ⌜ WroteRows false w (now (s .entry)) r (now (out .entry)) (now (out .exit)) ⌝ }
+    requires { ⌜ StrokeOnTable s ⌝ }
+    requires { ⌜ k < 4096 ⌝ }
+    requires { ⌜ RoomForRow (touchesAt least) w s k n (now out) ⌝ }
+    requires { ⌜ least ≤ 1 ⌝ }
+    ensures { λ r. ⌜ WroteRow (touchesAt least) w s k n r (now (out .entry)) (now (out .exit)) ⌝ }
 {
-    let mut n = 0;
-    let mut k = 0;
-    let strokes = s.len() / 4;
-    while k < strokes {
-        let c = cuts::cut_stroke(w, grid::stroke_at(s, k * 4));
-        if c.given {
-            put(out, n, k as i32, c);
-            n += 5;
+    match plain::place_of(w, s) {
+        Place::Inside => {
+            put_whole(out, n, k as i32, s);
+            n + 5
         }
-        k += 1;
+        Place::Outside => n,
+        Place::Neither => {
+            let c = cuts::cut_stroke(w, s, least);
+            if c.given {
+                put(out, n, k as i32, c);
+                return n + 5;
+            }
+            n
+        }
     }
-    n
 }
 
-// The same, touches too.
-fn write_with_touches(w: Window, s: &[i32], out: &mut [i32]) -> usize
+// Writes the answer, for which there is room, and says how many numbers it has.
+fn write_rows(w: Window, s: &[i32], out: &mut [i32], touches: bool) -> usize
     requires { ⌜ WindowOnTable w ⌝ }
     requires { ⌜ StrokesOnTable (now s) ⌝ }
-    requires { ⌜ ((xs : List ℤ) → RowsGiven true w (now s) xs → length xs ≤ length (now out)) ⌝ }
-    ensures { λ r. ⌜ WroteRows true w (now (s .entry)) r (now (out .entry)) (now (out .exit)) ⌝ }
+    requires { ⌜ ((xs : List ℤ) → RowsGiven touches w (now s) xs → length xs ≤ length (now out)) ⌝ }
+    ensures { λ r. ⌜ WroteRows touches w (now (s .entry)) r (now (out .entry)) (now (out .exit)) ⌝ }
 {
+    let least = cuts::least_of(touches);
     let mut n = 0;
     let mut k = 0;
     let strokes = s.len() / 4;
     while k < strokes {
-        let cut = cuts::cut_with_touches(w, grid::stroke_at(s, k * 4));
-        if cut.given {
-            put(out, n, k as i32, cut);
-            n += 5;
-        }
+        n = write_row(w, grid::stroke_at(s, k * 4), k, out, n, least);
         k += 1;
     }
     n
@@ -118,7 +140,7 @@ pub fn batch(w: Window, s: &[i32], out: &mut [i32]) -> Answer
     Answer {
         number: 0,
         place: 0,
-        count: write_rows(w, s, out),
+        count: write_rows(w, s, out, false),
     }
 }
 
@@ -133,6 +155,6 @@ pub fn batch_with_touches(w: Window, s: &[i32], out: &mut [i32]) -> Answer
     Answer {
         number: 0,
         place: 0,
-        count: write_with_touches(w, s, out),
+        count: write_rows(w, s, out, true),
     }
 }

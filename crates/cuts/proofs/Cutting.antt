@@ -18,9 +18,9 @@ use Rattle.strokes.proofs.Answers.{nothing-kept, span-kept, whole-answer}
 use Rattle.strokes.proofs.Meetings.{ends-span, ends-meet}
 use Rattle.strokes.proofs.Sides.{start-side, end-side}
 use Rattle.strokes.proofs.Unique.{clipped-unique}
-use Rattle.cuts.specs.Cuts.{isGiven, noCut, wholeCut, partCut, cutOf, CutIs, SaysGiven}
+use Rattle.cuts.specs.Cuts.{isGiven, leastOf, noCut, wholeCut, partCut, cutOf, CutIs, SaysGiven}
 use Rattle.cuts.proofs.Given.{whole-given, missed-left-out}
-use Rattle.cuts.proofs.Touching.{least, left-out-by-ways, given-by-ways}
+use Rattle.cuts.proofs.Touching.{left-out-by-ways, given-by-ways}
 
 -- what is given, where it is known whether anything is
 chosen : (touches : Bool) {b : Bool} (a : StrokeAnswer) → isGiven touches a ≡ b
@@ -47,11 +47,11 @@ module _ {w : Window} {s : Stroke} (touches : Bool) where
   -- ---- a part of it
   module _ {x y : Way} (on : WindowOnTable w) (f : WayOf (w .left) (w .right) (s .x1) (s .x2) x)
       (g : WayOf (w .bottom) (w .top) (s .y1) (s .y2) y) where
-    pub ways-give : {k : ℕ} (b : Bool) → k ≡ least touches → (b ≡ true → Apart k x y) → (b ≡ false → Overlap k x y) → SaysGiven touches w s (not b)
+    pub ways-give : {k : ℕ} (b : Bool) → k ≡ leastOf touches → (b ≡ true → Apart k x y) → (b ≡ false → Overlap k x y) → SaysGiven touches w s (not b)
     ways-give true e apart o a c = sym (left-out-by-ways on f g touches (subst (λ (k : ℕ). Apart k x y) e (apart refl)) a c)
     ways-give false e apart o a c = sym (given-by-ways on f g touches (subst (λ (k : ℕ). Overlap k x y) e (o refl)) a c)
 
-    pub part-cut : {i j : End} → StartOf s x y i → FinishOf s x y j → Overlap (least touches) x y
+    pub part-cut : {i j : End} → StartOf s x y i → FinishOf s x y j → Overlap (leastOf touches) x y
         → CutIs touches w s (partCut i j)
     part-cut {i} {j} p q o a c =
         let same = clipped-unique

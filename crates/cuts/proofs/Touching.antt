@@ -4,7 +4,7 @@ use mathlib.Core.Path.{_≡_, refl}
 use mathlib.Core.Bool.{Bool, true, false}
 use mathlib.Core.List.{[], _∷_}
 use mathlib.Core.Logic.{_⊎_, ⊎-elim}
-use Prim.Native.Nat.{ℕ, _+_, _*_, _<_, _≤_}
+use Prim.Native.Nat.{ℕ, zero, suc, _+_, _*_, _<_, _≤_}
 use native.Mathlib.Nat.{mul-le-mul, le-refl}
 use native.Mathlib.Omega.{arith}
 use lib.IntN.{ℤ, pos, negsuc, _*ℤ_}
@@ -20,7 +20,7 @@ use Rattle.strokes.specs.Workers.{ProperWay, FromStartToEnd, MetAt, rising, fal
 use Rattle.strokes.specs.declared.StrokeAnswer.{StrokeAnswer}
 use Rattle.strokes.specs.declared.ways.Way.{Way}
 use Rattle.strokes.proofs.Meetings.{positive, on-way, kept-on, none-kept}
-use Rattle.cuts.specs.Cuts.{isGiven}
+use Rattle.cuts.specs.Cuts.{isGiven, leastOf, touchesAt}
 use Rattle.cuts.proofs.Given.{missed-left-out, kept-given, touch-left-out, length-given}
 
 -- ---- one way ends as the other starts: what is on the one is not after what is on the other
@@ -71,7 +71,7 @@ module _ {k : ℕ} {x y : Way} (f : ProperWay x) (o : Overlap k x y) where
       let m = mul-le-mul (f .order) (le-refl (x .long)) in
       (record { from = omega zarith; upto = omega zarith }, record { from = omega zarith; upto = omega zarith })
 
-turned : {k : ℕ} {x y : Way} → Overlap k x y → Overlap k y x
+pub turned : {k : ℕ} {x y : Way} → Overlap k x y → Overlap k y x
 turned o = record { x-first = o .y-first; y-first = o .x-first }
 
 -- where they have more than a point in common, none of them has only its own start or end
@@ -166,13 +166,18 @@ module _ {w : Window} {s : Stroke} {x y : Way} (on : WindowOnTable w) (f : WayOf
       longer {a} {b} {c} h k = gt ((pos a) ∷ (pos b) ∷ (pos c) ∷ []) (x0 ⊗ x2) (x1 ⊗ x2) (lt x0 x1 (omega zarith) ⊠ po x2 (positive k)) tt
 
 -- ---- whether the stroke is given
-abbrev pub least : Bool → ℕ
-least true = 0
-least false = 1
-
-pub least-small : (touches : Bool) → least touches ≤ 1
+pub least-small : (touches : Bool) → leastOf touches ≤ 1
 least-small true = omega arith
 least-small false = omega arith
+
+pub least-asked : (touches : Bool) → touchesAt (leastOf touches) ≡ touches
+least-asked true = refl
+least-asked false = refl
+
+pub asked-least : (k : ℕ) → k ≤ 1 → k ≡ leastOf (touchesAt k)
+asked-least zero h = refl
+asked-least (suc zero) h = refl
+asked-least (suc (suc k)) h = absurd (omega arith)
 
 module _ {w : Window} {s : Stroke} {x y : Way} (on : WindowOnTable w) (f : WayOf (w .left) (w .right) (s .x1) (s .x2) x)
     (g : WayOf (w .bottom) (w .top) (s .y1) (s .y2) y) where
@@ -190,7 +195,7 @@ module _ {w : Window} {s : Stroke} {x y : Way} (on : WindowOnTable w) (f : WayOf
       (λ h. ≤-antisym (no-later py px h dk dl (p .0) (q .1)) (no-later py px h dl dk (q .0) (p .1)))
       apart
 
-  pub left-out-by-ways : (touches : Bool) → Apart (least touches) x y → (a : StrokeAnswer) → Clipped w s a → isGiven touches a ≡ false
+  pub left-out-by-ways : (touches : Bool) → Apart (leastOf touches) x y → (a : StrokeAnswer) → Clipped w s a → isGiven touches a ≡ false
   left-out-by-ways true apart a c = missed-left-out a true (go (a .kept) refl)
     where
       go : (k : Bool) → a .kept ≡ k → a .kept ≡ false
@@ -202,7 +207,7 @@ module _ {w : Window} {s : Stroke} {x y : Way} (on : WindowOnTable w) (f : WayOf
       go true e = touch-left-out a (one-kept apart (c .part .first e .keeps) (c .part .last e .keeps))
       go false e = missed-left-out a false e
 
-  pub given-by-ways : (touches : Bool) → Overlap (least touches) x y → (a : StrokeAnswer) → Clipped w s a → isGiven touches a ≡ true
+  pub given-by-ways : (touches : Bool) → Overlap (leastOf touches) x y → (a : StrokeAnswer) → Clipped w s a → isGiven touches a ≡ true
   given-by-ways true o a c = kept-given a (some-kept on f g o c)
   given-by-ways false o a c =
       let two = two-kept on f g o in

@@ -1,5 +1,5 @@
 // What is given of a stroke, by its points alone: what the calls for many strokes ask for. A stroke that only touches the window is left out, or
-// given where touches are asked for by name; each has a function of its own, since a flag that a loop over strokes carries along costs registers.
+// given where touches are asked for by name.
 use grid::Stroke;
 use grid::Window;
 use strokes::End;
@@ -7,9 +7,10 @@ use strokes::ends;
 use strokes::plain;
 use strokes::ways;
 ghost use mathlib.Core.Path.{_≡_};
-ghost use mathlib.Core.Bool.{true, false};
+ghost use Prim.Native.Nat.{_≤_};
 ghost use Rattle.grid.specs.Table.{WindowOnTable, StrokeOnTable};
-ghost use Rattle.cuts.specs.Cuts.{noCut, wholeCut, partCut, CutIs, SaysGiven};
+ghost use Rattle.strokes.specs.Workers.{Reaching};
+ghost use Rattle.cuts.specs.Cuts.{leastOf, touchesAt, noCut, partCut, CutIs, SaysGiven};
 
 // What is given of a stroke: its two points, rounded to the grid.
 pub struct Cut {
@@ -33,19 +34,6 @@ fn nothing() -> Cut
     }
 }
 
-// All of it is given.
-fn whole_stroke(s: Stroke) -> Cut
-    ensures { λ r. ⌜ r ≡ wholeCut s ⌝ }
-{
-    Cut {
-        given: true,
-        ax: s.x1,
-        ay: s.y1,
-        bx: s.x2,
-        by: s.y2,
-    }
-}
-
 // The part from a to b is given.
 fn part(a: End, b: End) -> Cut
     ensures { λ r. ⌜ r ≡ partCut a b ⌝ }
@@ -59,43 +47,25 @@ fn part(a: End, b: End) -> Cut
     }
 }
 
-// What is given of the stroke, the plain cases first. Its end is found before its start: so the compiler has more registers free.
-pub fn cut_stroke(w: Window, s: Stroke) -> Cut
-    requires { ⌜ WindowOnTable w ⌝ }
-    requires { ⌜ StrokeOnTable s ⌝ }
-    ensures { λ r. ⌜ CutIs false w s r ⌝ }
+// How much the ways of a stroke's two coordinates must have in common, measured as `ways::apart` does, if the stroke is to be given.
+pub fn least_of(touches: bool) -> u32
+    ensures { λ r. ⌜ r ≡ leastOf touches ⌝ }
 {
-    if plain::inside(w, s) {
-        return whole_stroke(s);
-    }
-    if plain::outside(w, s) {
-        return nothing();
-    }
-    let y = ways::passage(w.bottom, w.top, s.y1, s.y2);
-    let x = ways::passage(w.left, w.right, s.x1, s.x2);
-    if ways::apart(x, y, 1) {
-        return nothing();
-    }
-    let b = ends::finish(s, x, y);
-    let a = ends::start(s, x, y);
-    part(a, b)
+    if touches { 0 } else { 1 }
 }
 
-// The same, touches too.
-pub fn cut_with_touches(w: Window, s: Stroke) -> Cut
+// What is given of a stroke that is not plainly in or out; `least` is as `least_of` has it. The way of y comes first, and the end before the start:
+// so the compiler has more registers free.
+pub fn cut_stroke(w: Window, s: Stroke, least: u32) -> Cut
     requires { ⌜ WindowOnTable w ⌝ }
     requires { ⌜ StrokeOnTable s ⌝ }
-    ensures { λ r. ⌜ CutIs true w s r ⌝ }
+    requires { ⌜ Reaching w s ⌝ }
+    requires { ⌜ least ≤ 1 ⌝ }
+    ensures { λ r. ⌜ CutIs (touchesAt least) w s r ⌝ }
 {
-    if plain::inside(w, s) {
-        return whole_stroke(s);
-    }
-    if plain::outside(w, s) {
-        return nothing();
-    }
     let y = ways::passage(w.bottom, w.top, s.y1, s.y2);
     let x = ways::passage(w.left, w.right, s.x1, s.x2);
-    if ways::apart(x, y, 0) {
+    if ways::apart(y, x, least) {
         return nothing();
     }
     let b = ends::finish(s, x, y);
@@ -117,6 +87,5 @@ pub fn gives(w: Window, s: Stroke, touches: bool) -> bool
     }
     let y = ways::passage(w.bottom, w.top, s.y1, s.y2);
     let x = ways::passage(w.left, w.right, s.x1, s.x2);
-    let least = if touches { 0 } else { 1 };
-    !ways::apart(x, y, least)
+    !ways::apart(x, y, least_of(touches))
 }

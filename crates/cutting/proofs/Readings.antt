@@ -6,7 +6,7 @@ use Prim.Native.Nat.{ℕ, suc, _+_, _*_, _/_, _%_, _≤_}
 use native.Mathlib.Omega.{arith}
 use borrow.Author.Tests.{eqb-true, eqb-false, le-leb}
 use lib.Dec.{eqb}
-use lib.IntN.{ℤ, pos}
+use lib.IntN.{ℤ}
 use lib.ListN.{length, take, drop}
 use lib.Seq.{take-at}
 use Rattle.whole.specs.Choice.{if_then_else_}
@@ -22,7 +22,7 @@ use Rattle.drawing.proofs.Strokes.{four-each}
 use Rattle.drawing.proofs.Theorems.{few-strokes, on-table}
 use Rattle.strokes.specs.declared.StrokeAnswer.{StrokeAnswer}
 use Rattle.cuts.specs.Cuts.{isGiven}
-use Rattle.batch.specs.Batches.{rows, RowsOf, batchRefusal, Batch}
+use Rattle.batch.specs.Batches.{fiveOf, rows, RowsOf, batchRefusal, Batch}
 use Rattle.batch.proofs.Refusing.{nothing-refused as none-refused}
 use Rattle.batch.proofs.Rows.{rows-of-short}
 use Rattle.cutting.specs.Sheets.{refusedSheet, CutDrawing, faulty, no-area}
@@ -107,7 +107,7 @@ rows-by-five k [] = refl
 rows-by-five k (a ∷ rest) = go (isGiven false a) (rows-by-five (suc k) rest)
   where
     go : (b : Bool) → length (rows false (suc k) rest) % 5 ≡ 0
-        → length ((if b then pos k ∷ a .ax ∷ a .ay ∷ a .bx ∷ a .by ∷ [] else []) ++ rows false (suc k) rest) % 5 ≡ 0
+        → length ((if b then fiveOf k a else []) ++ rows false (suc k) rest) % 5 ≡ 0
     go true h = omega arith
     go false h = h
 

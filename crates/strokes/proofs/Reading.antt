@@ -1,13 +1,14 @@
 -- Numbers of the table as the machine reads them: each is itself, so what is said of the ones is said of the others.
 use mathlib.Core.Path.{_≡_, sym, subst₂, transport}
+use Prim.Native.Nat.{_<_, _^_}
 use native.Mathlib.Omega.{arith}
 use lib.IntN.{ℤ}
-use lib.Signed.{_<ℤ_}
+use lib.Signed.{_<ℤ_, mag}
 use mir.Syntax.{w32}
 use mir.Val.{SFits, toZ, ofZ}
 use mir.Facts.{toZ-ofZ}
 use Rattle.whole.specs.Within.{Within}
-use Rattle.whole.proofs.Comparisons.{bits}
+use Rattle.whole.proofs.Comparisons.{back, bits}
 use Rattle.whole.proofs.Ranges.{within-abs, fits-abs}
 use Rattle.fraction.specs.Rounding.{along, Rounded}
 use Rattle.grid.specs.Table.{farthest}
@@ -39,6 +40,11 @@ risen-plain {r = r} k h = transport (λ i. Risen (read-is (k .a-on) i) (read-is 
 
 pub fallen-plain : {a b c d : ℤ} {r : Way} → Ranged a b c d → Fallen (read d) (read c) (read b) (read a) r → Fallen d c b a r
 fallen-plain {r = r} k h = transport (λ i. Fallen (read-is (k .d-on) i) (read-is (k .c-on) i) (read-is (k .b-on) i) (read-is (k .a-on) i) r) h
+
+-- four that a window and a stroke hold, on the table or off it
+pub four-plain : {a b c d : ℤ} (P : ℤ → ℤ → ℤ → ℤ → Type 0) → mag a < 2 ^ 31 → mag b < 2 ^ 31 → mag c < 2 ^ 31 → mag d < 2 ^ 31
+    → P (read a) (read b) (read c) (read d) → P a b c d
+four-plain {a} {b} {c} {d} P ha hb hc hd k = transport (λ i. P (back w32 a ha i) (back w32 b hb i) (back w32 c hc i) (back w32 d hd i)) k
 
 -- and for a way between two sides
 module _ {lo hi a b : ℤ} (wl : Within farthest lo) (wh : Within farthest hi) (wa : Within farthest a) (wb : Within farthest b) where

@@ -24,7 +24,7 @@ use Rattle.grid.specs.Table.{strokesOf}
 use Rattle.strokes.specs.Strokes.{Clipped}
 use Rattle.strokes.specs.declared.StrokeAnswer.{StrokeAnswer}
 use Rattle.cuts.specs.Cuts.{isGiven}
-use Rattle.batch.specs.Batches.{Each, row, rows, RowsGiven, batchRefusal}
+use Rattle.batch.specs.Batches.{Each, fiveOf, row, rows, RowsGiven, batchRefusal}
 use Rattle.batch.specs.Batches as batches
 use Rattle.strokes.proofs.Unique.{clipped-unique}
 use Rattle.turned_round.specs.Laws.{turnRound, oneMinus, AnswerTurnedRound, swap, strokesTurnedRound, rowsTurnedRound}
@@ -90,11 +90,11 @@ module _ (touches : Bool) (which : ℕ → Bool) where
   row-turned k a b t xs = go (which k) refl t
     where
       five : Bool → StrokeAnswer → List ℤ
-      five given c = if given then pos k ∷ c .ax ∷ c .ay ∷ c .bx ∷ c .by ∷ [] else []
+      five given c = if given then fiveOf k c else []
 
       -- a row where the stroke is turned round, or not
       said : {turn : Bool} → which k ≡ turn → (c : StrokeAnswer)
-          → rowsTurnedRound which (pos k ∷ c .ax ∷ c .ay ∷ c .bx ∷ c .by ∷ xs)
+          → rowsTurnedRound which (fiveOf k c ++ xs)
           ≡ pos k ∷ swap turn (c .ax) (c .ay) (c .bx) (c .by) ++ rowsTurnedRound which xs
       said e c = ap (λ (turn : Bool). pos k ∷ swap turn (c .ax) (c .ay) (c .bx) (c .by) ++ rowsTurnedRound which xs) e
 

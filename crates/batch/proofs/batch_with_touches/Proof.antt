@@ -14,8 +14,8 @@ refused-by-requires c κs = search needs
 returns : tie.Need-returns
 returns c = rw (c .refused-by .ensures) (call-refused _ (c .before .before .before .refusal .ensures) (c .before .if1 .taken))
 
-write-with-touches-requires : tie.Need-write-with-touches-requires
-write-with-touches-requires c κs =
+write-rows-requires : tie.Need-write-rows-requires
+write-rows-requires c κs =
     let k = c .before in
     call-asks (now (k .before .before .before .args .out)) (k .before .before .refusal .ensures) (k .if1 .left)
 
@@ -23,7 +23,7 @@ same-length : tie.Need-same-length
 same-length c = search needs
 
 returns-2 : tie.Need-returns-2
-returns-2 c = let k = c .before .before .before in call-done _ (k .before .before .refusal .ensures) (k .if1 .left) (c .before .write-with-touches .ensures)
+returns-2 c = let k = c .before .before .before in call-done _ (k .before .before .refusal .ensures) (k .if1 .left) (c .before .write-rows .ensures)
 
 pub batch-with-touches-spec : {M : Type 1} → statement M
-batch-with-touches-spec = tie.close (tie.spec refusal-requires refused-by-requires returns write-with-touches-requires same-length returns-2)
+batch-with-touches-spec = tie.close (tie.spec refusal-requires refused-by-requires returns write-rows-requires same-length returns-2)

@@ -1,86 +1,80 @@
--- `batch::write_rows` meets its contract: a turn of the loop writes the stroke's row or passes over it, `Writing`. Assumes nothing.
-use mathlib.Core.Path.{_≡_, ap, _∙_}
-use mathlib.Core.Bool.{false}
-use mathlib.Core.List.{[], _∷_}
-use mathlib.Core.Logic.{⊎-elim}
-use Prim.Native.Nat.{_<_, _≤_, _-_, _+_, _*_, _/_, _^_}
+-- `batch::write_rows` meets its contract: a turn of the loop writes the row of the next stroke, if it has one, `Writing`. Assumes nothing.
+use mathlib.Core.Path.{_≡_, sym, ap, _∙_, subst}
+use mathlib.Core.Bool.{Bool}
+use Prim.Native.Nat.{_≤_, _-_, _+_, _*_, _/_}
 use native.Mathlib.Omega.{arith}
+use borrow.Author.Needs.{needs}
 use denote.Ref.{now}
-use lib.IntN.{ℤ}
 use lib.ListN.{length}
-use lib.Seq.{sets}
-use mir.Syntax.{w32}
-use mir.Facts.{toZ-pos}
-use Rattle.batch.proofs.Writing.{Writing, stroke-left, writing-start, writing-end, row-room, row-put, row-left-out}
+use Rattle.cuts.specs.Cuts.{touchesAt}
+use Rattle.cuts.proofs.Touching.{least-small, least-asked}
+use Rattle.batch.specs.Batches.{RoomForRow, WroteRow}
+use Rattle.batch.proofs.Writing.{Writing, stroke-left, writing-start, writing-end, next-room, next-row}
 use Rattle.batch.proofs.write_rows.Statement.{statement}
 use Rattle.batch.proofs.write_rows.Tie as tie
 
 abbrev Inv-loop : tie.InvT-loop
-Inv-loop w s out₀ n₀ k₀ strokes out n k = (strokes ≡ length s / 4) × Writing false w s out₀ out n k
+Inv-loop w s out₀ touches least n₀ k₀ strokes out n k = (strokes ≡ length s / 4) × Writing touches w s out₀ out n k
 
 abbrev μ-loop : tie.MeasureT-loop
-μ-loop w s out₀ n₀ k₀ strokes out n k = strokes - k
+μ-loop w s out₀ touches least n₀ k₀ strokes out n k = strokes - k
 
 -- a whole stroke is left
-whole : (c : tie.In-loop Inv-loop μ-loop) → c .before .loop .k * 4 + 4 ≤ length (now (c .before .before .args .s))
+whole : (c : tie.In-loop Inv-loop μ-loop) → c .before .loop .k * 4 + 4 ≤ length (now (c .before .before .before .args .s))
 whole c = omega (arith, c .before .loop .inv .0, c .loop-test .taken)
 
+-- the row is asked for as all are
+asked : (c : tie.In-loop Inv-loop μ-loop) → touchesAt (c .before .before .least-of .result) ≡ c .before .before .before .args .touches
+asked c = ap touchesAt (c .before .before .least-of .ensures) ∙ least-asked (c .before .before .before .args .touches)
+
+least-of-requires : tie.Need-least-of-requires Inv-loop μ-loop
+least-of-requires c κs = search needs
+
 loop-holds : tie.Need-loop-holds Inv-loop μ-loop
-loop-holds c = (omega arith, writing-start (c .pre .0) (c .pre .1 .0) (c .pre .1 .1))
+loop-holds c = (omega arith, writing-start (c .before .pre .0) (c .before .pre .1 .0) (c .before .pre .1 .1))
 
 mul-stroke-at : tie.Need-mul-stroke-at Inv-loop μ-loop
-mul-stroke-at c = omega (arith, whole c, c .before .before .pre .1 .0 .few)
+mul-stroke-at c = omega (arith, whole c, c .before .before .before .pre .1 .0 .few)
 
 stroke-at-requires : tie.Need-stroke-at-requires Inv-loop μ-loop
 stroke-at-requires c κs = whole c
 
-cut-stroke-requires : tie.Need-cut-stroke-requires Inv-loop μ-loop
-cut-stroke-requires c κs =
-    let a = c .before .before .before in
-    (a .pre .0, stroke-left (c .before .before .loop .k * 4) (a .pre .1 .0) (whole (c .before)) (c .stroke-at .ensures))
-
--- there is room for the row of a stroke that is given
-room : (c : tie.Then1 Inv-loop μ-loop) → let l = c .before .before .before .before in
-    (l .loop .n + 5 ≤ length (l .loop .out)) × (length (l .loop .out) ≡ length (now (l .before .args .out)))
-room c =
-    let k = c .before in
-    let b = k .before .before in
-    let a = b .before .before in
-    row-room (a .pre .0) (a .pre .1 .0) (b .before .loop .inv .1) (whole b) (k .before .stroke-at .ensures) (k .cut-stroke .ensures)
-    (c .if1 .taken)
-
-cast-put : tie.Need-cast-put Inv-loop μ-loop
-cast-put c = let l = c .before .before .before .before .before in record { sfits = omega (arith, l .before .pre .1 .0 .few, l .loop .inv .1 .most) }
-
-put-requires : tie.Need-put-requires Inv-loop μ-loop
-put-requires c κs = room (c .before) .0
-
-add-n : tie.Need-add-n Inv-loop μ-loop
-add-n c = let r = room (c .before .before .before) in omega (arith, r .0, r .1, c .before .before .before .before .before .before .before .before .good)
+write-row-requires : tie.Need-write-row-requires Inv-loop μ-loop
+write-row-requires c κs =
+    let i = c .before .before in
+    let l = i .before .loop in
+    let a = i .before .before .before in
+    let s = c .before .stroke-at in (
+      a .pre .0,
+      (
+        stroke-left (l .k * 4) (a .pre .1 .0) (whole i) (s .ensures),
+        (
+          omega (arith, whole i, a .pre .1 .0 .few),
+          (
+            subst (λ (b : Bool). RoomForRow b (a .args .w) (s .result) (l .k) (l .n) (l .out)) (sym (asked i))
+                (next-room (a .pre .0) (a .pre .1 .0) (l .inv .1) (whole i) (s .ensures)),
+            omega (arith, i .before .before .least-of .ensures, least-small (a .args .touches)),
+          ),
+        ),
+      ),
+    )
 
 add-k : tie.Need-add-k Inv-loop μ-loop
-add-k c = omega (arith, c .before .before .before .before .before .pre .1 .0 .few, c .before .before .before .before .loop .inv .1 .most)
+add-k c = let i = c .before .before .before .before in omega (arith, whole i, i .before .before .before .pre .1 .0 .few)
 
 loop-less : tie.Need-loop-less Inv-loop μ-loop
 loop-less c = omega arith
 
 loop-again : tie.Need-loop-again Inv-loop μ-loop
 loop-again c =
-    let k = c .before in
-    let b = k .before .before in
-    let a = b .before .before in
-    let l = b .before .loop in
-    let r = k .cut-stroke .result in
-    let i : l .k < 2 ^ 31 = omega (arith, a .pre .1 .0 .few, l .inv .1 .most) in (
+    let i = c .before .before .before .before in
+    let l = i .before .loop in
+    let a = i .before .before .before in
+    let s = c .before .before .before .stroke-at in
+    let r = c .before .write-row in (
       l .inv .0,
-      ⊎-elim
-          (λ o.
-          row-put (a .pre .0) (a .pre .1 .0) (l .inv .1) (whole b) (k .before .stroke-at .ensures) (k .cut-stroke .ensures) (o .0 .taken)
-          (o .4 ∙ o .2 .ensures ∙ ap (λ (z : ℤ). sets (l .out) (l .n) (z ∷ r .ax ∷ r .ay ∷ r .bx ∷ r .by ∷ [])) (toZ-pos w32 i))
-          (o .5))
-          (λ o.
-          row-left-out (a .pre .0) (a .pre .1 .0) (l .inv .1) (whole b) (k .before .stroke-at .ensures) (k .cut-stroke .ensures) (o .0 .left) (o .1) (o .2))
-          (c .if1 .came),
+      next-row (a .pre .0) (a .pre .1 .0) (l .inv .1) (whole i) (s .ensures)
+          (subst (λ (b : Bool). WroteRow b (a .args .w) (s .result) (l .k) (l .n) (r .result) (l .out) (r .last .1 .1 .1 .0)) (asked i) (r .ensures)),
     )
 
 same-length : tie.Need-same-length Inv-loop μ-loop
@@ -88,7 +82,7 @@ same-length c = c .before .loop .inv .1 .filled .same
 
 returns : tie.Need-returns Inv-loop μ-loop
 returns c =
-    let a = c .before .before in
+    let a = c .before .before .before in
     let l = c .before .loop in
     writing-end (a .pre .0) (a .pre .1 .0) (l .inv .1) (omega (arith, l .inv .0, c .loop-test .left))
 
@@ -98,13 +92,11 @@ write-rows-spec =
     (tie.spec
     Inv-loop
     μ-loop
+    least-of-requires
     loop-holds
     mul-stroke-at
     stroke-at-requires
-    cut-stroke-requires
-    cast-put
-    put-requires
-    add-n
+    write-row-requires
     add-k
     loop-less
     loop-again

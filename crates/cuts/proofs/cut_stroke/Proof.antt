@@ -1,115 +1,85 @@
--- `cuts::cut_stroke` meets its contract: the plain cases have their laws; else what is kept is from the later start to the earlier end of
--- the two ways. Assumes nothing.
+-- `cuts::cut_stroke` meets its contract: what is kept is from the later start to the earlier end of the two ways, if these have enough in common.
+-- Assumes nothing.
 use mathlib.Core.Path.{sym, subst}
-use mathlib.Core.Bool.{false}
-use native.Mathlib.Omega.{arith}
+use mathlib.Core.Logic.{inl, inr, ⊎-elim}
+use Prim.Native.Nat.{ℕ}
 use borrow.Author.Needs.{needs}
-use Rattle.strokes.specs.Workers.{WayOf}
-use Rattle.strokes.proofs.Answers.{inside-always}
+use Rattle.strokes.specs.Workers.{WayOf, Apart, Overlap}
 use Rattle.strokes.proofs.Reading.{passage-asks, way-plain}
-use Rattle.cuts.specs.Cuts.{CutIs}
-use Rattle.cuts.proofs.Cutting.{whole-cut, none-gives, left-out-cut, part-cut}
-use Rattle.cuts.proofs.Touching.{left-out-by-ways}
+use Rattle.cuts.specs.Cuts.{touchesAt, CutIs}
+use Rattle.cuts.proofs.Cutting.{left-out-cut, part-cut}
+use Rattle.cuts.proofs.Touching.{asked-least, turned, left-out-by-ways}
 use Rattle.cuts.proofs.cut_stroke.Statement.{statement}
 use Rattle.cuts.proofs.cut_stroke.Tie as tie
 
-inside-requires : tie.Need-inside-requires
-inside-requires c κs = search needs
-
-whole-stroke-requires : tie.Need-whole-stroke-requires
-whole-stroke-requires c κs = search needs
-
-returns : tie.Need-returns
-returns c =
-    let a = c .before .before .before .args in
-    subst (CutIs false (a .w) (a .s)) (sym (c .whole-stroke .ensures))
-    (whole-cut false (inside-always (c .before .before .inside .ensures (c .before .if1 .taken))))
-
-outside-requires : tie.Need-outside-requires
-outside-requires c κs = search needs
-
-nothing-requires : tie.Need-nothing-requires
-nothing-requires c κs = search needs
-
-returns-2 : tie.Need-returns-2
-returns-2 c =
-    let a = c .before .before .before .before .before .args in
-    subst (CutIs false (a .w) (a .s)) (sym (c .nothing .ensures))
-    (left-out-cut false (none-gives false (c .before .before .outside .ensures .0 (c .before .if2 .taken))))
-
 passage-requires : tie.Need-passage-requires
-passage-requires c κs =
-    let p = c .before .before .before .before .before .before .before .before .pre in
-    passage-asks (p .0 .bottom) (p .0 .top) (p .1 .y1) (p .1 .y2) (p .0 .tall)
-    (c .before .before .before .before .before .outside .ensures .1 (c .before .before .before .before .if2 .left) .y)
+passage-requires c κs = let p = c .before .before .before .before .pre in
+    passage-asks (p .0 .bottom) (p .0 .top) (p .1 .0 .y1) (p .1 .0 .y2) (p .0 .tall) (p .1 .1 .0 .y)
 
 passage-requires-2 : tie.Need-passage-requires-2
-passage-requires-2 c κs =
-    let p = c .before .before .before .before .before .before .before .before .before .before .before .before .before .pre in
-    passage-asks (p .0 .left) (p .0 .right) (p .1 .x1) (p .1 .x2) (p .0 .wide)
-    (c .before .before .before .before .before .before .before .before .before .before .outside .ensures .1
-    (c .before .before .before .before .before .before .before .before .before .if2 .left) .x)
+passage-requires-2 c κs = let p = c .before .before .before .before .before .before .before .before .before .pre in
+    passage-asks (p .0 .left) (p .0 .right) (p .1 .0 .x1) (p .1 .0 .x2) (p .0 .wide) (p .1 .1 .0 .x)
 
 -- where it starts, and the two ways
 abbrev begun : tie.After-passage2 → tie.Start
-begun c = c .before .before .before .before .before .before .before .before .before .before .before .before .before .before
+begun c = c .before .before .before .before .before .before .before .before .before .before
 
 way-y : (c : tie.After-passage2) → let a = begun c .args in
     WayOf (a .w .bottom) (a .w .top) (a .s .y1) (a .s .y2) (c .before .before .before .before .before .passage .result)
 way-y c = let p = begun c .pre in
-    way-plain (p .0 .bottom) (p .0 .top) (p .1 .y1) (p .1 .y2) (c .before .before .before .before .before .passage .ensures)
+    way-plain (p .0 .bottom) (p .0 .top) (p .1 .0 .y1) (p .1 .0 .y2) (c .before .before .before .before .before .passage .ensures)
 
 way-x : (c : tie.After-passage2) → let a = begun c .args in WayOf (a .w .left) (a .w .right) (a .s .x1) (a .s .x2) (c .passage2 .result)
-way-x c = let p = begun c .pre in way-plain (p .0 .left) (p .0 .right) (p .1 .x1) (p .1 .x2) (c .passage2 .ensures)
+way-x c = let p = begun c .pre in way-plain (p .0 .left) (p .0 .right) (p .1 .0 .x1) (p .1 .0 .x2) (c .passage2 .ensures)
 
 apart-requires : tie.Need-apart-requires
-apart-requires c κs = (way-x c .way .proper, (way-y c .way .proper, omega arith))
+apart-requires c κs = (way-y c .way .proper, (way-x c .way .proper, begun c .pre .1 .1 .1))
 
-nothing-requires-2 : tie.Need-nothing-requires-2
-nothing-requires-2 c κs = search needs
+nothing-requires : tie.Need-nothing-requires
+nothing-requires c κs = search needs
 
-returns-3 : tie.Need-returns-3
-returns-3 c =
+returns : tie.Need-returns
+returns c =
     let k = c .before .before .before in
     let a = begun k in
-    let apart = c .before .before .apart .ensures .0 (c .before .if3 .taken) in
-    subst (CutIs false (a .args .w) (a .args .s)) (sym (c .nothing2 .ensures))
-    (left-out-cut false (λ b q. sym (left-out-by-ways (a .pre .0) (way-x k) (way-y k) false apart b q)))
+    let touches = touchesAt (a .args .least) in
+    let x = k .passage2 .result in
+    let y = k .before .before .before .before .before .passage .result in
+    let apart : Apart (a .args .least) x y = ⊎-elim inr inl (c .before .before .apart .ensures .0 (c .before .if1 .taken)) in
+    let asked = subst (λ (l : ℕ). Apart l x y) (asked-least (a .args .least) (a .pre .1 .1 .1)) apart in
+    subst (CutIs touches (a .args .w) (a .args .s)) (sym (c .nothing .ensures))
+    (left-out-cut touches (λ b q. sym (left-out-by-ways (a .pre .0) (way-x k) (way-y k) touches asked b q)))
 
 finish-requires : tie.Need-finish-requires
-finish-requires c κs = let k = c .before .before in (begun k .pre .1, (way-x k .way, way-y k .way))
+finish-requires c κs = let k = c .before .before in (begun k .pre .1 .0, (way-x k .way, way-y k .way))
 
 start-requires : tie.Need-start-requires
-start-requires c κs = let k = c .before .before .before in (begun k .pre .1, (way-x k .way, way-y k .way))
+start-requires c κs = let k = c .before .before .before in (begun k .pre .1 .0, (way-x k .way, way-y k .way))
 
 part-requires : tie.Need-part-requires
 part-requires c κs = search needs
 
-returns-4 : tie.Need-returns-4
-returns-4 c =
+returns-2 : tie.Need-returns-2
+returns-2 c =
     let k = c .before .before .before .before .before in
-    let a = c .before .start in
-    let b = c .before .before .finish in
-    subst (CutIs false (begun k .args .w) (begun k .args .s)) (sym (c .part .ensures))
-    (part-cut false (begun k .pre .0) (way-x k) (way-y k) (a .ensures) (b .ensures)
-    (c .before .before .before .before .apart .ensures .1 (c .before .before .before .if3 .left)))
+    let a = begun k in
+    let touches = touchesAt (a .args .least) in
+    let overlap = turned (c .before .before .before .before .apart .ensures .1 (c .before .before .before .if1 .left)) in
+    let asked = subst (λ (l : ℕ). Overlap l (k .passage2 .result) (k .before .before .before .before .before .passage .result))
+    (asked-least (a .args .least) (a .pre .1 .1 .1)) overlap in
+    subst (CutIs touches (a .args .w) (a .args .s)) (sym (c .part .ensures))
+    (part-cut touches (a .pre .0) (way-x k) (way-y k) (c .before .start .ensures) (c .before .before .finish .ensures) asked)
 
 pub cut-stroke-spec : {M : Type 1} → statement M
 cut-stroke-spec =
     tie.close
     (tie.spec
-    inside-requires
-    whole-stroke-requires
-    returns
-    outside-requires
-    nothing-requires
-    returns-2
     passage-requires
     passage-requires-2
     apart-requires
-    nothing-requires-2
-    returns-3
+    nothing-requires
+    returns
     finish-requires
     start-requires
     part-requires
-    returns-4)
+    returns-2)

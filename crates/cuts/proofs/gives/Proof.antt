@@ -1,13 +1,11 @@
 -- `cuts::gives` meets its contract: the plain cases, and whether the two ways overlap. Assumes nothing.
-use mathlib.Core.Path.{_≡_, sym, ap, _∙_}
-use mathlib.Core.Logic.{⊎-elim}
 use native.Mathlib.Omega.{arith}
 use borrow.Author.Needs.{needs}
 use Rattle.strokes.specs.Workers.{WayOf}
 use Rattle.strokes.proofs.Answers.{inside-always}
 use Rattle.strokes.proofs.Reading.{passage-asks, way-plain}
 use Rattle.cuts.proofs.Cutting.{whole-gives, none-gives, ways-give}
-use Rattle.cuts.proofs.Touching.{least, least-small}
+use Rattle.cuts.proofs.Touching.{least-small}
 use Rattle.cuts.proofs.gives.Statement.{statement}
 use Rattle.cuts.proofs.gives.Tie as tie
 
@@ -48,19 +46,30 @@ way-y c = let p = begun c .pre in
 way-x : (c : tie.After-passage2) → let a = begun c .args in WayOf (a .w .left) (a .w .right) (a .s .x1) (a .s .x2) (c .passage2 .result)
 way-x c = let p = begun c .pre in way-plain (p .0 .left) (p .0 .right) (p .1 .x1) (p .1 .x2) (c .passage2 .ensures)
 
-asked : (c : tie.Joined3) → c .if3 .least ≡ least (begun (c .before) .args .touches)
-asked c = ⊎-elim (λ o. o .1 ∙ ap least (sym (o .0 .taken))) (λ o. o .1 ∙ ap least (sym (o .0 .left))) (c .if3 .came)
+least-of-requires : tie.Need-least-of-requires
+least-of-requires c κs = search needs
 
 apart-requires : tie.Need-apart-requires
 apart-requires c κs =
     let k = c .before in
-    (way-x k .way .proper, (way-y k .way .proper, omega (arith, asked c, least-small (begun k .args .touches))))
+    (way-x k .way .proper, (way-y k .way .proper, omega (arith, c .least-of .ensures, least-small (begun k .args .touches))))
 
 returns-3 : tie.Need-returns-3
 returns-3 c =
     let k = c .before .before in
-    ways-give (begun k .args .touches) (begun k .pre .0) (way-x k) (way-y k) (c .apart .result) (asked (c .before)) (c .apart .ensures .0)
+    ways-give (begun k .args .touches) (begun k .pre .0) (way-x k) (way-y k) (c .apart .result) (c .before .least-of .ensures) (c .apart .ensures .0)
     (c .apart .ensures .1)
 
 pub gives-spec : {M : Type 1} → statement M
-gives-spec = tie.close (tie.spec inside-requires returns outside-requires returns-2 passage-requires passage-requires-2 apart-requires returns-3)
+gives-spec =
+    tie.close
+    (tie.spec
+    inside-requires
+    returns
+    outside-requires
+    returns-2
+    passage-requires
+    passage-requires-2
+    least-of-requires
+    apart-requires
+    returns-3)

@@ -15,7 +15,7 @@ returns c =
     let f = c .before .fits in
     let l : c .before .args .b <ℤ c .before .args .lo = lt-yes (toZ-ofZ (f .b)) (toZ-ofZ (f .lo)) (c .if1 .taken) in (
       λ e n d t k. not-below (lt-yes (toZ-ofZ (f .a)) (toZ-ofZ (f .lo)) e) l t k,
-      λ e. let h = lt-no (toZ-ofZ (f .a)) (toZ-ofZ (f .lo)) e in record { up = λ g. absurd (omega zarith); down = λ g i. absurd (omega zarith) },
+      λ e. let h = lt-no (toZ-ofZ (f .a)) (toZ-ofZ (f .lo)) e in record { up = λ g. absurd (omega zarith); down = λ g i j. absurd (omega zarith) },
     )
 
 lesser-requires : tie.Need-lesser-requires
@@ -35,7 +35,7 @@ returns-2 c =
           not-above (omega (zarith, m .0)) (omega (zarith, m .1)) t k,
       λ e. record {
         up = λ _. l;
-        down = λ _ i.
+        down = λ _ _ i.
             let h : c .lesser .result ≤ℤ g .hi = lt-no (toZ-ofZ (f .hi)) is e in
             ⊎-elim
             (λ m. let n = lesser-least (c .lesser .ensures) (g .a) (omega zarith) (omega zarith) in absurd (omega zarith))

@@ -1,9 +1,8 @@
 -- `strokes::plain::inside` meets its contract: what `between` says of the numbers as they are read. Assumes nothing.
-use mathlib.Core.Path.{transport}
 use borrow.Author.Needs.{needs}
-use mir.Syntax.{w32}
-use Rattle.whole.proofs.Comparisons.{back, ff-tt}
+use Rattle.whole.proofs.Comparisons.{ff-tt}
 use Rattle.strokes.specs.Workers.{EndsBetween}
+use Rattle.strokes.proofs.Reading.{four-plain}
 use Rattle.strokes.proofs.plain.inside.Statement.{statement}
 use Rattle.strokes.proofs.plain.inside.Tie as tie
 
@@ -14,14 +13,12 @@ between-requires-2 : tie.Need-between-requires-2
 between-requires-2 c κs = search needs
 
 returns : tie.Need-returns
-returns c e = let st = c .before .before .before .before .before .before .before .before .before .before .before in
+returns c e =
     let gw = c .before .before .before .before .before .before .before .before .before .before .struct-told .given in
     let gs = c .before .before .before .before .before .before .before .before .struct-told3 .given in record {
-      x = transport (λ i. EndsBetween (back w32 (st .args .w .left) (gw .0 .1) i) (back w32 (st .args .w .right) (gw .1 .1 .0 .1) i)
-          (back w32 (st .args .s .x1) (gs .0 .1) i) (back w32 (st .args .s .x2) (gs .1 .1 .0 .1) i))
+      x = four-plain EndsBetween (gw .0 .1) (gw .1 .1 .0 .1) (gs .0 .1) (gs .1 .1 .0 .1)
           (c .before .before .before .before .before .before .between .ensures (c .before .before .before .before .before .if1 .taken));
-      y = transport (λ i. EndsBetween (back w32 (st .args .w .bottom) (gw .1 .0 .1) i) (back w32 (st .args .w .top) (gw .1 .1 .1 .0 .1) i)
-          (back w32 (st .args .s .y1) (gs .1 .0 .1) i) (back w32 (st .args .s .y2) (gs .1 .1 .1 .0 .1) i)) (c .between2 .ensures e);
+      y = four-plain EndsBetween (gw .1 .0 .1) (gw .1 .1 .1 .0 .1) (gs .1 .0 .1) (gs .1 .1 .1 .0 .1) (c .between2 .ensures e);
     }
 
 returns-2 : tie.Need-returns-2

@@ -1,24 +1,26 @@
 -- `strokes::plain::outside` meets its contract: what `beyond` says of the numbers as they are read. Assumes nothing.
-use mathlib.Core.Path.{sym, transport}
 use borrow.Author.Needs.{needs}
-use mir.Syntax.{w32}
-use Rattle.whole.proofs.Comparisons.{back, tt-ff}
-use Rattle.strokes.specs.Strokes.{KeepsCoordinate}
-use Rattle.strokes.specs.Workers.{MayReach}
+use lib.IntN.{ℤ}
+use Rattle.whole.proofs.Comparisons.{tt-ff}
+use Rattle.strokes.specs.declared.plain.Place.the-variants.{Outside}
+use Rattle.strokes.specs.Workers.{MayReach, PlacedAlong}
+use Rattle.strokes.proofs.Reading.{four-plain}
 use Rattle.strokes.proofs.plain.outside.Statement.{statement}
 use Rattle.strokes.proofs.plain.outside.Tie as tie
+
+-- what `beyond` says of a way when it answers true
+abbrev Beyond : ℤ → ℤ → ℤ → ℤ → Type 0
+Beyond lo hi a b = PlacedAlong lo hi a b Outside
 
 beyond-requires : tie.Need-beyond-requires
 beyond-requires c κs = search needs
 
 returns : tie.Need-returns
 returns c =
-    let st = c .before .before .before .before .before .before in
     let gw = c .before .before .before .before .before .struct-told .given in
     let gs = c .before .before .before .struct-told3 .given in (
-      λ e n d k. c .before .beyond .ensures .0 (c .if1 .taken) n d (k .time)
-          (transport (λ i. KeepsCoordinate (sym (back w32 (st .args .w .bottom) (gw .1 .0 .1)) i) (sym (back w32 (st .args .w .top) (gw .1 .1 .1 .0 .1)) i)
-          (sym (back w32 (st .args .s .y1) (gs .1 .0 .1)) i) (sym (back w32 (st .args .s .y2) (gs .1 .1 .1 .0 .1)) i) n d) (k .y)),
+      λ e n d k. four-plain Beyond (gw .1 .0 .1) (gw .1 .1 .1 .0 .1) (gs .1 .0 .1) (gs .1 .1 .1 .0 .1)
+          (c .before .beyond .ensures .0 (c .if1 .taken)) n d (k .time) (k .y),
       λ e. absurd (tt-ff e),
     )
 
@@ -27,18 +29,12 @@ beyond-requires-2 c κs = search needs
 
 returns-2 : tie.Need-returns-2
 returns-2 c =
-    let st = c .before .before .before .before .before .before .before .before .before .before .before in
     let gw = c .before .before .before .before .before .before .before .before .before .before .struct-told .given in
     let gs = c .before .before .before .before .before .before .before .before .struct-told3 .given in (
-      λ e n d k. c .beyond2 .ensures .0 e n d (k .time)
-          (transport (λ i. KeepsCoordinate (sym (back w32 (st .args .w .left) (gw .0 .1)) i) (sym (back w32 (st .args .w .right) (gw .1 .1 .0 .1)) i)
-          (sym (back w32 (st .args .s .x1) (gs .0 .1)) i) (sym (back w32 (st .args .s .x2) (gs .1 .1 .0 .1)) i) n d) (k .x)),
+      λ e n d k. four-plain Beyond (gw .0 .1) (gw .1 .1 .0 .1) (gs .0 .1) (gs .1 .1 .0 .1) (c .beyond2 .ensures .0 e) n d (k .time) (k .x),
       λ e. record {
-        x = transport (λ i. MayReach (back w32 (st .args .w .left) (gw .0 .1) i) (back w32 (st .args .w .right) (gw .1 .1 .0 .1) i)
-            (back w32 (st .args .s .x1) (gs .0 .1) i) (back w32 (st .args .s .x2) (gs .1 .1 .0 .1) i))
-            (c .beyond2 .ensures .1 e);
-        y = transport (λ i. MayReach (back w32 (st .args .w .bottom) (gw .1 .0 .1) i) (back w32 (st .args .w .top) (gw .1 .1 .1 .0 .1) i)
-            (back w32 (st .args .s .y1) (gs .1 .0 .1) i) (back w32 (st .args .s .y2) (gs .1 .1 .1 .0 .1) i))
+        x = four-plain MayReach (gw .0 .1) (gw .1 .1 .0 .1) (gs .0 .1) (gs .1 .1 .0 .1) (c .beyond2 .ensures .1 e);
+        y = four-plain MayReach (gw .1 .0 .1) (gw .1 .1 .1 .0 .1) (gs .1 .0 .1) (gs .1 .1 .1 .0 .1)
             (c .before .before .before .before .before .before .beyond .ensures .1 (c .before .before .before .before .before .if1 .left));
       },
     )

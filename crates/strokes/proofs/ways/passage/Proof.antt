@@ -86,7 +86,7 @@ down-into-ranged c =
     let t1 : g .hi <ℤ g .a = lt-taken w32 (f .hi) (f .a) (c .before .if3 .taken) in
     let t2 : g .lo ≤ℤ g .b = lt-left w32 (f .b) (f .lo) (c .if4 .left) in
     let area = p .1 .1 .1 .1 .0 in
-    let reach = p .1 .1 .1 .1 .1 .down t2 t1 in
+    let reach = p .1 .1 .1 .1 .1 .down t0 t2 t1 in
     record {
       a-on = p .1 .1 .1 .0;
       b-on = p .1 .1 .1 .0;
