@@ -6,7 +6,7 @@ use grid::Refusal;
 use grid::Stroke;
 use grid::Window;
 use strokes::plain;
-use strokes::plain::Place;
+use strokes::plain::Plainly;
 ghost use mathlib.Core.Path.{_≡_};
 ghost use mathlib.Core.Bool.{true, false};
 ghost use mathlib.Core.List.{List, [], _∷_};
@@ -23,15 +23,14 @@ fn put(out: &mut [i32], n: usize, k: i32, c: Cut)
     requires { ⌜ n + 5 ≤ length (now out) ⌝ }
     ensures { λ _. ⌜ now (out .exit) ≡ sets (now (out .entry)) n (k ∷ c .ax ∷ c .ay ∷ c .bx ∷ c .by ∷ []) ⌝ }
 {
-    let ax = c.ax;
-    let ay = c.ay;
-    let bx = c.bx;
-    let by = c.by;
+    let part = Stroke {
+        x1: c.ax,
+        y1: c.ay,
+        x2: c.bx,
+        y2: c.by,
+    };
     out[n] = k;
-    out[n + 1] = ax;
-    out[n + 2] = ay;
-    out[n + 3] = bx;
-    out[n + 4] = by;
+    grid::put_stroke(out, n + 1, part);
 }
 
 // The same for a stroke that is kept whole. Its index comes last: else the compiler makes one piece of code of both, which copies the numbers first.
@@ -39,14 +38,7 @@ fn put_whole(out: &mut [i32], n: usize, k: i32, s: Stroke)
     requires { ⌜ n + 5 ≤ length (now out) ⌝ }
     ensures { λ _. ⌜ now (out .exit) ≡ sets (now (out .entry)) n (k ∷ s .x1 ∷ s .y1 ∷ s .x2 ∷ s .y2 ∷ []) ⌝ }
 {
-    let x1 = s.x1;
-    let y1 = s.y1;
-    let x2 = s.x2;
-    let y2 = s.y2;
-    out[n + 1] = x1;
-    out[n + 2] = y1;
-    out[n + 3] = x2;
-    out[n + 4] = y2;
+    grid::put_stroke(out, n + 1, s);
     out[n] = k;
 }
 
@@ -76,13 +68,13 @@ fn write_row(w: Window, s: Stroke, k: usize, out: &mut [i32], n: usize, least: u
     requires { ⌜ least ≤ 1 ⌝ }
     ensures { λ r. ⌜ WroteRow (touchesAt least) w s k n r (now (out .entry)) (now (out .exit)) ⌝ }
 {
-    match plain::place_of(w, s) {
-        Place::Inside => {
+    match plain::lies(w, s) {
+        Plainly::Inside => {
             put_whole(out, n, k as i32, s);
             n + 5
         }
-        Place::Outside => n,
-        Place::Neither => {
+        Plainly::Outside => n,
+        Plainly::Neither => {
             let c = cuts::cut_stroke(w, s, least);
             if c.given {
                 put(out, n, k as i32, c);
@@ -93,7 +85,8 @@ fn write_row(w: Window, s: Stroke, k: usize, out: &mut [i32], n: usize, least: u
     }
 }
 
-// Writes the answer, for which there is room, and says how many numbers it has.
+// Writes the answer, for which there is room, and says how many numbers it has. As long as two functions call it, the compiler leaves it a function of
+// its own, and its loop has all registers; so both calls below are written out.
 fn write_rows(w: Window, s: &[i32], out: &mut [i32], touches: bool) -> usize
     requires { ⌜ WindowOnTable w ⌝ }
     requires { ⌜ StrokesOnTable (now s) ⌝ }

@@ -1,7 +1,7 @@
 -- What is given of a stroke that is kept whole, of one that is not given, and of one that is given by the two ends of what is kept.
 use mathlib.Core.Path.{_≡_, refl, sym, ap, _∙_, subst}
 use mathlib.Core.Bool.{Bool, true, false, not}
-use Prim.Native.Nat.{ℕ}
+use Prim.Native.Nat.{ℕ, _≤_}
 use lib.IntN.{ℤ}
 use Rattle.whole.specs.Choice.{if_then_else_}
 use Rattle.fraction.proofs.Computed.{lowestOf-is}
@@ -18,7 +18,7 @@ use Rattle.strokes.proofs.Answers.{nothing-kept, span-kept, whole-answer}
 use Rattle.strokes.proofs.Meetings.{ends-span, ends-meet}
 use Rattle.strokes.proofs.Sides.{start-side, end-side}
 use Rattle.strokes.proofs.Unique.{clipped-unique}
-use Rattle.cuts.specs.Cuts.{isGiven, leastOf, noCut, wholeCut, partCut, cutOf, CutIs, SaysGiven}
+use Rattle.cuts.specs.Cuts.{isGiven, touchesAt, noCut, wholeCut, partCut, cutOf, CutIs, SaysGiven}
 use Rattle.cuts.proofs.Given.{whole-given, missed-left-out}
 use Rattle.cuts.proofs.Touching.{left-out-by-ways, given-by-ways}
 
@@ -44,18 +44,17 @@ module _ {w : Window} {s : Stroke} (touches : Bool) where
   pub left-out-cut : SaysGiven touches w s false → CutIs touches w s noCut
   left-out-cut gives a c = chosen touches a (sym (gives a c))
 
-  -- ---- a part of it
-  module _ {x y : Way} (on : WindowOnTable w) (f : WayOf (w .left) (w .right) (s .x1) (s .x2) x)
-      (g : WayOf (w .bottom) (w .top) (s .y1) (s .y2) y) where
-    pub ways-give : {k : ℕ} (b : Bool) → k ≡ leastOf touches → (b ≡ true → Apart k x y) → (b ≡ false → Overlap k x y) → SaysGiven touches w s (not b)
-    ways-give true e apart o a c = sym (left-out-by-ways on f g touches (subst (λ (k : ℕ). Apart k x y) e (apart refl)) a c)
-    ways-give false e apart o a c = sym (given-by-ways on f g touches (subst (λ (k : ℕ). Overlap k x y) e (o refl)) a c)
+-- ---- a part of it, where the ways must overlap by k
+module _ {w : Window} {s : Stroke} {x y : Way} (on : WindowOnTable w) (f : WayOf (w .left) (w .right) (s .x1) (s .x2) x)
+    (g : WayOf (w .bottom) (w .top) (s .y1) (s .y2) y) (k : ℕ) (few : k ≤ 1) where
+  pub ways-give : (b : Bool) → (b ≡ true → Apart k x y) → (b ≡ false → Overlap k x y) → SaysGiven (touchesAt k) w s (not b)
+  ways-give true apart o a c = sym (left-out-by-ways on f g k few (apart refl) a c)
+  ways-give false apart o a c = sym (given-by-ways on f g k few (o refl) a c)
 
-    pub part-cut : {i j : End} → StartOf s x y i → FinishOf s x y j → Overlap (leastOf touches) x y
-        → CutIs touches w s (partCut i j)
-    part-cut {i} {j} p q o a c =
-        let same = clipped-unique
-        (span-kept (ends-span f g p q) (ends-meet f g p q o) i j (p .point) (q .point) (start-side f g (p .side)) (end-side f g (q .side))
-        (lowestOf-is _ (p .way .time .den)) (lowestOf-is _ (q .way .time .den))) c in
-        ap (λ (b : StrokeAnswer). record { given = true; ax = b .ax; ay = b .ay; bx = b .bx; by = b .by }) same
-        ∙ chosen touches a (given-by-ways on f g touches o a c)
+  pub part-cut : {i j : End} → StartOf s x y i → FinishOf s x y j → Overlap k x y → CutIs (touchesAt k) w s (partCut i j)
+  part-cut {i} {j} p q o a c =
+      let same = clipped-unique
+      (span-kept (ends-span f g p q) (ends-meet f g p q o) i j (p .point) (q .point) (start-side f g (p .side)) (end-side f g (q .side))
+      (lowestOf-is _ (p .way .time .den)) (lowestOf-is _ (q .way .time .den))) c in
+      ap (λ (b : StrokeAnswer). record { given = true; ax = b .ax; ay = b .ay; bx = b .bx; by = b .by }) same
+      ∙ chosen (touchesAt k) a (given-by-ways on f g k few o a c)

@@ -20,7 +20,7 @@ use Rattle.strokes.specs.Workers.{ProperWay, FromStartToEnd, MetAt, rising, fal
 use Rattle.strokes.specs.declared.StrokeAnswer.{StrokeAnswer}
 use Rattle.strokes.specs.declared.ways.Way.{Way}
 use Rattle.strokes.proofs.Meetings.{positive, on-way, kept-on, none-kept}
-use Rattle.cuts.specs.Cuts.{isGiven, leastOf, touchesAt}
+use Rattle.cuts.specs.Cuts.{isGiven, touchesAt}
 use Rattle.cuts.proofs.Given.{missed-left-out, kept-given, touch-left-out, length-given}
 
 -- ---- one way ends as the other starts: what is on the one is not after what is on the other
@@ -166,19 +166,6 @@ module _ {w : Window} {s : Stroke} {x y : Way} (on : WindowOnTable w) (f : WayOf
       longer {a} {b} {c} h k = gt ((pos a) ∷ (pos b) ∷ (pos c) ∷ []) (x0 ⊗ x2) (x1 ⊗ x2) (lt x0 x1 (omega zarith) ⊠ po x2 (positive k)) tt
 
 -- ---- whether the stroke is given
-pub least-small : (touches : Bool) → leastOf touches ≤ 1
-least-small true = omega arith
-least-small false = omega arith
-
-pub least-asked : (touches : Bool) → touchesAt (leastOf touches) ≡ touches
-least-asked true = refl
-least-asked false = refl
-
-pub asked-least : (k : ℕ) → k ≤ 1 → k ≡ leastOf (touchesAt k)
-asked-least zero h = refl
-asked-least (suc zero) h = refl
-asked-least (suc (suc k)) h = absurd (omega arith)
-
 module _ {w : Window} {s : Stroke} {x y : Way} (on : WindowOnTable w) (f : WayOf (w .left) (w .right) (s .x1) (s .x2) x)
     (g : WayOf (w .bottom) (w .top) (s .y1) (s .y2) y) where
   -- of what is kept, nothing is after anything else
@@ -195,21 +182,23 @@ module _ {w : Window} {s : Stroke} {x y : Way} (on : WindowOnTable w) (f : WayOf
       (λ h. ≤-antisym (no-later py px h dk dl (p .0) (q .1)) (no-later py px h dl dk (q .0) (p .1)))
       apart
 
-  pub left-out-by-ways : (touches : Bool) → Apart (leastOf touches) x y → (a : StrokeAnswer) → Clipped w s a → isGiven touches a ≡ false
-  left-out-by-ways true apart a c = missed-left-out a true (go (a .kept) refl)
+  pub left-out-by-ways : (k : ℕ) → k ≤ 1 → Apart k x y → (a : StrokeAnswer) → Clipped w s a → isGiven (touchesAt k) a ≡ false
+  left-out-by-ways zero h apart a c = missed-left-out a true (go (a .kept) refl)
     where
       go : (k : Bool) → a .kept ≡ k → a .kept ≡ false
       go true e = absurd (none-kept f g apart _ _ (c .part .first e .keeps))
       go false e = e
-  left-out-by-ways false apart a c = go (a .kept) refl
+  left-out-by-ways (suc zero) h apart a c = go (a .kept) refl
     where
       go : (k : Bool) → a .kept ≡ k → isGiven false a ≡ false
       go true e = touch-left-out a (one-kept apart (c .part .first e .keeps) (c .part .last e .keeps))
       go false e = missed-left-out a false e
+  left-out-by-ways (suc (suc k)) h apart a c = absurd (omega arith)
 
-  pub given-by-ways : (touches : Bool) → Overlap (leastOf touches) x y → (a : StrokeAnswer) → Clipped w s a → isGiven touches a ≡ true
-  given-by-ways true o a c = kept-given a (some-kept on f g o c)
-  given-by-ways false o a c =
+  pub given-by-ways : (k : ℕ) → k ≤ 1 → Overlap k x y → (a : StrokeAnswer) → Clipped w s a → isGiven (touchesAt k) a ≡ true
+  given-by-ways zero h o a c = kept-given a (some-kept on f g o c)
+  given-by-ways (suc (suc k)) h o a c = absurd (omega arith)
+  given-by-ways (suc zero) h o a c =
       let two = two-kept on f g o in
       let k = some-kept on f g o c in
       let first = c .part .first k in

@@ -1,7 +1,6 @@
 -- Which strokes are given, and what the workers promise of them. `touches` says whether strokes that only touch the window, t0 = t1, are asked for.
 --   isGiven touches a     whether a stroke with the answer a is given: it is kept, and touches are asked for or t0 is not t1
---   leastOf touches       how much the ways of a stroke's coordinates must have in common, so that it is given: nothing, or more than one point
---   touchesAt k           whether touches are asked for where they must have k in common
+--   touchesAt k           whether touches are asked for where the ways of a stroke's coordinates must overlap by k, `Overlap`, so that it is given
 --   noCut, wholeCut s, partCut a b   what is given of a stroke that is not given, of one that is kept whole, and of one that is kept from a to b
 --   cutOf touches a       what is given of a stroke with the answer a: its two points, if it is given
 --   CutIs touches w s c   c is what is given of the stroke s, by its answer
@@ -24,10 +23,6 @@ abbrev pub isGiven : Bool → StrokeAnswer → Bool
 isGiven touches a = a .kept && (touches || not (equalTo (a .t0) (a .t1)))
 
 -- ---- what the workers promise
-abbrev pub leastOf : Bool → ℕ
-leastOf true = 0
-leastOf false = 1
-
 abbrev pub touchesAt : ℕ → Bool
 touchesAt zero = true
 touchesAt (suc k) = false

@@ -5,12 +5,13 @@ use grid::Window;
 use strokes::End;
 use strokes::ends;
 use strokes::plain;
+use strokes::plain::Plainly;
 use strokes::ways;
 ghost use mathlib.Core.Path.{_≡_};
 ghost use Prim.Native.Nat.{_≤_};
 ghost use Rattle.grid.specs.Table.{WindowOnTable, StrokeOnTable};
 ghost use Rattle.strokes.specs.Workers.{Reaching};
-ghost use Rattle.cuts.specs.Cuts.{leastOf, touchesAt, noCut, partCut, CutIs, SaysGiven};
+ghost use Rattle.cuts.specs.Cuts.{touchesAt, noCut, partCut, CutIs, SaysGiven};
 
 // What is given of a stroke: its two points, rounded to the grid.
 pub struct Cut {
@@ -49,7 +50,7 @@ fn part(a: End, b: End) -> Cut
 
 // How much the ways of a stroke's two coordinates must have in common, measured as `ways::apart` does, if the stroke is to be given.
 pub fn least_of(touches: bool) -> u32
-    ensures { λ r. ⌜ r ≡ leastOf touches ⌝ }
+    ensures { λ r. ⌜ (r ≤ 1) × (touchesAt r ≡ touches) ⌝ }
 {
     if touches { 0 } else { 1 }
 }
@@ -79,13 +80,13 @@ pub fn gives(w: Window, s: Stroke, touches: bool) -> bool
     requires { ⌜ StrokeOnTable s ⌝ }
     ensures { λ r. ⌜ SaysGiven touches w s r ⌝ }
 {
-    if plain::inside(w, s) {
-        return true;
+    match plain::lies(w, s) {
+        Plainly::Inside => true,
+        Plainly::Outside => false,
+        Plainly::Neither => {
+            let y = ways::passage(w.bottom, w.top, s.y1, s.y2);
+            let x = ways::passage(w.left, w.right, s.x1, s.x2);
+            !ways::apart(y, x, least_of(touches))
+        }
     }
-    if plain::outside(w, s) {
-        return false;
-    }
-    let y = ways::passage(w.bottom, w.top, s.y1, s.y2);
-    let x = ways::passage(w.left, w.right, s.x1, s.x2);
-    !ways::apart(x, y, least_of(touches))
 }

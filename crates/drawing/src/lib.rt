@@ -2,8 +2,6 @@
 ghost use mathlib.Core.Path.{_≡_};
 ghost use Prim.Native.Nat.{_+_, _≤_};
 ghost use lib.ListN.{length};
-ghost use lib.Seq.{sets};
-ghost use Rattle.grid.specs.Table.{ends};
 ghost use Rattle.grid.specs.Refusals.{refuse};
 ghost use Rattle.grid.specs.Calls.{written};
 ghost use Rattle.drawing.specs.Intake.{ByIntake};
@@ -13,7 +11,6 @@ ghost use Rattle.drawing.specs.Drawings.{walk, meaning, numbers, refused
 
 mod pen;
 
-use grid::Stroke;
 use grid::Window;
 use pen::Turn;
 
@@ -85,21 +82,6 @@ fn survey(bytes: &[u8]) -> DrawingAnswer
     count_strokes(bytes, w.window)
 }
 
-// Puts the four numbers of a stroke from place n of the output on.
-fn put(out: &mut [i32], n: usize, s: Stroke)
-    requires { ⌜ n + 4 ≤ length (now out) ⌝ }
-    ensures { λ _. ⌜ now (out .exit) ≡ sets (now (out .entry)) n (ends s) ⌝ }
-{
-    let x1 = s.x1;
-    let y1 = s.y1;
-    let x2 = s.x2;
-    let y2 = s.y2;
-    out[n] = x1;
-    out[n + 1] = y1;
-    out[n + 2] = x2;
-    out[n + 3] = y2;
-}
-
 // The second pass over the records: the strokes are written.
 fn write_strokes(bytes: &[u8], out: &mut [i32])
     requires { ⌜ Drawable (now bytes) (length (now out)) ⌝ }
@@ -121,7 +103,7 @@ fn write_strokes(bytes: &[u8], out: &mut [i32])
                 at = next;
             }
             Turn::Draws(to, next) => {
-                put(out, 4 * pen.strokes, pen::drawn_stroke(pen, to));
+                grid::put_stroke(out, 4 * pen.strokes, pen::drawn_stroke(pen, to));
                 pen = to;
                 at = next;
             }

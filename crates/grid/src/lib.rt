@@ -5,9 +5,10 @@ ghost use mathlib.Core.List.{[], _∷_};
 ghost use Prim.Native.Nat.{_+_, _≤_};
 ghost use lib.Dec.{eqb};
 ghost use lib.ListN.{length};
+ghost use lib.Seq.{sets};
 ghost use Rattle.whole.specs.Choice.{if_then_else_};
 ghost use Rattle.whole.specs.Within.{Within};
-ghost use Rattle.grid.specs.Table.{farthest, onTable, firstOff, strokeAt, WindowOnTable};
+ghost use Rattle.grid.specs.Table.{farthest, onTable, firstOff, ends, strokeAt, WindowOnTable};
 ghost use Rattle.grid.specs.Refusals.{windowRefusal, strokeRefusal, strokesRefusal, roomRefusal};
 ghost use Rattle.grid.specs.Calls.{refusedBy};
 
@@ -271,6 +272,21 @@ pub fn stroke_at(s: &[i32], p: usize) -> Stroke
         x2: s[p + 2],
         y2: s[p + 3],
     }
+}
+
+// Puts the four numbers of a stroke from place n of a list on.
+pub fn put_stroke(out: &mut [i32], n: usize, s: Stroke)
+    requires { ⌜ n + 4 ≤ length (now out) ⌝ }
+    ensures { λ _. ⌜ now (out .exit) ≡ sets (now (out .entry)) n (ends s) ⌝ }
+{
+    let x1 = s.x1;
+    let y1 = s.y1;
+    let x2 = s.x2;
+    let y2 = s.y2;
+    out[n] = x1;
+    out[n + 1] = y1;
+    out[n + 2] = x2;
+    out[n + 3] = y2;
 }
 
 // The refusal of an output that is shorter than needed.

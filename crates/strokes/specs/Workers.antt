@@ -1,8 +1,8 @@
 -- What the workers behind a stroke call promise each other.
 --   EndsBetween lo hi a b   both ends of the way from a to b are between lo and hi, and so is all of it
---   MayReach lo hi a b   the two ends are not both below lo, nor both from lo on and above hi: the way from a to b may come between them
+--   MayReach lo hi a b   the two ends are not both below lo, nor, where neither is below lo, both above hi: the way from a to b may come between them
 --   EndsInside w s, Reaching w s   EndsBetween, and MayReach, for both coordinates of a stroke and the window's sides
---   PlacedAlong lo hi a b p, Placed w s p   what it means for a way, or for a stroke, that it is at the place p: Inside, Outside or Neither
+--   LiesAlong lo hi a b p, Lies w s p   a way, or a stroke, lies as p says: plainly Inside, plainly Outside, or Neither
 --   Ranged a b c d       four numbers of the table in rising order, the last above the first
 --   Risen, Fallen a p q b r   r is the way up, or down, from a to b; from the coordinate p to the coordinate q it is between two sides
 --   ProperWay r          a way has a length of 1 to 32,766, and its start and its end are on it in this order
@@ -43,8 +43,8 @@ use Rattle.spans.specs.Sides.{noSide}
 use Rattle.strokes.specs.Strokes.{KeepsCoordinate, Keeps, PointAt}
 use Rattle.strokes.specs.declared.End.{End}
 use Rattle.strokes.specs.declared.StrokeAnswer.{StrokeAnswer}
-use Rattle.strokes.specs.declared.plain.Place.{Place}
-use Rattle.strokes.specs.declared.plain.Place.the-variants.{Inside, Outside, Neither}
+use Rattle.strokes.specs.declared.plain.Plainly.{Plainly}
+use Rattle.strokes.specs.declared.plain.Plainly.the-variants.{Inside, Outside, Neither}
 use Rattle.strokes.specs.declared.ways.Way.{Way}
 
 -- ---- where a stroke plainly lies
@@ -66,15 +66,15 @@ pub record Reaching (w : Window) (s : Stroke) : Type 0 where
   pub x : MayReach (w .left) (w .right) (s .x1) (s .x2)
   pub y : MayReach (w .bottom) (w .top) (s .y1) (s .y2)
 
-abbrev pub PlacedAlong : ℤ → ℤ → ℤ → ℤ → Place → Type 0
-PlacedAlong lo hi a b Inside = EndsBetween lo hi a b
-PlacedAlong lo hi a b Outside = (n d : ℤ) → Time n d → KeepsCoordinate lo hi a b n d → ⊥
-PlacedAlong lo hi a b Neither = MayReach lo hi a b
+abbrev pub LiesAlong : ℤ → ℤ → ℤ → ℤ → Plainly → Type 0
+LiesAlong lo hi a b Inside = EndsBetween lo hi a b
+LiesAlong lo hi a b Outside = (n d : ℤ) → Time n d → KeepsCoordinate lo hi a b n d → ⊥
+LiesAlong lo hi a b Neither = MayReach lo hi a b
 
-abbrev pub Placed : Window → Stroke → Place → Type 0
-Placed w s Inside = EndsInside w s
-Placed w s Outside = (n d : ℤ) → Keeps w s n d → ⊥
-Placed w s Neither = Reaching w s
+abbrev pub Lies : Window → Stroke → Plainly → Type 0
+Lies w s Inside = EndsInside w s
+Lies w s Outside = (n d : ℤ) → Keeps w s n d → ⊥
+Lies w s Neither = Reaching w s
 
 -- ---- the way of one coordinate
 pub record Ranged (a b c d : ℤ) : Type 0 where

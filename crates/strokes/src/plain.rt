@@ -6,7 +6,7 @@ ghost use mathlib.Core.Bool.{true, false};
 ghost use lib.IntN.{ℤ};
 ghost use Rattle.spans.specs.Parts.{Time};
 ghost use Rattle.strokes.specs.Strokes.{KeepsCoordinate, Keeps};
-ghost use Rattle.strokes.specs.Workers.{EndsBetween, MayReach, EndsInside, Reaching, PlacedAlong, Placed};
+ghost use Rattle.strokes.specs.Workers.{EndsBetween, MayReach, EndsInside, Reaching, LiesAlong, Lies};
 
 // Whether both ends of the way from a to b are between lo and hi, and so all of it.
 fn between(lo: i32, hi: i32, a: i32, b: i32) -> bool
@@ -35,36 +35,36 @@ fn beyond(lo: i32, hi: i32, a: i32, b: i32) -> bool
     hi < whole::lesser(a, b)
 }
 
-// Where one coordinate's way, or a stroke, plainly is, by its two ends alone.
-pub enum Place {
+// How a way of one coordinate, or a stroke, lies by its two ends alone: plainly inside, plainly outside, or neither.
+pub enum Plainly {
     Inside,
     Outside,
     Neither,
 }
 
-// Where the way from a to b is: all between lo and hi, all below lo or all above hi, or neither.
-fn place_along(lo: i32, hi: i32, a: i32, b: i32) -> Place
-    ensures { λ r. ⌜ PlacedAlong lo hi a b r ⌝ }
+// How the way from a to b lies: inside between lo and hi, outside below lo or above hi.
+fn lies_along(lo: i32, hi: i32, a: i32, b: i32) -> Plainly
+    ensures { λ r. ⌜ LiesAlong lo hi a b r ⌝ }
 {
     if a < lo {
         if b < lo {
-            return Place::Outside;
+            return Plainly::Outside;
         }
-        return Place::Neither;
+        return Plainly::Neither;
     }
     if b < lo {
-        return Place::Neither;
+        return Plainly::Neither;
     }
     if hi < a {
         if hi < b {
-            return Place::Outside;
+            return Plainly::Outside;
         }
-        return Place::Neither;
+        return Plainly::Neither;
     }
     if hi < b {
-        return Place::Neither;
+        return Plainly::Neither;
     }
-    Place::Inside
+    Plainly::Inside
 }
 
 // Whether the stroke is plainly in the window.
@@ -89,17 +89,17 @@ pub fn outside(w: Window, s: Stroke) -> bool
 }
 
 // Both questions at once, for a loop over many strokes: no number is compared twice with a side.
-pub fn place_of(w: Window, s: Stroke) -> Place
-    ensures { λ r. ⌜ Placed w s r ⌝ }
+pub fn lies(w: Window, s: Stroke) -> Plainly
+    ensures { λ r. ⌜ Lies w s r ⌝ }
 {
-    match place_along(w.left, w.right, s.x1, s.x2) {
-        Place::Inside => place_along(w.bottom, w.top, s.y1, s.y2),
-        Place::Outside => Place::Outside,
-        Place::Neither => {
+    match lies_along(w.left, w.right, s.x1, s.x2) {
+        Plainly::Inside => lies_along(w.bottom, w.top, s.y1, s.y2),
+        Plainly::Outside => Plainly::Outside,
+        Plainly::Neither => {
             if beyond(w.bottom, w.top, s.y1, s.y2) {
-                return Place::Outside;
+                return Plainly::Outside;
             }
-            Place::Neither
+            Plainly::Neither
         }
     }
 }

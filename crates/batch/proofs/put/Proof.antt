@@ -1,8 +1,12 @@
--- `batch::put` meets its contract: five stores, one after the other. Assumes nothing.
-use native.Mathlib.Numerals.{towards-suc}
+-- `batch::put` meets its contract: the index, and behind it the four numbers. Assumes nothing.
+use mathlib.Core.Path.{_≡_, _∙_}
+use mathlib.Core.List.{[], _∷_}
+use Prim.Native.Nat.{suc, _+_}
 use native.Mathlib.Omega.{arith}
 use borrow.Author.Needs.{needs}
-use lib.ListN.{length-set}
+use denote.Ref.{now}
+use lib.ListN.{set, length-set}
+use lib.Seq.{sets}
 use mir.Syntax.{w32}
 use mir.Facts.{toZ-ofZ}
 use Rattle.whole.proofs.Comparisons.{back}
@@ -15,75 +19,24 @@ mul-k c = search needs
 slice-set-from-k : tie.Need-slice-set-from-k
 slice-set-from-k c = search needs
 
-add-ax : tie.Need-add-ax
-add-ax c = search needs
+add-put-stroke : tie.Need-add-put-stroke
+add-put-stroke c = search needs
 
-mul-ax : tie.Need-mul-ax
-mul-ax c = search needs
-
-slice-set-from-ax : tie.Need-slice-set-from-ax
-slice-set-from-ax c = simp length-set (omega arith)
-
-add-ay : tie.Need-add-ay
-add-ay c = search needs
-
-mul-ay : tie.Need-mul-ay
-mul-ay c = search needs
-
-slice-set-from-ay : tie.Need-slice-set-from-ay
-slice-set-from-ay c = simp length-set (omega arith)
-
-add-bx : tie.Need-add-bx
-add-bx c = search needs
-
-mul-bx : tie.Need-mul-bx
-mul-bx c = search needs
-
-slice-set-from-bx : tie.Need-slice-set-from-bx
-slice-set-from-bx c = simp length-set (omega arith)
-
-add-by : tie.Need-add-by
-add-by c = search needs
-
-mul-by : tie.Need-mul-by
-mul-by c = search needs
-
-slice-set-from-by : tie.Need-slice-set-from-by
-slice-set-from-by c = simp length-set (omega arith)
+put-stroke-requires : tie.Need-put-stroke-requires
+put-stroke-requires c κs = simp length-set (omega arith)
 
 same-length : tie.Need-same-length
-same-length c = search needs
+same-length c = c .out .given ∙ length-set (now (c .before .before .before .before .args .out)) _ _
 
 returns : tie.Need-returns
 returns c =
     let a = c .before .before .before .before in
     let g = c .before .before .before .struct-told .given .1 in
-    simp (
-      toZ-ofZ (a .fits .k),
-      back w32 (a .args .c .ax) (g .0 .1),
-      back w32 (a .args .c .ay) (g .1 .0 .1),
-      back w32 (a .args .c .bx) (g .1 .1 .0 .1),
-      back w32 (a .args .c .by) (g .1 .1 .1 .0 .1),
-    )
-    (simp towards-suc)
+    let next : a .args .n + 1 ≡ suc (a .args .n) = omega arith in
+    c .before .put-stroke .ensures
+    ∙ (λ i. sets (set (now (a .args .out)) (a .args .n) (toZ-ofZ (a .fits .k) i)) (next i)
+    (back w32 (a .args .c .ax) (g .0 .1) i ∷ back w32 (a .args .c .ay) (g .1 .0 .1) i ∷ back w32 (a .args .c .bx) (g .1 .1 .0 .1) i
+    ∷ back w32 (a .args .c .by) (g .1 .1 .1 .0 .1) i ∷ []))
 
 pub put-spec : {M : Type 1} → statement M
-put-spec =
-    tie.close
-    (tie.spec
-    mul-k
-    slice-set-from-k
-    add-ax
-    mul-ax
-    slice-set-from-ax
-    add-ay
-    mul-ay
-    slice-set-from-ay
-    add-bx
-    mul-bx
-    slice-set-from-bx
-    add-by
-    mul-by
-    slice-set-from-by
-    same-length
-    returns)
+put-spec = tie.close (tie.spec mul-k slice-set-from-k add-put-stroke put-stroke-requires same-length returns)

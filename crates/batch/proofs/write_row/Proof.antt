@@ -1,4 +1,4 @@
--- `batch::write_row` meets its contract: in each of the three places it is known what is given of the stroke. Assumes nothing.
+-- `batch::write_row` meets its contract: however the stroke lies it is known what is given of the stroke. Assumes nothing.
 use mathlib.Core.Path.{_≡_, refl, ap, _∙_, subst}
 use mathlib.Core.Bool.{Bool, true, false}
 use mathlib.Core.List.{List, [], _∷_}
@@ -12,9 +12,9 @@ use lib.Seq.{sets}
 use mir.Syntax.{w32}
 use mir.Val.{toZ}
 use mir.Facts.{toZ-pos}
-use Rattle.strokes.specs.declared.plain.Place.{Place}
-use Rattle.strokes.specs.declared.plain.Place.the-variants.{Inside}
-use Rattle.strokes.specs.Workers.{Placed}
+use Rattle.strokes.specs.declared.plain.Plainly.{Plainly}
+use Rattle.strokes.specs.declared.plain.Plainly.the-variants.{Inside}
+use Rattle.strokes.specs.Workers.{Lies}
 use Rattle.strokes.proofs.Answers.{inside-always}
 use Rattle.cuts.specs.Cuts.{touchesAt, wholeCut, CutIs}
 use Rattle.cuts.specs.declared.Cut.{Cut}
@@ -24,12 +24,12 @@ use Rattle.batch.proofs.Writing.{row-room, row-put, row-left-out}
 use Rattle.batch.proofs.write_row.Statement.{statement}
 use Rattle.batch.proofs.write_row.Tie as tie
 
-module _ (c : tie.After-place-of) where
+module _ (c : tie.After-lies) where
   abbrev touches : Bool
   touches = touchesAt (c .before .args .least)
 
-  at : {p : Place} → c .place-of .result ≡ p → Placed (c .before .args .w) (c .before .args .s) p
-  at e = subst (Placed _ _) e (c .place-of .ensures)
+  at : {p : Plainly} → c .lies .result ≡ p → Lies (c .before .args .w) (c .before .args .s) p
+  at e = subst (Lies _ _) e (c .lies .ensures)
 
   -- what is given of the stroke, and the room for it
   module _ {cut : Cut} (is : CutIs touches (c .before .args .w) (c .before .args .s) cut) where
@@ -53,11 +53,11 @@ module _ (c : tie.After-place-of) where
     passed g = let a = c .before .args in row-left-out touches is (a .k) (a .n) (now (a .out)) g refl refl
 
   -- in the window all of it is given
-  all : c .place-of .result ≡ Inside → CutIs touches (c .before .args .w) (c .before .args .s) (wholeCut (c .before .args .s))
+  all : c .lies .result ≡ Inside → CutIs touches (c .before .args .w) (c .before .args .s) (wholeCut (c .before .args .s))
   all e = whole-cut touches (inside-always (at e))
 
-place-of-requires : tie.Need-place-of-requires
-place-of-requires c κs = search needs
+lies-requires : tie.Need-lies-requires
+lies-requires c κs = search needs
 
 enum-told : tie.Need-enum-told
 enum-told c = search needs
@@ -124,7 +124,7 @@ pub write-row-spec : {M : Type 1} → statement M
 write-row-spec =
     tie.close
     (tie.spec
-    place-of-requires
+    lies-requires
     enum-told
     cast-put-whole
     put-whole-requires

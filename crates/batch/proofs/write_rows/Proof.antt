@@ -1,5 +1,5 @@
 -- `batch::write_rows` meets its contract: a turn of the loop writes the row of the next stroke, if it has one, `Writing`. Assumes nothing.
-use mathlib.Core.Path.{_≡_, sym, ap, _∙_, subst}
+use mathlib.Core.Path.{_≡_, sym, subst}
 use mathlib.Core.Bool.{Bool}
 use Prim.Native.Nat.{_≤_, _-_, _+_, _*_, _/_}
 use native.Mathlib.Omega.{arith}
@@ -7,7 +7,6 @@ use borrow.Author.Needs.{needs}
 use denote.Ref.{now}
 use lib.ListN.{length}
 use Rattle.cuts.specs.Cuts.{touchesAt}
-use Rattle.cuts.proofs.Touching.{least-small, least-asked}
 use Rattle.batch.specs.Batches.{RoomForRow, WroteRow}
 use Rattle.batch.proofs.Writing.{Writing, stroke-left, writing-start, writing-end, next-room, next-row}
 use Rattle.batch.proofs.write_rows.Statement.{statement}
@@ -25,7 +24,7 @@ whole c = omega (arith, c .before .loop .inv .0, c .loop-test .taken)
 
 -- the row is asked for as all are
 asked : (c : tie.In-loop Inv-loop μ-loop) → touchesAt (c .before .before .least-of .result) ≡ c .before .before .before .args .touches
-asked c = ap touchesAt (c .before .before .least-of .ensures) ∙ least-asked (c .before .before .before .args .touches)
+asked c = c .before .before .least-of .ensures .1
 
 least-of-requires : tie.Need-least-of-requires Inv-loop μ-loop
 least-of-requires c κs = search needs
@@ -53,7 +52,7 @@ write-row-requires c κs =
           (
             subst (λ (b : Bool). RoomForRow b (a .args .w) (s .result) (l .k) (l .n) (l .out)) (sym (asked i))
                 (next-room (a .pre .0) (a .pre .1 .0) (l .inv .1) (whole i) (s .ensures)),
-            omega (arith, i .before .before .least-of .ensures, least-small (a .args .touches)),
+            i .before .before .least-of .ensures .0,
           ),
         ),
       ),

@@ -2,13 +2,12 @@
 -- Assumes nothing.
 use mathlib.Core.Path.{sym, subst}
 use mathlib.Core.Logic.{inl, inr, ⊎-elim}
-use Prim.Native.Nat.{ℕ}
 use borrow.Author.Needs.{needs}
-use Rattle.strokes.specs.Workers.{WayOf, Apart, Overlap}
+use Rattle.strokes.specs.Workers.{WayOf}
 use Rattle.strokes.proofs.Reading.{passage-asks, way-plain}
 use Rattle.cuts.specs.Cuts.{touchesAt, CutIs}
 use Rattle.cuts.proofs.Cutting.{left-out-cut, part-cut}
-use Rattle.cuts.proofs.Touching.{asked-least, turned, left-out-by-ways}
+use Rattle.cuts.proofs.Touching.{turned, left-out-by-ways}
 use Rattle.cuts.proofs.cut_stroke.Statement.{statement}
 use Rattle.cuts.proofs.cut_stroke.Tie as tie
 
@@ -43,12 +42,9 @@ returns c =
     let k = c .before .before .before in
     let a = begun k in
     let touches = touchesAt (a .args .least) in
-    let x = k .passage2 .result in
-    let y = k .before .before .before .before .before .passage .result in
-    let apart : Apart (a .args .least) x y = ⊎-elim inr inl (c .before .before .apart .ensures .0 (c .before .if1 .taken)) in
-    let asked = subst (λ (l : ℕ). Apart l x y) (asked-least (a .args .least) (a .pre .1 .1 .1)) apart in
+    let apart = ⊎-elim inr inl (c .before .before .apart .ensures .0 (c .before .if1 .taken)) in
     subst (CutIs touches (a .args .w) (a .args .s)) (sym (c .nothing .ensures))
-    (left-out-cut touches (λ b q. sym (left-out-by-ways (a .pre .0) (way-x k) (way-y k) touches asked b q)))
+    (left-out-cut touches (λ b q. sym (left-out-by-ways (a .pre .0) (way-x k) (way-y k) (a .args .least) (a .pre .1 .1 .1) apart b q)))
 
 finish-requires : tie.Need-finish-requires
 finish-requires c κs = let k = c .before .before in (begun k .pre .1 .0, (way-x k .way, way-y k .way))
@@ -65,10 +61,8 @@ returns-2 c =
     let a = begun k in
     let touches = touchesAt (a .args .least) in
     let overlap = turned (c .before .before .before .before .apart .ensures .1 (c .before .before .before .if1 .left)) in
-    let asked = subst (λ (l : ℕ). Overlap l (k .passage2 .result) (k .before .before .before .before .before .passage .result))
-    (asked-least (a .args .least) (a .pre .1 .1 .1)) overlap in
     subst (CutIs touches (a .args .w) (a .args .s)) (sym (c .part .ensures))
-    (part-cut touches (a .pre .0) (way-x k) (way-y k) (c .before .start .ensures) (c .before .before .finish .ensures) asked)
+    (part-cut (a .pre .0) (way-x k) (way-y k) (a .args .least) (a .pre .1 .1 .1) (c .before .start .ensures) (c .before .before .finish .ensures) overlap)
 
 pub cut-stroke-spec : {M : Type 1} → statement M
 cut-stroke-spec =

@@ -77,14 +77,14 @@ loop-again c = let l = c .before .before .before .before in goes _ _ _ _ _ (l .l
 enum-known-to-2 : tie.Need-enum-known-to-2 Inv-loop μ-loop
 enum-known-to-2 c = search needs
 
-mul-put : tie.Need-mul-put Inv-loop μ-loop
-mul-put c = let d = c .before .before .before in omega (arith, room d, d .before .before .before .loop .inv .filled .same)
+mul-put-stroke : tie.Need-mul-put-stroke Inv-loop μ-loop
+mul-put-stroke c = let d = c .before .before .before in omega (arith, room d, d .before .before .before .loop .inv .filled .same)
 
 drawn-stroke-requires : tie.Need-drawn-stroke-requires Inv-loop μ-loop
 drawn-stroke-requires c κs = search needs
 
-put-requires : tie.Need-put-requires Inv-loop μ-loop
-put-requires c κs = room (c .before .before .before .before)
+put-stroke-requires : tie.Need-put-stroke-requires Inv-loop μ-loop
+put-stroke-requires c κs = room (c .before .before .before .before)
 
 loop-less-2 : tie.Need-loop-less-2 Inv-loop μ-loop
 loop-less-2 c =
@@ -96,7 +96,7 @@ loop-again-2 : tie.Need-loop-again-2 Inv-loop μ-loop
 loop-again-2 c =
     let d = c .before .before .before .before .before .before in
     let l = d .before .before .before in
-    rw (c .before .put .ensures, c .before .before .drawn-stroke .ensures) (draws _ _ _ _ _ (l .loop .inv) (drawn d) .1)
+    rw (c .before .put-stroke .ensures, c .before .before .drawn-stroke .ensures) (draws _ _ _ _ _ (l .loop .inv) (drawn d) .1)
 
 pub write-strokes-spec : {M : Type 1} → statement M
 write-strokes-spec =
@@ -117,8 +117,8 @@ write-strokes-spec =
     loop-less
     loop-again
     enum-known-to-2
-    mul-put
+    mul-put-stroke
     drawn-stroke-requires
-    put-requires
+    put-stroke-requires
     loop-less-2
     loop-again-2)

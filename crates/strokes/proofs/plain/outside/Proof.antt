@@ -2,15 +2,15 @@
 use borrow.Author.Needs.{needs}
 use lib.IntN.{ℤ}
 use Rattle.whole.proofs.Comparisons.{tt-ff}
-use Rattle.strokes.specs.declared.plain.Place.the-variants.{Outside}
-use Rattle.strokes.specs.Workers.{MayReach, PlacedAlong}
+use Rattle.strokes.specs.declared.plain.Plainly.the-variants.{Outside}
+use Rattle.strokes.specs.Workers.{MayReach, LiesAlong}
 use Rattle.strokes.proofs.Reading.{four-plain}
 use Rattle.strokes.proofs.plain.outside.Statement.{statement}
 use Rattle.strokes.proofs.plain.outside.Tie as tie
 
 -- what `beyond` says of a way when it answers true
 abbrev Beyond : ℤ → ℤ → ℤ → ℤ → Type 0
-Beyond lo hi a b = PlacedAlong lo hi a b Outside
+Beyond lo hi a b = LiesAlong lo hi a b Outside
 
 beyond-requires : tie.Need-beyond-requires
 beyond-requires c κs = search needs

@@ -1,11 +1,11 @@
--- `strokes::plain::place_along` meets its contract: the tests say of each end where it lies, and so of the way. Assumes nothing.
+-- `strokes::plain::lies_along` meets its contract: the tests say of each end where it lies, and so of the way. Assumes nothing.
 use lib.Signed.{_≤ℤ_, _<ℤ_}
 use mir.Syntax.{w32}
 use Rattle.whole.proofs.Comparisons.{lt-taken, lt-left}
 use Rattle.whole.proofs.Order.{zarith}
 use Rattle.strokes.proofs.Coordinates.{not-below, not-above}
-use Rattle.strokes.proofs.plain.place_along.Statement.{statement}
-use Rattle.strokes.proofs.plain.place_along.Tie as tie
+use Rattle.strokes.proofs.plain.lies_along.Statement.{statement}
+use Rattle.strokes.proofs.plain.lies_along.Tie as tie
 
 -- a below lo
 returns : tie.Need-returns
@@ -54,5 +54,5 @@ returns-7 c =
       b-high = lt-left w32 (f .hi) (f .b) (c .if6 .left);
     }
 
-pub place-along-spec : {M : Type 1} → statement M
-place-along-spec = tie.close (tie.spec returns returns-2 returns-3 returns-4 returns-5 returns-6 returns-7)
+pub lies-along-spec : {M : Type 1} → statement M
+lies-along-spec = tie.close (tie.spec returns returns-2 returns-3 returns-4 returns-5 returns-6 returns-7)

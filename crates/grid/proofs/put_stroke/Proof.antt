@@ -1,12 +1,12 @@
--- `drawing::put` meets its contract: four stores, one after the other. Assumes nothing.
+-- `grid::put_stroke` meets its contract: four stores, one after the other. Assumes nothing.
 use borrow.Author.Needs.{needs}
 use native.Mathlib.Numerals.{towards-suc}
 use native.Mathlib.Omega.{arith}
 use lib.ListN.{length-set}
 use mir.Syntax.{w32}
 use Rattle.whole.proofs.Comparisons.{back}
-use Rattle.drawing.proofs.put.Statement.{statement}
-use Rattle.drawing.proofs.put.Tie as tie
+use Rattle.grid.proofs.put_stroke.Statement.{statement}
+use Rattle.grid.proofs.put_stroke.Tie as tie
 
 mul-x1 : tie.Need-mul-x1
 mul-x1 c = search needs
@@ -50,8 +50,8 @@ returns c =
     let g = c .struct-told4 .given in
     simp (back w32 (s .x1) (g .0 .1), back w32 (s .y1) (g .1 .0 .1), back w32 (s .x2) (g .1 .1 .0 .1), back w32 (s .y2) (g .1 .1 .1 .0 .1)) (simp towards-suc)
 
-pub put-spec : {M : Type 1} → statement M
-put-spec =
+pub put-stroke-spec : {M : Type 1} → statement M
+put-stroke-spec =
     tie.close
     (tie.spec
     mul-x1
