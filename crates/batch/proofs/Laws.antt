@@ -168,14 +168,14 @@ module _ (touches : Bool) {w : Window} {zs : List ℤ} (on : WindowOnTable w) (t
   whole-walk = walk (length zs / 4) 0 (omega (arith, t .by-four))
 
 -- ---- what a done call gave
-record Done (touches : Bool) (w : Window) (zs : List ℤ) (a : Answer) (after : List ℤ) : Type 0 where
-  on : WindowOnTable w
-  strokes : StrokesOnTable zs
-  nothing : batchRefusal w zs .number ≡ 0
-  are : numbersGiven a after ≡ rowsFrom touches w zs 0
-  count : a .count ≡ length (rowsFrom touches w zs 0)
+pub record Done (touches : Bool) (w : Window) (zs : List ℤ) (a : Answer) (after : List ℤ) : Type 0 where
+  pub on : WindowOnTable w
+  pub strokes : StrokesOnTable zs
+  pub nothing : batchRefusal w zs .number ≡ 0
+  pub are : numbersGiven a after ≡ rowsFrom touches w zs 0
+  pub count : a .count ≡ length (rowsFrom touches w zs 0)
 
-done : {touches : Bool} {w : Window} {zs : List ℤ} {a : Answer} {before after : List ℤ} → RowsCall touches w zs a before after → a .number ≡ 0
+pub done : {touches : Bool} {w : Window} {zs : List ℤ} {a : Answer} {before after : List ℤ} → RowsCall touches w zs a before after → a .number ≡ 0
     → Done touches w zs a after
 done {touches} {w} {zs} {a} {before} {after} p e =
     done-or-refused (batchRefusal w zs)
@@ -210,7 +210,7 @@ module _ {w : Window} {zs : List ℤ} (on : WindowOnTable w) (t : StrokesOnTable
       (ap (λ (r : Refusal). r .number) (sym (stroke-fine (strokeAt zs (4 * k)) (stroke-of-list (4 * k) t (omega (arith, t .by-four)))))) listed
 
 -- ---- which strokes have a row
-row-exactly : {touches : Bool} {w : Window} {zs : List ℤ} {a : Answer} {after : List ℤ} → Done touches w zs a after
+pub row-exactly : {touches : Bool} {w : Window} {zs : List ℤ} {a : Answer} {after : List ℤ} → Done touches w zs a after
     → (k : ℕ) → 4 * k < length zs → {s : StrokeAnswer} → Clipping w (strokeAt zs (4 * k)) s
     → RowExactly (isGiven touches s ≡ true) (numbersGiven a after) k s
 row-exactly {touches} {w} {zs} {a} {after} d k h {s} p =

@@ -7,5 +7,6 @@ pub mod Meetings
 pub mod Sides
 pub mod Unique
 pub mod Laws
+pub mod Between
 pub mod Refusing
 pub mod Computed

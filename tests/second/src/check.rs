@@ -46,7 +46,8 @@ fn field(one: Option<&&[u8]>, other: Option<&&[u8]>) -> String {
     )
 }
 
-fn shown(line: Option<&&[u8]>) -> String {
+/// A line, or its front where it is long.
+pub fn shown(line: Option<&&[u8]>) -> String {
     const MOST: usize = 400;
     match line {
         None => "(no such line)".to_string(),

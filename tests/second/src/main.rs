@@ -6,7 +6,11 @@
 //! second floats STEP          mm2 lines over all f32 patterns, STEP apart
 //! second grid                 every grid number to millimetres, and those millimetres back
 //! second books SEED COUNT     runs of a strip book, and the longest book
+//! second joined SEED COUNT    groups of lines on neighbouring strips and the window that they make together
 //! second check A B [INPUT]    the first line in which two files of answers differ
+//! second together INPUT ANSWERS
+//!                             how many groups there are of the lines that `joined` made, and of what kinds, if their answers are
+//!                             as is promised of neighbouring strips; else, and with status 1, the first that are not
 //!
 //! Of the program `book`, which keeps a strip book in a file:
 //!
@@ -46,7 +50,9 @@ mod sweeps;
 mod table;
 #[cfg(test)]
 mod tests;
+mod together;
 
+use std::fmt::Display;
 use std::io::{self, BufWriter, Read, Write};
 use std::process::ExitCode;
 
@@ -72,8 +78,12 @@ fn command(words: &[&str]) -> Result<ExitCode, String> {
         },
         ["grid"] => print(sweeps::grid()),
         ["books", seed, count] => print(sweeps::books(number(seed)?, number(count)?)),
+        ["joined", seed, count] => {
+            print(cases::joined::lines(number(seed)?, number(count)?).iter())
+        }
         ["check", a, b] => check(a, b, None),
         ["check", a, b, input] => check(a, b, Some(input)),
+        ["together", input, answers] => told(together::held(&read(input)?, &read(answers)?)),
         ["commands"] => print(cases::command_forms::lines().iter()),
         ["commands", seed, count] => {
             let list = cases::commands::list(number(seed)?, number(count)?);
@@ -82,8 +92,9 @@ fn command(words: &[&str]) -> Result<ExitCode, String> {
         ["keep", file] => keep(file),
         ["damaged", seed, count, folder] => damaged(number(seed)?, number(count)?, folder),
         _ => Err(
-            "cases SEED COUNT, answers, floats STEP, grid, books SEED COUNT, check A B [INPUT], \
-             commands [SEED COUNT], keep FILE, damaged SEED COUNT FOLDER"
+            "cases SEED COUNT, answers, floats STEP, grid, books SEED COUNT, joined SEED COUNT, \
+             check A B [INPUT], together INPUT ANSWERS, commands [SEED COUNT], keep FILE, \
+             damaged SEED COUNT FOLDER"
                 .to_string(),
         ),
     }
@@ -161,16 +172,25 @@ fn check(a: &str, b: &str, input: Option<&str>) -> Result<ExitCode, String> {
     let names: Vec<&str> = [a, b].into_iter().chain(input).collect();
     let mut files = Vec::new();
     for name in &names {
-        files.push(std::fs::read(name).map_err(|fault| format!("{name}: {fault}"))?);
+        files.push(read(name)?);
     }
     let named: Vec<check::Named> = names
         .iter()
         .zip(&files)
         .map(|(name, bytes)| check::Named { name, bytes })
         .collect();
-    let (code, word) = match check::compare(&named[0], &named[1], named.get(2)) {
-        Ok(count) => (ExitCode::SUCCESS, count.to_string()),
-        Err(difference) => (ExitCode::FAILURE, difference),
+    told(check::compare(&named[0], &named[1], named.get(2)))
+}
+
+fn read(name: &str) -> Result<Vec<u8>, String> {
+    std::fs::read(name).map_err(|fault| format!("{name}: {fault}"))
+}
+
+/// What was found, or what is wrong and status 1.
+fn told(found: Result<impl Display, String>) -> Result<ExitCode, String> {
+    let (code, word) = match found {
+        Ok(found) => (ExitCode::SUCCESS, found.to_string()),
+        Err(wrong) => (ExitCode::FAILURE, wrong),
     };
     println!("{word}");
     Ok(code)

@@ -102,7 +102,7 @@ pub fn refused(
 }
 
 /// What was written from the front of the room; the rest is as it was.
-fn filled(head: &[i32], written: &[i32], room: usize) -> String {
+pub fn filled(head: &[i32], written: &[i32], room: usize) -> String {
     let rest: Vec<i32> = (7_000_000..).take(room).skip(written.len()).collect();
     text(&[head, written, &rest].concat())
 }

@@ -13,6 +13,7 @@ mod book_morning;
 mod book_refusals;
 pub mod book_runs;
 pub mod books;
+mod border_kinds;
 pub mod by_hand;
 pub mod command_forms;
 pub mod commands;
@@ -29,10 +30,15 @@ mod flaws;
 mod floats;
 pub mod grounds;
 pub mod halves;
+pub mod joined;
+mod joined_afar;
+mod joined_lists;
+mod joined_strokes;
 mod line;
-mod list_answers;
+pub mod list_answers;
 mod long;
 mod malformed;
+pub mod neighbours;
 mod no_books;
 mod numbers;
 mod outline_limits;
@@ -82,6 +88,7 @@ fn fixed() -> Vec<Vec<u8>> {
         corner_cuts::lines(),
         batches::fixed(),
         touches::lines(),
+        joined::fixed(),
         outline_limits::lines(),
         drawing_faults::lines(),
         book_by_hand::lines(),

@@ -12,7 +12,7 @@ use crate::sweeps;
 use crate::{answer, cohen_sutherland, millimetres, outline};
 
 fn calls() -> impl Iterator<Item = Call> {
-    lot(7, 8_000).into_iter().filter_map(|line| read(&line))
+    lot(7, 9_000).into_iter().filter_map(|line| read(&line))
 }
 
 #[test]

@@ -93,7 +93,7 @@ fn every_lent_book_answers_as_its_plain_list_does() {
     let mut seen = Seen::default();
     let mut random = Random::new(7);
     let more = (0..6_000).map(|_| book_runs::line(&mut random));
-    for line in lot(7, 4_000).into_iter().chain(more) {
+    for line in lot(7, 5_000).into_iter().chain(more) {
         let Some((lent, renter, asked)) = read(&line).and_then(asked) else {
             continue;
         };

@@ -183,7 +183,7 @@ fn random_strokes() {
 #[test]
 fn a_lot_has_every_kind() {
     let mut by_rule = [(); 3].map(|_| Seen::default());
-    for line in lot(5, 9_000) {
+    for line in lot(5, 10_000) {
         match read(&line) {
             Some(Call::LiangBarsky(window, stroke)) => {
                 held(&mut by_rule[0], &line, &sides_of(window, stroke));

@@ -232,7 +232,7 @@ fn random_lists() {
 #[test]
 fn a_lot_has_both_names() {
     let before = lot(5, 0).len() - 1;
-    let lines = &lot(5, 9_000)[before..];
+    let lines = &lot(5, 10_000)[before..];
     let mut seen = Seen::default();
     for pair in lines.windows(2) {
         let Some(Call::Batch(touches, room, window, list)) = read(&pair[0]) else {

@@ -118,7 +118,7 @@ fn random_strokes() {
 /// In a lot the next line has the same stroke turned round often enough, also where a half is met.
 #[test]
 fn a_lot_has_strokes_turned_round() {
-    let (before, count) = (lot(5, 0).len() - 1, 9_000);
+    let (before, count) = (lot(5, 0).len() - 1, 10_000);
     let strokes: Vec<Option<(Window, Stroke)>> = lot(5, count)[before..]
         .iter()
         .map(|line| stroke_of(line))

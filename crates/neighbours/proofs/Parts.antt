@@ -1,0 +1,122 @@
+-- Parts of one stroke: where the same is kept they are the same; two that meet make one that starts as the first of them and ends as the second.
+use mathlib.Core.Path.{_≡_, refl, sym, _∙_, subst}
+use mathlib.Core.Bool.{Bool, true, false}
+use mathlib.Core.List.{[], _∷_}
+use mathlib.Core.Logic.{_⊎_, inl, inr, ⊎-elim, _↔_}
+use lib.IntN.{ℤ, _*ℤ_}
+use lib.Signed.{_≤ℤ_}
+use Rattle.whole.proofs.Certificates.{ge-by, po, le, _⊞_, _⊠_}
+use Rattle.whole.proofs.Expressions.{_⊗_, x0, x1, x2, x3, var}
+use Rattle.whole.proofs.Order.{≤-antisym}
+use Rattle.fraction.specs.declared.Fraction.{Fraction}
+use Rattle.fraction.proofs.LowestTerms.{lowest-unique}
+use Rattle.grid.specs.declared.Stroke.{Stroke}
+use Rattle.grid.specs.declared.Window.{Window}
+use Rattle.spans.specs.Parts.{First, Last, Part}
+use Rattle.spans.proofs.Parts.{first-unique, last-unique, part-unique}
+use Rattle.strokes.specs.Strokes.{Keeps, PointAt, Clipped}
+use Rattle.strokes.specs.declared.StrokeAnswer.{StrokeAnswer}
+use Rattle.strokes.proofs.Between.{part-inside}
+use Rattle.strokes.proofs.Points.{point-unique}
+use Rattle.neighbours.specs.Laws.{SamePart, MeetsOnce, StartsAs, EndsAs}
+
+-- ---- the same part, where the same is kept
+module _ {K L : ℤ → ℤ → Type 0} (same : (n d : ℤ) → K n d ↔ L n d) where
+  part-as : {k : Bool} {f g : Fraction} → Part K k f g → Part L k f g
+  part-as p = record {
+    keeps = λ n d l. p .keeps n d (same n d .1 l);
+    first = λ e. let h = p .first e in record { lowest = h .lowest; keeps = same _ _ .0 (h .keeps); least = λ n d l. h .least n d (same n d .1 l) };
+    last = λ e. let h = p .last e in record { lowest = h .lowest; keeps = same _ _ .0 (h .keeps); greatest = λ n d l. h .greatest n d (same n d .1 l) };
+    missed = p .missed;
+  }
+
+pub itself : (a : StrokeAnswer) → SamePart a a
+itself a = record { kept = refl; fractions = (refl, refl); start = (refl, refl); finish = (refl, refl) }
+
+module _ {w v : Window} {s : Stroke} {a b : StrokeAnswer} (p : Clipped w s a) (q : Clipped v s b) where
+  -- an end at the same fraction has the same rounded point
+  start-as : a .kept ≡ true → b .kept ≡ true → b .t0 ≡ a .t0 → StartsAs b a
+  start-as k l e =
+      let point = point-unique (q .part .first l .keeps .time .den) (q .start l) (subst (λ (t : Fraction). PointAt s t (a .ax) (a .ay)) (sym e) (p .start k)) in
+      (e, point .0, point .1)
+
+  end-as : a .kept ≡ true → b .kept ≡ true → b .t1 ≡ a .t1 → EndsAs b a
+  end-as k l e =
+      let point = point-unique (q .part .last l .keeps .time .den) (q .finish l) (subst (λ (t : Fraction). PointAt s t (a .bx) (a .by)) (sym e) (p .finish k)) in
+      (e, point .0, point .1)
+
+  pub same-part : ((n d : ℤ) → Keeps w s n d ↔ Keeps v s n d) → SamePart a b
+  same-part same = go (a .kept) refl
+    where
+      one : (a .kept ≡ b .kept) × (a .t0 ≡ b .t0) × (a .t1 ≡ b .t1)
+      one = part-unique (part-as same (p .part)) (q .part)
+
+      go : (k : Bool) → a .kept ≡ k → SamePart a b
+      go true e =
+          let f = sym (one .0) ∙ e in
+          let start = start-as e f (sym (one .1)) in
+          let end = end-as e f (sym (one .2)) in
+          record {
+            kept = one .0;
+            fractions = (one .1, one .2);
+            start = (sym (start .1), sym (start .2));
+            finish = (sym (end .1), sym (end .2));
+          }
+      go false e = subst (SamePart a) (p .missed e ∙ sym (q .missed (sym (one .0) ∙ e))) (itself a)
+
+  -- ---- two parts with a fraction in common, the one not ending behind the other's start
+  pub meets : {n d : ℤ} → Keeps w s n d → Keeps v s n d → a .kept ≡ true → b .kept ≡ true
+      → (a .t1 .num *ℤ b .t0 .den) ≤ℤ (b .t0 .num *ℤ a .t1 .den) → MeetsOnce a b
+  meets {n} {d} i j k l order = record {
+    fraction = same;
+    point = point-unique (last .keeps .time .den) (p .finish k) (subst (λ (t : Fraction). PointAt s t (b .ax) (b .ay)) (sym same) (q .start l));
+    shared = (part-inside p _ _ .1 (last .keeps), part-inside q _ _ .1 (first .keeps));
+    no-other = λ x y h g. ≤-antisym (last .greatest x y (part-inside p x y .0 h))
+        (subst (λ (t : Fraction). (t .num *ℤ y) ≤ℤ (x *ℤ t .den)) (sym same) (first .least x y (part-inside q x y .0 g)));
+  }
+    where
+      last : Last (Keeps w s) (a .t1)
+      last = p .part .last k
+
+      first : First (Keeps v s) (b .t0)
+      first = q .part .first l
+
+      same : a .t1 ≡ b .t0
+      same = lowest-unique (a .t1) (b .t0) (last .lowest) (first .lowest) (≤-antisym order
+          (ge-by (a .t1 .num ∷ a .t1 .den ∷ b .t0 .num ∷ b .t0 .den ∷ n ∷ d ∷ []) (po (var 5) (i .time .den)) (x2 ⊗ x1) (x0 ⊗ x3)
+          (le (var 4 ⊗ x1) (x0 ⊗ var 5) (last .greatest n d i) ⊠ po x3 (first .keeps .time .den)
+          ⊞ le (x2 ⊗ var 5) (var 4 ⊗ x3) (first .least n d j) ⊠ po x1 (last .keeps .time .den)) tt))
+
+-- ---- the part that two parts make, the one after the other
+module _ {w v u : Window} {s : Stroke} {a b c : StrokeAnswer} (p : Clipped w s a) (q : Clipped v s b) (r : Clipped u s c)
+    (either : (n d : ℤ) → Keeps u s n d ↔ (Keeps w s n d ⊎ Keeps v s n d)) (k : a .kept ≡ true) (l : b .kept ≡ true) (m : MeetsOnce a b) where
+  first-of : First (Keeps u s) (a .t0)
+  first-of =
+      let f = p .part .first k in
+      let g = p .part .last k in record {
+        lowest = f .lowest;
+        keeps = either _ _ .1 (inl (f .keeps));
+        least = λ n d h. ⊎-elim (f .least n d)
+            (λ i. ge-by (a .t0 .num ∷ a .t0 .den ∷ a .t1 .num ∷ a .t1 .den ∷ n ∷ d ∷ []) (po x3 (g .keeps .time .den)) (x0 ⊗ var 5) (var 4 ⊗ x1)
+            (le (x0 ⊗ x3) (x2 ⊗ x1) (f .least _ _ (g .keeps)) ⊠ po (var 5) (h .time .den)
+            ⊞ le (x2 ⊗ var 5) (var 4 ⊗ x3) (subst (λ (t : Fraction). (t .num *ℤ d) ≤ℤ (n *ℤ t .den)) (sym (m .fraction)) (q .part .first l .least n d i))
+            ⊠ po x1 (f .keeps .time .den)) tt) (either n d .0 h);
+      }
+
+  last-of : Last (Keeps u s) (b .t1)
+  last-of =
+      let f = q .part .first l in
+      let g = q .part .last l in record {
+        lowest = g .lowest;
+        keeps = either _ _ .1 (inr (g .keeps));
+        greatest = λ n d h. ⊎-elim
+            (λ i. ge-by (b .t0 .num ∷ b .t0 .den ∷ b .t1 .num ∷ b .t1 .den ∷ n ∷ d ∷ []) (po x1 (f .keeps .time .den)) (var 4 ⊗ x3) (x2 ⊗ var 5)
+            (le (x0 ⊗ x3) (x2 ⊗ x1) (g .greatest _ _ (f .keeps)) ⊠ po (var 5) (h .time .den)
+            ⊞ le (var 4 ⊗ x1) (x0 ⊗ var 5) (subst (λ (t : Fraction). (n *ℤ t .den) ≤ℤ (t .num *ℤ d)) (m .fraction) (p .part .last k .greatest n d i))
+            ⊠ po x3 (g .keeps .time .den)) tt) (g .greatest n d) (either n d .0 h);
+      }
+
+  pub one-after-other : MeetsOnce a b × StartsAs c a × EndsAs c b
+  one-after-other =
+      let e = r .part .keeps _ _ (first-of .keeps) in
+      (m, start-as p r k e (first-unique (r .part .first e) first-of), end-as q r l e (last-unique (r .part .last e) last-of))

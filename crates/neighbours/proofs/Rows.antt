@@ -1,0 +1,108 @@
+-- Many strokes: a row stands for a stroke that is given, and so do the numbers that it takes; both go over from the two windows to the joined one.
+use mathlib.Core.Path.{_≡_, refl, ap, _∙_, subst}
+use mathlib.Core.Bool.{Bool, true, false}
+use mathlib.Core.List.{List, [], _∷_}
+use mathlib.Core.Logic.{inl, inr, ⊎-elim}
+use Prim.Native.Nat.{ℕ, suc, _+_, _≤_}
+use native.Mathlib.Omega.{arith}
+use borrow.Author.Tests.{le-leb}
+use lib.IntN.{ℤ}
+use lib.ListN.{length, length-append}
+use lib.Signed.{_<ℤ_}
+use Rattle.whole.specs.Choice.{if_then_else_}
+use Rattle.grid.specs.declared.Answer.{Answer}
+use Rattle.grid.specs.declared.Stroke.{Stroke}
+use Rattle.grid.specs.declared.Window.{Window}
+use Rattle.grid.specs.Calls.{Given, answeredBy, givesAll}
+use Rattle.grid.specs.Refusals.{windowRefusal, strokesRefusal, roomRefusal}
+use Rattle.grid.proofs.Refusals.{all-done}
+use Rattle.strokes.specs.Strokes.{Clipped}
+use Rattle.strokes.specs.declared.StrokeAnswer.{StrokeAnswer}
+use Rattle.cuts.specs.Cuts.{isGiven}
+use Rattle.batch.specs.Batches.{Each, fiveOf, row, rows, RowsGiven, RowsCall, batchRefusal}
+use Rattle.batch.specs.Batches as batches
+use Rattle.batch.specs.Laws.{HasRow, RowExactly}
+use Rattle.batch.proofs.Laws.{Done, done, row-exactly}
+use Rattle.batch.proofs.Refusing.{nothing-refused}
+use Rattle.batch.proofs.Rows.{computed-rows}
+use Rattle.neighbours.specs.Laws.{joined, RowOfOne, RoomForBoth}
+use Rattle.neighbours.proofs.Given.{clipped-given, given-by-one}
+use Rattle.neighbours.proofs.Windows.{beside, other-is, wide-one, wide-other, joined-not-refused}
+
+-- ---- the row of a stroke
+has-given : {P : Type 0} {xs : List ℤ} {k : ℕ} {a : StrokeAnswer} → RowExactly P xs k a → HasRow xs k a → P
+has-given r h = r .only (h .at) (omega (arith, h .is .within)) (h .is .index)
+
+pub row-of-one : RowOfOne
+row-of-one touches w v zs a b c before after before′ after′ before″ after″ p q j x y z k l d e f t =
+    let one = row-exactly (done p x) k l (t .one) in
+    let other = row-exactly (done q y) k l (t .other) in
+    let both = row-exactly (done j z) k l (t .both) in
+    let given = given-by-one touches w v _ d e f t in (
+      λ h. ⊎-elim (λ g. inl (one .has g)) (λ g. inr (other .has g)) (given .0 (has-given both h)),
+      λ h. both .has (given .1 (⊎-elim (λ g. inl (has-given one g)) (λ g. inr (has-given other g)) h)),
+    )
+
+-- ---- how many numbers the rows are
+module _ (touches : Bool) (w : Window) (r : ℤ) (wide : w .left <ℤ w .right) (wide′ : w .right <ℤ r) where
+  row-length : (k : ℕ) (a : StrokeAnswer) → isGiven touches a ≡ true → length (row touches k a) ≡ 5
+  row-length k a e = ap (λ (b : Bool). length (if b then fiveOf k a else [])) e
+
+  row-at-most : (k : ℕ) {s : Stroke} {a b c : StrokeAnswer} → Clipped w s a → Clipped (beside w r) s b → Clipped (joined w (beside w r)) s c
+      → length (row touches k c) ≤ length (row touches k a) + length (row touches k b)
+  row-at-most k {a = a} {b} {c} p q j = go (isGiven touches c) refl
+    where
+      go : (g : Bool) → isGiven touches c ≡ g → length (if g then fiveOf k c else []) ≤ length (row touches k a) + length (row touches k b)
+      go false e = omega arith
+      go true e = ⊎-elim (λ h. omega (arith, row-length k a h)) (λ h. omega (arith, row-length k b h)) (clipped-given w r wide wide′ p q j touches .0 e)
+
+  rows-at-most : (k : ℕ) {ss : List Stroke} {ones others boths : List StrokeAnswer}
+      → Each (Clipped w) ss ones → Each (Clipped (beside w r)) ss others → Each (Clipped (joined w (beside w r))) ss boths
+      → length (rows touches k boths) ≤ length (rows touches k ones) + length (rows touches k others)
+  unfolding rows
+  rows-at-most k batches.none batches.none batches.none = omega arith
+  rows-at-most k (batches._and_ {y = a} {ys = ones} p ps) (batches._and_ {y = b} {ys = others} q qs) (batches._and_ {y = c} {ys = boths} j js) =
+      omega (
+        arith,
+        length-append (row touches k a) (rows touches (suc k) ones),
+        length-append (row touches k b) (rows touches (suc k) others),
+        length-append (row touches k c) (rows touches (suc k) boths),
+        row-at-most k p q j,
+        rows-at-most (suc k) ps qs js,
+      )
+
+  given-at-most : {zs xs ys us : List ℤ} → RowsGiven touches w zs xs → RowsGiven touches (beside w r) zs ys → RowsGiven touches (joined w (beside w r)) zs us
+      → length us ≤ length xs + length ys
+  given-at-most p q j = omega (arith, ap length (p .are), ap length (q .are), ap length (j .are), rows-at-most 0 (p .clipped) (q .clipped) (j .clipped))
+
+-- ---- a list of which the left window's call is done is not refused
+strokes-done : (w : Window) (zs : List ℤ) → batchRefusal w zs .number ≡ 0 → strokesRefusal zs .number ≡ 0
+unfolding batchRefusal
+strokes-done w zs z = all-done (strokesRefusal zs) [] (all-done (windowRefusal w) (strokesRefusal zs ∷ []) z .1) .0
+
+pub room-for-both : RoomForBoth
+unfolding answeredBy roomRefusal
+room-for-both touches w v zs a b c before after before′ after′ before″ after″ n p q j x y room =
+    ap (λ (t : Answer). t .number) all
+  where
+    one : Done touches w zs a after
+    one = done p x
+
+    other : Done touches (beside w (v .right)) zs b after′
+    other = done (subst (λ (u : Window). RowsCall touches u zs b before′ after′) (other-is n) q) y
+
+    g : Given (RowsGiven touches (joined w v) zs) c before″ after″
+    g = j .done (nothing-refused (joined w v) zs (joined-not-refused w v n) (strokes-done w zs (one .nothing)))
+
+    fits : length (g .numbers) ≤ length before″
+    fits = omega (
+      arith,
+      one .count,
+      other .count,
+      room,
+      given-at-most touches w (v .right) (wide-one n) (wide-other n)
+          (computed-rows touches (one .on) (one .strokes)) (computed-rows touches (other .on) (other .strokes)) (g .gives),
+    )
+
+    all : c ≡ givesAll (g .numbers)
+    all = g .answer ∙ simp (le-leb _ _ fits)
