@@ -4,7 +4,7 @@ use mathlib.Core.List.{[], _∷_}
 use mathlib.Core.Logic.{_⊎_, inl, inr, ⊎-elim, _↔_}
 use lib.IntN.{ℤ, pos, negℤ, _-ℤ_, _*ℤ_}
 use lib.Signed.{_≤ℤ_, _<ℤ_}
-use Rattle.whole.proofs.Certificates.{ge, gt, ge-by, eq, eq-by, eqn, po, le, lt, _⊞_, _⊠_, _⊹_}
+use Rattle.whole.proofs.Certificates.{ge, gt, ge-by, clash, eq, eq-by, eqn, po, le, lt, _⊞_, _⊠_, _⊹_}
 use Rattle.whole.proofs.Expressions.{con, _⊕_, _⊖_, _⊗_, neg, x0, x1, x2, x3, var}
 use Rattle.whole.proofs.Order.{≤-total, ≤-antisym, ≡→≤, <→≤}
 use Rattle.whole.proofs.Polynomials.{ring}
@@ -12,14 +12,17 @@ use Rattle.fraction.specs.declared.Fraction.{Fraction}
 use Rattle.fraction.specs.Rounding.{along}
 use Rattle.grid.specs.declared.Stroke.{Stroke}
 use Rattle.grid.specs.declared.Window.{Window}
+use Rattle.grid.specs.Sides.{left, right}
+use Rattle.spans.specs.Sides.{Fixes}
 use Rattle.spans.specs.Spans.{InSpan}
 use Rattle.spans.specs.declared.Span.{Span}
-use Rattle.strokes.specs.Sides.{dx}
+use Rattle.strokes.specs.Sides.{dx, condition}
 use Rattle.strokes.specs.Strokes.{Keeps}
 use Rattle.strokes.proofs.Between.{keeps-between}
 use Rattle.strokes.proofs.Coordinates.{above-low, below-high}
 use Rattle.neighbours.specs.Laws.{joined}
 use Rattle.neighbours.proofs.Windows.{beside}
+use Rattle.neighbours.proofs.Sides.{at-left, at-right}
 
 module _ (w : Window) (r : ℤ) (s : Stroke) where
   abbrev both : Window
@@ -65,6 +68,24 @@ module _ (w : Window) (r : ℤ) (s : Stroke) where
   in-both : {n d : ℤ} → x-at n d ≡ w .right *ℤ d → Keeps both s n d → Keeps w s n d × Keeps (beside w r) s n d
   in-both e k = (on-left (≡→≤ e) k, on-right (≡→≤ (sym e)) k)
 
+  -- ---- an end that only one of the two windows has is not fixed by the common border, nor by the far side of the other
+  module _ {Towards : ℤ → Type 0} {f : Fraction} where
+    pub right-unfixed : w .right <ℤ r → Keeps w s (f .num) (f .den) → (Keeps (beside w r) s (f .num) (f .den) → ⊥)
+        → Fixes Towards f (condition w s right) ↔ Fixes Towards f (condition both s right)
+    right-unfixed wide k never = (
+      λ h. absurd (never (in-both (at-right w s h) (in-left wide k) .1)),
+      λ h. absurd (clash (x-at (f .num) (f .den) ∷ w .right ∷ r ∷ f .den ∷ [])
+          (le x0 (x1 ⊗ x3) (k .x .below) ⊞ lt x1 x2 wide ⊠ po x3 (k .time .den) ⊞ eq (con (pos 1)) x0 (x2 ⊗ x3) (at-right both s h)) tt),
+    )
+
+    pub left-unfixed : w .left <ℤ w .right → Keeps (beside w r) s (f .num) (f .den) → (Keeps w s (f .num) (f .den) → ⊥)
+        → Fixes Towards f (condition (beside w r) s left) ↔ Fixes Towards f (condition both s left)
+    left-unfixed wide k never = (
+      λ h. absurd (never (in-both (at-left (beside w r) s h) (in-right wide k) .0)),
+      λ h. absurd (clash (x-at (f .num) (f .den) ∷ w .left ∷ w .right ∷ f .den ∷ [])
+          (le (x2 ⊗ x3) x0 (k .x .above) ⊞ lt x1 x2 wide ⊠ po x3 (k .time .den) ⊞ eq (neg (con (pos 1))) x0 (x1 ⊗ x3) (at-left both s h)) tt),
+    )
+
   -- ---- where the stroke crosses the border
   -- between a fraction f of the one window and a fraction g of the other, which does not come before it
   pub record Crossed (f g : Fraction) : Type 0 where
@@ -102,7 +123,8 @@ module _ (w : Window) (r : ℤ) (s : Stroke) where
         (le (neg (x1 ⊖ x0) ⊗ x3) ((x0 ⊖ x2) ⊗ var 4) (above-low (l .x))) tt)
 
     pub crossed-leftward : dx s <ℤ pos 0 → Keeps (beside w r) s (f .num) (f .den) → Keeps w s (g .num) (g .den) → Crossed f g
-    crossed-leftward h k l = crossed (negℤ (dx s)) (s .x1 -ℤ w .right) (gt (s .x1 ∷ s .x2 ∷ []) (con (pos 0)) (neg (x1 ⊖ x0)) (lt (x1 ⊖ x0) (con (pos 0)) h) tt)
+    crossed-leftward h k l = crossed (negℤ (dx s)) (s .x1 -ℤ w .right)
+        (gt (s .x1 ∷ s .x2 ∷ []) (con (pos 0)) (neg (x1 ⊖ x0)) (lt (x1 ⊖ x0) (con (pos 0)) h) tt)
         (ring (s .x1 ∷ s .x2 ∷ w .right ∷ []) (x0 ⊗ neg (x1 ⊖ x0) ⊕ (x0 ⊖ x2) ⊗ (x1 ⊖ x0)) (x2 ⊗ neg (x1 ⊖ x0)) tt)
         (in-right wide k) (in-left wide′ l) (above-low (k .x))
         (ge (s .x1 ∷ s .x2 ∷ w .right ∷ g .num ∷ g .den ∷ []) ((x0 ⊖ x2) ⊗ var 4) (neg (x1 ⊖ x0) ⊗ x3)

@@ -1,5 +1,4 @@
--- Which strokes the batch gives: one that it gives for the joined window has more than one fraction there, or touches are asked for, and so it is in one of
--- the two.
+-- Which strokes the batch gives: without touches those with more than one fraction, and such a joined part has more than one in one of the two.
 use mathlib.Core.Path.{_≡_, refl, sym, _∙_, subst}
 use mathlib.Core.Bool.{Bool, true, false}
 use mathlib.Core.Logic.{_⊎_, inl, inr, ⊎-elim, _↔_}
@@ -18,7 +17,7 @@ use Rattle.strokes.specs.declared.StrokeAnswer.{StrokeAnswer}
 use Rattle.strokes.proofs.Between.{part-inside}
 use Rattle.cuts.specs.Cuts.{isGiven}
 use Rattle.cuts.proofs.Given.{given-kept, kept-given, given-exactly, touch-exactly}
-use Rattle.neighbours.specs.Laws.{joined, ThreeAnswers, SamePart, PutTogether}
+use Rattle.neighbours.specs.Laws.{joined, ThreeAnswers, MeetsOnce, fromTo, PutTogether}
 use Rattle.neighbours.proofs.Windows.{beside}
 use Rattle.neighbours.proofs.Strokes.{clipped-kept, clipped-together, clipped-put-together, done-or-blank}
 
@@ -41,22 +40,24 @@ module _ {s : Stroke} {a b c : StrokeAnswer} (w : Window) (r : ℤ) (wide : w .l
     (p : Clipped w s a) (q : Clipped (beside w r) s b) (j : Clipped (joined w (beside w r)) s c) where
   -- ---- where neither of the two has more than one fraction, the joined window has not
   one-fraction : (a .kept ≡ true → a .t0 ≡ a .t1) → (b .kept ≡ true → b .t0 ≡ b .t1) → c .kept ≡ true → c .t0 ≡ c .t1
-  one-fraction one other e = go (a .kept) refl (b .kept) refl
+  one-fraction left right e = go (a .kept) refl (b .kept) refl
     where
       put : PutTogether s a b c
       put = clipped-put-together w r wide wide′ p q j
 
-      -- c has the part of an answer with one fraction
-      like : {x : StrokeAnswer} → SamePart x c → (x .kept ≡ true → x .t0 ≡ x .t1) → c .t0 ≡ c .t1
-      like same h = sym (same .fractions .0) ∙ h (same .kept ∙ e) ∙ same .fractions .1
+      -- c is an answer with one fraction
+      like : {x : StrokeAnswer} → c ≡ x → (x .kept ≡ true → x .t0 ≡ x .t1) → c .t0 ≡ c .t1
+      like same = subst (λ (x : StrokeAnswer). (x .kept ≡ true → x .t0 ≡ x .t1) → c .t0 ≡ c .t1) same (λ h. h e)
+
+      -- or goes from one with one fraction to another
+      through : {x y : StrokeAnswer} → x .t0 ≡ x .t1 → y .t0 ≡ y .t1 → MeetsOnce x y × (c ≡ fromTo x y) → c .t0 ≡ c .t1
+      through h k (m, same) = (λ i. same i .t0) ∙ h ∙ m .fraction ∙ k ∙ sym (λ i. same i .t1)
 
       go : (x : Bool) → a .kept ≡ x → (y : Bool) → b .kept ≡ y → c .t0 ≡ c .t1
-      go true k true l = ⊎-elim
-          (λ h. let (m, start, end) = put .leftward k l h in start .0 ∙ other l ∙ m .fraction ∙ one k ∙ sym (end .0))
-          (λ h. ⊎-elim (λ z. like (put .upright k l z .0) one)
-          (λ h. let (m, start, end) = put .rightward k l h in start .0 ∙ one k ∙ m .fraction ∙ other l ∙ sym (end .0)) h) (sign (dx s))
-      go true k false l = like (put .one-alone l) one
-      go false k y l = like (put .other-alone k) other
+      go true k true l = ⊎-elim (λ h. through (right l) (left k) (put .leftward k l h))
+          (λ h. ⊎-elim (λ z. like (put .upright k l z .0) left) (λ h. through (left k) (right l) (put .rightward k l h)) h) (sign (dx s))
+      go true k false l = like (put .left-alone l) left
+      go false k y l = like (put .right-alone k) right
 
   -- ---- given for the joined window exactly when for one of the two
   abbrev kept-either : (c .kept ≡ true) ↔ ((a .kept ≡ true) ⊎ (b .kept ≡ true))

@@ -1,4 +1,5 @@
 pub mod Windows
+pub mod Sides
 pub mod Border
 pub mod Parts
 pub mod Strokes

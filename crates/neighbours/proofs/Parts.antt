@@ -1,11 +1,12 @@
--- Parts of one stroke: where the same is kept they are the same; two that meet make one that starts as the first of them and ends as the second.
-use mathlib.Core.Path.{_≡_, refl, sym, _∙_, subst}
-use mathlib.Core.Bool.{Bool, true, false}
+-- Parts of one stroke: where the same is kept the same answer is right; two parts that meet make one that starts as the first and ends as the second.
+use mathlib.Core.Path.{_≡_, refl, sym, subst}
+use mathlib.Core.Bool.{Bool, true}
 use mathlib.Core.List.{[], _∷_}
 use mathlib.Core.Logic.{_⊎_, inl, inr, ⊎-elim, _↔_}
 use lib.IntN.{ℤ, _*ℤ_}
 use lib.Signed.{_≤ℤ_}
 use Rattle.whole.proofs.Certificates.{ge-by, po, le, _⊞_, _⊠_}
+use Rattle.whole.proofs.Comparisons.{tt-ff}
 use Rattle.whole.proofs.Expressions.{_⊗_, x0, x1, x2, x3, var}
 use Rattle.whole.proofs.Order.{≤-antisym}
 use Rattle.fraction.specs.declared.Fraction.{Fraction}
@@ -13,12 +14,13 @@ use Rattle.fraction.proofs.LowestTerms.{lowest-unique}
 use Rattle.grid.specs.declared.Stroke.{Stroke}
 use Rattle.grid.specs.declared.Window.{Window}
 use Rattle.spans.specs.Parts.{First, Last, Part}
-use Rattle.spans.proofs.Parts.{first-unique, last-unique, part-unique}
+use Rattle.spans.specs.Sides.{StartSide, EndSide}
+use Rattle.strokes.specs.Sides.{conditions}
 use Rattle.strokes.specs.Strokes.{Keeps, PointAt, Clipped}
 use Rattle.strokes.specs.declared.StrokeAnswer.{StrokeAnswer}
 use Rattle.strokes.proofs.Between.{part-inside}
 use Rattle.strokes.proofs.Points.{point-unique}
-use Rattle.neighbours.specs.Laws.{SamePart, MeetsOnce, StartsAs, EndsAs}
+use Rattle.neighbours.specs.Laws.{MeetsOnce, fromTo}
 
 -- ---- the same part, where the same is kept
 module _ {K L : ℤ → ℤ → Type 0} (same : (n d : ℤ) → K n d ↔ L n d) where
@@ -30,47 +32,30 @@ module _ {K L : ℤ → ℤ → Type 0} (same : (n d : ℤ) → K n d ↔ L n d)
     missed = p .missed;
   }
 
-pub itself : (a : StrokeAnswer) → SamePart a a
-itself a = record { kept = refl; fractions = (refl, refl); start = (refl, refl); finish = (refl, refl) }
+-- an answer that is right for one window is right for another that keeps the same, where its sides are named alike
+pub right-too : {w u : Window} {s : Stroke} {a : StrokeAnswer} → Clipped w s a → ((n d : ℤ) → Keeps w s n d ↔ Keeps u s n d)
+    → (a .kept ≡ true → StartSide (conditions w s) (a .t0) (a .side0) → StartSide (conditions u s) (a .t0) (a .side0))
+    → (a .kept ≡ true → EndSide (conditions w s) (a .t1) (a .side1) → EndSide (conditions u s) (a .t1) (a .side1)) → Clipped u s a
+right-too p same start end = record {
+  number = p .number;
+  place = p .place;
+  part = part-as same (p .part);
+  start = p .start;
+  finish = p .finish;
+  start-side = λ e. start e (p .start-side e);
+  end-side = λ e. end e (p .end-side e);
+  missed = p .missed;
+}
 
+-- ---- two parts of a stroke
 module _ {w v : Window} {s : Stroke} {a b : StrokeAnswer} (p : Clipped w s a) (q : Clipped v s b) where
-  -- an end at the same fraction has the same rounded point
-  start-as : a .kept ≡ true → b .kept ≡ true → b .t0 ≡ a .t0 → StartsAs b a
-  start-as k l e =
-      let point = point-unique (q .part .first l .keeps .time .den) (q .start l) (subst (λ (t : Fraction). PointAt s t (a .ax) (a .ay)) (sym e) (p .start k)) in
-      (e, point .0, point .1)
-
-  end-as : a .kept ≡ true → b .kept ≡ true → b .t1 ≡ a .t1 → EndsAs b a
-  end-as k l e =
-      let point = point-unique (q .part .last l .keeps .time .den) (q .finish l) (subst (λ (t : Fraction). PointAt s t (a .bx) (a .by)) (sym e) (p .finish k)) in
-      (e, point .0, point .1)
-
-  pub same-part : ((n d : ℤ) → Keeps w s n d ↔ Keeps v s n d) → SamePart a b
-  same-part same = go (a .kept) refl
-    where
-      one : (a .kept ≡ b .kept) × (a .t0 ≡ b .t0) × (a .t1 ≡ b .t1)
-      one = part-unique (part-as same (p .part)) (q .part)
-
-      go : (k : Bool) → a .kept ≡ k → SamePart a b
-      go true e =
-          let f = sym (one .0) ∙ e in
-          let start = start-as e f (sym (one .1)) in
-          let end = end-as e f (sym (one .2)) in
-          record {
-            kept = one .0;
-            fractions = (one .1, one .2);
-            start = (sym (start .1), sym (start .2));
-            finish = (sym (end .1), sym (end .2));
-          }
-      go false e = subst (SamePart a) (p .missed e ∙ sym (q .missed (sym (one .0) ∙ e))) (itself a)
-
-  -- ---- two parts with a fraction in common, the one not ending behind the other's start
+  -- that have a fraction in common, the one not ending behind the other's start
   pub meets : {n d : ℤ} → Keeps w s n d → Keeps v s n d → a .kept ≡ true → b .kept ≡ true
       → (a .t1 .num *ℤ b .t0 .den) ≤ℤ (b .t0 .num *ℤ a .t1 .den) → MeetsOnce a b
   meets {n} {d} i j k l order = record {
     fraction = same;
     point = point-unique (last .keeps .time .den) (p .finish k) (subst (λ (t : Fraction). PointAt s t (b .ax) (b .ay)) (sym same) (q .start l));
-    shared = (part-inside p _ _ .1 (last .keeps), part-inside q _ _ .1 (first .keeps));
+    shared = (part-inside p _ _ .1 (last .keeps), part-inside q _ _ .1 (subst (λ (t : Fraction). Keeps v s (t .num) (t .den)) (sym same) (first .keeps)));
     no-other = λ x y h g. ≤-antisym (last .greatest x y (part-inside p x y .0 h))
         (subst (λ (t : Fraction). (t .num *ℤ y) ≤ℤ (x *ℤ t .den)) (sym same) (first .least x y (part-inside q x y .0 g)));
   }
@@ -88,7 +73,7 @@ module _ {w v : Window} {s : Stroke} {a b : StrokeAnswer} (p : Clipped w s a) (q
           ⊞ le (x2 ⊗ var 5) (var 4 ⊗ x3) (first .least n d j) ⊠ po x1 (last .keeps .time .den)) tt))
 
 -- ---- the part that two parts make, the one after the other
-module _ {w v u : Window} {s : Stroke} {a b c : StrokeAnswer} (p : Clipped w s a) (q : Clipped v s b) (r : Clipped u s c)
+module _ {w v u : Window} {s : Stroke} {a b : StrokeAnswer} (p : Clipped w s a) (q : Clipped v s b)
     (either : (n d : ℤ) → Keeps u s n d ↔ (Keeps w s n d ⊎ Keeps v s n d)) (k : a .kept ≡ true) (l : b .kept ≡ true) (m : MeetsOnce a b) where
   first-of : First (Keeps u s) (a .t0)
   first-of =
@@ -116,7 +101,14 @@ module _ {w v u : Window} {s : Stroke} {a b c : StrokeAnswer} (p : Clipped w s a
             ⊠ po x3 (g .keeps .time .den)) tt) (g .greatest n d) (either n d .0 h);
       }
 
-  pub one-after-other : MeetsOnce a b × StartsAs c a × EndsAs c b
-  one-after-other =
-      let e = r .part .keeps _ _ (first-of .keeps) in
-      (m, start-as p r k e (first-unique (r .part .first e) first-of), end-as q r l e (last-unique (r .part .last e) last-of))
+  pub from-to : StartSide (conditions u s) (a .t0) (a .side0) → EndSide (conditions u s) (b .t1) (b .side1) → Clipped u s (fromTo a b)
+  from-to start end = record {
+    number = refl;
+    place = refl;
+    part = record { keeps = λ n d h. refl; first = λ _. first-of; last = λ _. last-of; missed = λ e. absurd (tt-ff e) };
+    start = λ _. p .start k;
+    finish = λ _. q .finish l;
+    start-side = λ _. start;
+    end-side = λ _. end;
+    missed = λ e. absurd (tt-ff e);
+  }

@@ -1,5 +1,5 @@
 -- Many strokes: a row stands for a stroke that is given, and so do the numbers that it takes; both go over from the two windows to the joined one.
-use mathlib.Core.Path.{_≡_, refl, ap, _∙_, subst}
+use mathlib.Core.Path.{_≡_, refl, sym, ap, _∙_, subst}
 use mathlib.Core.Bool.{Bool, true, false}
 use mathlib.Core.List.{List, [], _∷_}
 use mathlib.Core.Logic.{inl, inr, ⊎-elim}
@@ -11,11 +11,12 @@ use lib.ListN.{length, length-append}
 use lib.Signed.{_<ℤ_}
 use Rattle.whole.specs.Choice.{if_then_else_}
 use Rattle.grid.specs.declared.Answer.{Answer}
+use Rattle.grid.specs.declared.Refusal.{Refusal}
 use Rattle.grid.specs.declared.Stroke.{Stroke}
 use Rattle.grid.specs.declared.Window.{Window}
 use Rattle.grid.specs.Calls.{Given, answeredBy, givesAll}
-use Rattle.grid.specs.Refusals.{windowRefusal, strokesRefusal, roomRefusal}
-use Rattle.grid.proofs.Refusals.{all-done}
+use Rattle.grid.specs.Refusals.{first, windowRefusal, strokesRefusal, roomRefusal}
+use Rattle.grid.proofs.Refusals.{goes-on}
 use Rattle.strokes.specs.Strokes.{Clipped}
 use Rattle.strokes.specs.declared.StrokeAnswer.{StrokeAnswer}
 use Rattle.cuts.specs.Cuts.{isGiven}
@@ -23,11 +24,10 @@ use Rattle.batch.specs.Batches.{Each, fiveOf, row, rows, RowsGiven, RowsCall, b
 use Rattle.batch.specs.Batches as batches
 use Rattle.batch.specs.Laws.{HasRow, RowExactly}
 use Rattle.batch.proofs.Laws.{Done, done, row-exactly}
-use Rattle.batch.proofs.Refusing.{nothing-refused}
 use Rattle.batch.proofs.Rows.{computed-rows}
-use Rattle.neighbours.specs.Laws.{joined, RowOfOne, RoomForBoth}
+use Rattle.neighbours.specs.Laws.{joined, RowOfOne, ListRefusedAlike, RoomForBoth}
 use Rattle.neighbours.proofs.Given.{clipped-given, given-by-one}
-use Rattle.neighbours.proofs.Windows.{beside, other-is, wide-one, wide-other, joined-not-refused}
+use Rattle.neighbours.proofs.Windows.{beside, right-is, wide-left, wide-right, joined-not-refused}
 
 -- ---- the row of a stroke
 has-given : {P : Type 0} {xs : List ℤ} {k : ℕ} {a : StrokeAnswer} → RowExactly P xs k a → HasRow xs k a → P
@@ -35,12 +35,12 @@ has-given r h = r .only (h .at) (omega (arith, h .is .within)) (h .is .index)
 
 pub row-of-one : RowOfOne
 row-of-one touches w v zs a b c before after before′ after′ before″ after″ p q j x y z k l d e f t =
-    let one = row-exactly (done p x) k l (t .one) in
-    let other = row-exactly (done q y) k l (t .other) in
-    let both = row-exactly (done j z) k l (t .both) in
+    let left = row-exactly (done p x) k l (t .left) in
+    let right = row-exactly (done q y) k l (t .right) in
+    let both = row-exactly (done j z) k l (t .together) in
     let given = given-by-one touches w v _ d e f t in (
-      λ h. ⊎-elim (λ g. inl (one .has g)) (λ g. inr (other .has g)) (given .0 (has-given both h)),
-      λ h. both .has (given .1 (⊎-elim (λ g. inl (has-given one g)) (λ g. inr (has-given other g)) h)),
+      λ h. ⊎-elim (λ g. inl (left .has g)) (λ g. inr (right .has g)) (given .0 (has-given both h)),
+      λ h. both .has (given .1 (⊎-elim (λ g. inl (has-given left g)) (λ g. inr (has-given right g)) h)),
     )
 
 -- ---- how many numbers the rows are
@@ -71,37 +71,42 @@ module _ (touches : Bool) (w : Window) (r : ℤ) (wide : w .left <ℤ w .right) 
         rows-at-most (suc k) ps qs js,
       )
 
-  given-at-most : {zs xs ys us : List ℤ} → RowsGiven touches w zs xs → RowsGiven touches (beside w r) zs ys → RowsGiven touches (joined w (beside w r)) zs us
-      → length us ≤ length xs + length ys
+  given-at-most : {zs xs ys us : List ℤ} → RowsGiven touches w zs xs → RowsGiven touches (beside w r) zs ys
+      → RowsGiven touches (joined w (beside w r)) zs us → length us ≤ length xs + length ys
   given-at-most p q j = omega (arith, ap length (p .are), ap length (q .are), ap length (j .are), rows-at-most 0 (p .clipped) (q .clipped) (j .clipped))
 
--- ---- a list of which the left window's call is done is not refused
-strokes-done : (w : Window) (zs : List ℤ) → batchRefusal w zs .number ≡ 0 → strokesRefusal zs .number ≡ 0
+-- ---- in windows that are not refused a list is refused alike
+list-refused : (w : Window) (zs : List ℤ) → windowRefusal w .number ≡ 0 → batchRefusal w zs ≡ first (strokesRefusal zs ∷ [])
 unfolding batchRefusal
-strokes-done w zs z = all-done (strokesRefusal zs) [] (all-done (windowRefusal w) (strokesRefusal zs ∷ []) z .1) .0
+list-refused w zs z = goes-on (windowRefusal w) (strokesRefusal zs ∷ []) z
+
+pub list-refused-alike : ListRefusedAlike
+list-refused-alike w v zs n =
+    let together = list-refused (joined w v) zs (joined-not-refused w v n) in
+    (together ∙ sym (list-refused w zs (n .left)), together ∙ sym (list-refused v zs (n .right)))
 
 pub room-for-both : RoomForBoth
 unfolding answeredBy roomRefusal
 room-for-both touches w v zs a b c before after before′ after′ before″ after″ n p q j x y room =
     ap (λ (t : Answer). t .number) all
   where
-    one : Done touches w zs a after
-    one = done p x
+    left : Done touches w zs a after
+    left = done p x
 
-    other : Done touches (beside w (v .right)) zs b after′
-    other = done (subst (λ (u : Window). RowsCall touches u zs b before′ after′) (other-is n) q) y
+    right : Done touches (beside w (v .right)) zs b after′
+    right = done (subst (λ (u : Window). RowsCall touches u zs b before′ after′) (right-is n) q) y
 
     g : Given (RowsGiven touches (joined w v) zs) c before″ after″
-    g = j .done (nothing-refused (joined w v) zs (joined-not-refused w v n) (strokes-done w zs (one .nothing)))
+    g = j .done (ap (λ (r : Refusal). r .number) (list-refused-alike w v zs n .0) ∙ left .nothing)
 
     fits : length (g .numbers) ≤ length before″
     fits = omega (
       arith,
-      one .count,
-      other .count,
+      left .count,
+      right .count,
       room,
-      given-at-most touches w (v .right) (wide-one n) (wide-other n)
-          (computed-rows touches (one .on) (one .strokes)) (computed-rows touches (other .on) (other .strokes)) (g .gives),
+      given-at-most touches w (v .right) (wide-left n) (wide-right n)
+          (computed-rows touches (left .on) (left .strokes)) (computed-rows touches (right .on) (right .strokes)) (g .gives),
     )
 
     all : c ≡ givesAll (g .numbers)

@@ -14,20 +14,20 @@ abbrev pub beside : Window → ℤ → Window
 beside w r = record { left = w .right; bottom = w .bottom; right = r; top = w .top }
 
 module _ {w v : Window} (n : Neighbours w v) where
-  pub other-is : v ≡ beside w (v .right)
-  other-is = λ i. record { left = sym (n .border) i; bottom = sym (n .bottom) i; right = v .right; top = sym (n .top) i }
+  pub right-is : v ≡ beside w (v .right)
+  right-is = λ i. record { left = sym (n .border) i; bottom = sym (n .bottom) i; right = v .right; top = sym (n .top) i }
 
   w-on : WindowOnTable w
-  w-on = window-on-table w (n .one)
+  w-on = window-on-table w (n .left)
 
   v-on : WindowOnTable v
-  v-on = window-on-table v (n .other)
+  v-on = window-on-table v (n .right)
 
-  pub wide-one : w .left <ℤ w .right
-  wide-one = w-on .wide
+  pub wide-left : w .left <ℤ w .right
+  wide-left = w-on .wide
 
-  pub wide-other : w .right <ℤ v .right
-  wide-other = subst (λ (m : ℤ). m <ℤ v .right) (sym (n .border)) (v-on .wide)
+  pub wide-right : w .right <ℤ v .right
+  wide-right = subst (λ (m : ℤ). m <ℤ v .right) (sym (n .border)) (v-on .wide)
 
   on-table : WindowOnTable (joined w v)
   on-table = record {
@@ -35,7 +35,7 @@ module _ {w v : Window} (n : Neighbours w v) where
     bottom = w-on .bottom;
     right = v-on .right;
     top = w-on .top;
-    wide = omega (zarith, wide-one, wide-other);
+    wide = omega (zarith, wide-left, wide-right);
     tall = w-on .tall;
   }
 
