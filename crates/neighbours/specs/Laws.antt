@@ -15,8 +15,8 @@
 --   ShareOneFraction    if both keep it and dx is not 0, they share exactly one fraction, and the rounded point there is the same for both
 --   AlongTheBorder      a stroke along the common border is kept by both, with equal fractions, or by neither: its two answers are equal
 --   fromTo a b          the answer with the start of a and the end of b: their fractions, points and sides
---   PutTogether s a b c   where one of a and b keeps nothing, c is the other. Where both keep some, c has the start of the one through whose window the
---                       stroke comes first, and the end of the other; an upright stroke has the same answer three times
+--   PutTogether s a b c   where one of a and b keeps nothing, c is the other. Where both keep some, they meet once, and c has the start of the one through
+--                       whose window the stroke comes first, and the end of the other; or the stroke is upright, and all three are equal
 --   JoinedAnswer        so the answer for the joined window is put together from the two
 --   RowsJoin w v zs xs ys us   of each stroke of the list zs: us has its row for the joined window exactly when xs has its row for w or ys its row for v
 --   RowOfOne            a stroke has a row in the joined batch exactly when it has one in one of the two, or in both: by `batch::batch_with_touches`,
