@@ -12,20 +12,21 @@ use Rattle.grid.specs.declared.Window.{Window}
 use Rattle.grid.specs.Table.{strokeAt, strokesOf, WindowOnTable, StrokesOnTable, NumbersOnTable}
 use Rattle.grid.proofs.Calls.{call-unique}
 use Rattle.grid.proofs.StrokeLists.{strokes-more, strokes-none, stroke-of-list}
+use Rattle.rings.specs.Lists.{Each}
+use Rattle.rings.specs.Lists as lists
 use Rattle.strokes.specs.Strokes.{Clipped}
 use Rattle.strokes.specs.declared.StrokeAnswer.{StrokeAnswer}
 use Rattle.strokes.proofs.Computed.{clippedOf, clippedOf-is}
 use Rattle.strokes.proofs.Unique.{clipped-unique}
 use Rattle.cuts.specs.Cuts.{isGiven, noCut, CutIs, SaysGiven}
 use Rattle.cuts.specs.declared.Cut.{Cut}
-use Rattle.batch.specs.Batches.{Each, fiveOf, row, rows, RowsGiven, batchRefusal}
-use Rattle.batch.specs.Batches as batches
+use Rattle.batch.specs.Batches.{fiveOf, row, rows, RowsGiven, batchRefusal}
 use Rattle.batch.specs.Laws.{OneBatch, OneBatchWithTouches}
 
 -- ---- one list of rows
 each-unique : {w : Window} {ss : List Stroke} {xs ys : List StrokeAnswer} → Each (Clipped w) ss xs → Each (Clipped w) ss ys → xs ≡ ys
-each-unique batches.none batches.none = refl
-each-unique (batches._and_ p ps) (batches._and_ q qs) = λ i. clipped-unique p q i ∷ each-unique ps qs i
+each-unique lists.none lists.none = refl
+each-unique (lists._and_ p ps) (lists._and_ q qs) = λ i. clipped-unique p q i ∷ each-unique ps qs i
 
 pub rows-unique : {touches : Bool} {w : Window} {zs xs ys : List ℤ} → RowsGiven touches w zs xs → RowsGiven touches w zs ys → xs ≡ ys
 rows-unique {touches} p q = p .are ∙ ap (rows touches 0) (each-unique (p .clipped) (q .clipped)) ∙ sym (q .are)
@@ -40,12 +41,12 @@ one-batch-with-touches w zs a b before after after′ p q = call-unique (batchRe
 module _ {w : Window} (on : WindowOnTable w) where
   each-clipped : (zs : List ℤ) → NumbersOnTable zs → Each (Clipped w) (strokesOf zs) (map (clippedOf w) (strokesOf zs))
   unfolding strokesOf
-  each-clipped [] h = batches.none
-  each-clipped (a ∷ []) h = batches.none
-  each-clipped (a ∷ b ∷ []) h = batches.none
-  each-clipped (a ∷ b ∷ c ∷ []) h = batches.none
+  each-clipped [] h = lists.none
+  each-clipped (a ∷ []) h = lists.none
+  each-clipped (a ∷ b ∷ []) h = lists.none
+  each-clipped (a ∷ b ∷ c ∷ []) h = lists.none
   each-clipped (a ∷ b ∷ c ∷ d ∷ zs) h =
-      batches._and_ (clippedOf-is on (record { x1 = h 0 (omega arith); y1 = h 1 (omega arith); x2 = h 2 (omega arith); y2 = h 3 (omega arith) }))
+      lists._and_ (clippedOf-is on (record { x1 = h 0 (omega arith); y1 = h 1 (omega arith); x2 = h 2 (omega arith); y2 = h 3 (omega arith) }))
       (each-clipped zs (λ k l. h (suc (suc (suc (suc k)))) (omega arith)))
 
 -- the row of stroke k, of which c is given
@@ -129,5 +130,5 @@ rows-of-short {touches} {w} {zs} {xs} p =
     omega (arith, ap length (p .are), rows-short touches 0 (p .answers), strokes-short zs, each-length (p .clipped))
   where
     each-length : {ss : List Stroke} {ys : List StrokeAnswer} → Each (Clipped w) ss ys → length ys ≡ length ss
-    each-length batches.none = refl
-    each-length (batches._and_ p ps) = ap suc (each-length ps)
+    each-length lists.none = refl
+    each-length (lists._and_ p ps) = ap suc (each-length ps)

@@ -1,6 +1,5 @@
 -- What the batch promises: for each stroke that is given, in order, its index and its two rounded points. Given are the kept strokes; those that only
 -- touch the window, t0 = t1, only where `touches` is true.
---   Each R xs ys      two lists of one length, R of the members at each place
 --   fiveOf k a        what is given of stroke k, whose single answer is a: its index and its two rounded points
 --   row touches k a   its row: these five numbers, or nothing where it is not given
 --   rows touches k answers   the rows of answers counted from k, one after the other
@@ -29,13 +28,10 @@ use Rattle.grid.specs.declared.Window.{Window}
 use Rattle.grid.specs.Calls.{Call, GaveNumbers}
 use Rattle.grid.specs.Refusals.{first, windowRefusal, strokesRefusal, roomRefusal}
 use Rattle.grid.specs.Table.{strokesOf}
+use Rattle.rings.specs.Lists.{Each}
 use Rattle.strokes.specs.Strokes.{Clipped}
 use Rattle.strokes.specs.declared.StrokeAnswer.{StrokeAnswer}
 use Rattle.cuts.specs.Cuts.{isGiven}
-
-pub data Each {A B : Type 0} (R : A → B → Type 0) : List A → List B → Type 0 where
-  none : Each R [] []
-  _and_ : {x : A} {y : B} {xs : List A} {ys : List B} → R x y → Each R xs ys → Each R (x ∷ xs) (y ∷ ys)
 
 abbrev pub fiveOf : ℕ → StrokeAnswer → List ℤ
 fiveOf k a = pos k ∷ a .ax ∷ a .ay ∷ a .bx ∷ a .by ∷ []

@@ -36,6 +36,7 @@ use Rattle.convex.specs.Corners.{gridPoint, cornersOf, strictlyConvex, rightCou
 use Rattle.convex.proofs.Convexity.{convex-same}
 use Rattle.convex.proofs.Places.{side-by}
 use Rattle.spans.specs.Parts.{Time, Part}
+use Rattle.spans.proofs.Parts.{part-same}
 use Rattle.corners.specs.Corners.{cyrusBeckRefusal, pointAt, KeepsIn}
 use Rattle.corners.specs.Rectangles.{RectangleCorners, from-left-bottom, from-right-bottom, from-right-top}
 use Rattle.corners.specs.Rectangles.{from-left-top, TurnedOver}
@@ -194,15 +195,6 @@ module _ (w : Window) where
       λ h. record { time = h .time; inside = in-ring (pointAt s n d) (edges-turned (turned-back (turned k)) (h .inside)) },
       λ h. record { time = h .time; inside = edges-turned (turned k) (in-window (pointAt s n d) (h .inside)) },
     )
-
--- ---- what is kept by equivalent conditions is the same part
-part-same : {K L : ℤ → ℤ → Type 0} {k : Bool} {f g : Fraction} → ((n d : ℤ) → K n d ↔ L n d) → Part K k f g → Part L k f g
-part-same {f} {g} e p = record {
-  keeps = λ n d h. p .keeps n d (e n d .1 h);
-  first = λ t. let q = p .first t in record { lowest = q .lowest; keeps = e (f .num) (f .den) .0 (q .keeps); least = λ n d h. q .least n d (e n d .1 h) };
-  last = λ t. let q = p .last t in record { lowest = q .lowest; keeps = e (g .num) (g .den) .0 (q .keeps); greatest = λ n d h. q .greatest n d (e n d .1 h) };
-  missed = p .missed;
-}
 
 -- ---- all numbers of a list are on the table, or one is refused
 abbrev number : Refusal → ℕ

@@ -134,7 +134,8 @@ module _ (w : Window) (r : ℤ) (s : Stroke) where
   module _ (wide : w .left <ℤ w .right) (wide′ : w .right <ℤ r) (e₁ : s .x1 ≡ w .right) (e₂ : s .x2 ≡ w .right) where
     on-border : (n d : ℤ) → x-at n d ≡ w .right *ℤ d
     on-border n d =
-        eq-by (s .x1 ∷ s .x2 ∷ w .right ∷ n ∷ d ∷ []) (x0 ⊗ var 4 ⊕ x3 ⊗ (x1 ⊖ x0)) (x2 ⊗ var 4) (eqn (var 4 ⊖ x3) x0 x2 e₁ ⊹ eqn x3 x1 x2 e₂) tt
+        eq-by (s .x1 ∷ s .x2 ∷ w .right ∷ n ∷ d ∷ []) (x0 ⊗ var 4 ⊕ x3 ⊗ (x1 ⊖ x0)) (x2 ⊗ var 4)
+        (eqn (var 4 ⊖ x3) x0 x2 e₁ ⊹ eqn x3 x1 x2 e₂) tt
 
     pub left-right : (n d : ℤ) → Keeps w s n d ↔ Keeps (beside w r) s n d
     left-right n d = (λ k. in-both (on-border n d) (in-left wide′ k) .1, λ k. in-both (on-border n d) (in-right wide k) .0)

@@ -1,6 +1,6 @@
 -- Parts of one stroke: where the same is kept the same answer is right; two parts that meet make one that starts as the first and ends as the second.
 use mathlib.Core.Path.{_≡_, refl, sym, subst}
-use mathlib.Core.Bool.{Bool, true}
+use mathlib.Core.Bool.{true}
 use mathlib.Core.List.{[], _∷_}
 use mathlib.Core.Logic.{_⊎_, inl, inr, ⊎-elim, _↔_}
 use lib.IntN.{ℤ, _*ℤ_}
@@ -13,8 +13,9 @@ use Rattle.fraction.specs.declared.Fraction.{Fraction}
 use Rattle.fraction.proofs.LowestTerms.{lowest-unique}
 use Rattle.grid.specs.declared.Stroke.{Stroke}
 use Rattle.grid.specs.declared.Window.{Window}
-use Rattle.spans.specs.Parts.{First, Last, Part}
+use Rattle.spans.specs.Parts.{First, Last}
 use Rattle.spans.specs.Sides.{StartSide, EndSide}
+use Rattle.spans.proofs.Parts.{part-same}
 use Rattle.strokes.specs.Sides.{conditions}
 use Rattle.strokes.specs.Strokes.{Keeps, PointAt, Clipped}
 use Rattle.strokes.specs.declared.StrokeAnswer.{StrokeAnswer}
@@ -22,24 +23,14 @@ use Rattle.strokes.proofs.Between.{part-inside}
 use Rattle.strokes.proofs.Points.{point-unique}
 use Rattle.neighbours.specs.Laws.{MeetsOnce, fromTo}
 
--- ---- the same part, where the same is kept
-module _ {K L : ℤ → ℤ → Type 0} (same : (n d : ℤ) → K n d ↔ L n d) where
-  part-as : {k : Bool} {f g : Fraction} → Part K k f g → Part L k f g
-  part-as p = record {
-    keeps = λ n d l. p .keeps n d (same n d .1 l);
-    first = λ e. let h = p .first e in record { lowest = h .lowest; keeps = same _ _ .0 (h .keeps); least = λ n d l. h .least n d (same n d .1 l) };
-    last = λ e. let h = p .last e in record { lowest = h .lowest; keeps = same _ _ .0 (h .keeps); greatest = λ n d l. h .greatest n d (same n d .1 l) };
-    missed = p .missed;
-  }
-
--- an answer that is right for one window is right for another that keeps the same, where its sides are named alike
+-- ---- an answer that is right for one window is right for another that keeps the same, where its sides are named alike
 pub right-too : {w u : Window} {s : Stroke} {a : StrokeAnswer} → Clipped w s a → ((n d : ℤ) → Keeps w s n d ↔ Keeps u s n d)
     → (a .kept ≡ true → StartSide (conditions w s) (a .t0) (a .side0) → StartSide (conditions u s) (a .t0) (a .side0))
     → (a .kept ≡ true → EndSide (conditions w s) (a .t1) (a .side1) → EndSide (conditions u s) (a .t1) (a .side1)) → Clipped u s a
 right-too p same start end = record {
   number = p .number;
   place = p .place;
-  part = part-as same (p .part);
+  part = part-same same (p .part);
   start = p .start;
   finish = p .finish;
   start-side = λ e. start e (p .start-side e);

@@ -17,11 +17,12 @@ use Rattle.grid.specs.declared.Window.{Window}
 use Rattle.grid.specs.Calls.{Given, answeredBy, givesAll}
 use Rattle.grid.specs.Refusals.{first, windowRefusal, strokesRefusal, roomRefusal}
 use Rattle.grid.proofs.Refusals.{goes-on}
+use Rattle.rings.specs.Lists.{Each}
+use Rattle.rings.specs.Lists as lists
 use Rattle.strokes.specs.Strokes.{Clipped}
 use Rattle.strokes.specs.declared.StrokeAnswer.{StrokeAnswer}
 use Rattle.cuts.specs.Cuts.{isGiven}
-use Rattle.batch.specs.Batches.{Each, fiveOf, row, rows, RowsGiven, RowsCall, batchRefusal}
-use Rattle.batch.specs.Batches as batches
+use Rattle.batch.specs.Batches.{fiveOf, row, rows, RowsGiven, RowsCall, batchRefusal}
 use Rattle.batch.specs.Laws.{HasRow, RowExactly}
 use Rattle.batch.proofs.Laws.{Done, done, row-exactly}
 use Rattle.batch.proofs.Rows.{computed-rows}
@@ -60,8 +61,8 @@ module _ (touches : Bool) (w : Window) (r : ℤ) (wide : w .left <ℤ w .right) 
       → Each (Clipped w) ss ones → Each (Clipped (beside w r)) ss others → Each (Clipped (joined w (beside w r))) ss boths
       → length (rows touches k boths) ≤ length (rows touches k ones) + length (rows touches k others)
   unfolding rows
-  rows-at-most k batches.none batches.none batches.none = omega arith
-  rows-at-most k (batches._and_ {y = a} {ys = ones} p ps) (batches._and_ {y = b} {ys = others} q qs) (batches._and_ {y = c} {ys = boths} j js) =
+  rows-at-most k lists.none lists.none lists.none = omega arith
+  rows-at-most k (lists._and_ {y = a} {ys = ones} p ps) (lists._and_ {y = b} {ys = others} q qs) (lists._and_ {y = c} {ys = boths} j js) =
       omega (
         arith,
         length-append (row touches k a) (rows touches (suc k) ones),

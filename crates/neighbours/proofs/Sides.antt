@@ -1,6 +1,6 @@
 -- The side that fixed an end: it is the same for two windows whose sides fix that end alike, as do sides that the stroke does not cross there.
 use mathlib.Core.Path.{_≡_}
-use mathlib.Core.List.{List, [], _∷_}
+use mathlib.Core.List.{[], _∷_}
 use mathlib.Core.Logic.{_↔_}
 use Prim.Native.Nat.{ℕ}
 use lib.IntN.{ℤ, pos, _*ℤ_}
@@ -14,25 +14,22 @@ use Rattle.fraction.specs.Rounding.{along}
 use Rattle.grid.specs.declared.Stroke.{Stroke}
 use Rattle.grid.specs.declared.Window.{Window}
 use Rattle.grid.specs.Sides.{left, right}
-use Rattle.spans.specs.Sides.{Condition, Inward, Outward, Fixes, FirstOf, here, later, SideNamed}
+use Rattle.rings.specs.Lists.{Each, none, _and_}
+use Rattle.spans.specs.Sides.{Condition, Inward, Outward, Fixes, SideNamed}
+use Rattle.spans.proofs.Sides.{first-each}
 use Rattle.strokes.specs.Sides.{dx, condition}
-use Rattle.batch.specs.Batches.{Each}
-use Rattle.batch.specs.Batches as batches
 
 pub itself : {A : Type 0} → A ↔ A
 itself = (λ x. x, λ x. x)
 
 -- ---- the same side is named
-first-as : {P : Condition → Type 0} {cs ds : List Condition} {k : ℕ} → Each (λ c d. P c ↔ P d) cs ds → FirstOf P cs k → FirstOf P ds k
-first-as (batches._and_ same rest) (here h) = here (same .0 h)
-first-as (batches._and_ same rest) (later n h) = later (λ p. n (same .1 p)) (first-as rest h)
-
 module _ {own : Type 0} {P : Condition → Type 0} {l r b t l′ r′ : Condition} where
-  pub named-as : {k : ℕ} → P l ↔ P l′ → P r ↔ P r′ → SideNamed own P (l ∷ r ∷ b ∷ t ∷ []) k → SideNamed own P (l′ ∷ r′ ∷ b ∷ t ∷ []) k
-  named-as hl hr h = record { remains = h .remains; fixed = λ n. first-as each (h .fixed n) }
+  pub named-as : {k : ℕ} → P l ↔ P l′ → P r ↔ P r′
+      → SideNamed own P (l ∷ r ∷ b ∷ t ∷ []) k → SideNamed own P (l′ ∷ r′ ∷ b ∷ t ∷ []) k
+  named-as hl hr h = record { remains = h .remains; fixed = λ n. first-each each (λ _ _ e. e .0) (λ _ _ e. e .1) (h .fixed n) }
     where
       each : Each (λ c d. P c ↔ P d) (l ∷ r ∷ b ∷ t ∷ []) (l′ ∷ r′ ∷ b ∷ t ∷ [])
-      each = batches._and_ hl (batches._and_ hr (batches._and_ itself (batches._and_ itself batches.none)))
+      each = _and_ hl (_and_ hr (_and_ itself (_and_ itself none)))
 
 -- ---- where a side fixes an end the stroke is on its line
 module _ {Towards : ℤ → Type 0} {f : Fraction} (w : Window) (s : Stroke) where

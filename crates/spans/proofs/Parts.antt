@@ -2,6 +2,7 @@
 use mathlib.Core.Path.{_≡_, refl, sym, _∙_}
 use mathlib.Core.Bool.{Bool, true, false}
 use mathlib.Core.List.{List, [], _∷_}
+use mathlib.Core.Logic.{_↔_}
 use Prim.Native.Nat.{ℕ, _≤_}
 use lib.IntN.{ℤ, pos, negsuc, _*ℤ_}
 use lib.Signed.{_≤ℤ_, _<ℤ_}
@@ -51,6 +52,15 @@ module _ {K : ℤ → ℤ → Type 0} where
   -- ---- nothing kept
   pub part-missed : ((n d : ℤ) → K n d → ⊥) → Part K false zeroth zeroth
   part-missed never = record { keeps = λ n d k. absurd (never n d k); first = λ e. absurd (ff-tt e); last = λ e. absurd (ff-tt e); missed = λ e. (refl, refl) }
+
+-- ---- what is kept by equivalent conditions is the same part
+pub part-same : {K L : ℤ → ℤ → Type 0} {k : Bool} {f g : Fraction} → ((n d : ℤ) → K n d ↔ L n d) → Part K k f g → Part L k f g
+part-same {f} {g} e p = record {
+  keeps = λ n d h. p .keeps n d (e n d .1 h);
+  first = λ t. let q = p .first t in record { lowest = q .lowest; keeps = e (f .num) (f .den) .0 (q .keeps); least = λ n d h. q .least n d (e n d .1 h) };
+  last = λ t. let q = p .last t in record { lowest = q .lowest; keeps = e (g .num) (g .den) .0 (q .keeps); greatest = λ n d h. q .greatest n d (e n d .1 h) };
+  missed = p .missed;
+}
 
 -- ---- all kept
 pub lowest-zeroth : {n d : ℤ} → n ≡ pos 0 → LowestOf n d zeroth

@@ -15,11 +15,16 @@ use Rattle.whole.proofs.Expressions.{var, con, _⊗_, neg, x0, x1, x2, x3}
 use Rattle.fraction.specs.declared.Fraction.{Fraction}
 use Rattle.fraction.specs.Fraction.{LowestOf}
 use Rattle.fraction.proofs.LowestTerms.{lowest-unique, lowest-over-one}
-use Rattle.rings.specs.Lists.{All, ∅, _◂_}
+use Rattle.rings.specs.Lists.{All, ∅, _◂_, Each, _and_}
 use Rattle.spans.specs.Parts.{Part, zeroth, unit}
 use Rattle.spans.specs.Sides.{Condition, Inward, Outward, Fixes, FirstOf, here, later, noSide, SideNamed, StartSide, EndSide, OwnEnds}
 
--- ---- the first of a list
+-- ---- the first of a list, and of another whose members satisfy Q where those of the list satisfy P
+pub first-each : {A B : Type 0} {R : A → B → Type 0} {P : A → Type 0} {Q : B → Type 0} {xs : List A} {ys : List B} {k : ℕ} → Each R xs ys
+    → ((x : A) (y : B) → R x y → P x → Q y) → ((x : A) (y : B) → R x y → Q y → P x) → FirstOf P xs k → FirstOf Q ys k
+first-each (_and_ r rs) to from (here p) = here (to _ _ r p)
+first-each (_and_ r rs) to from (later n f) = later (λ q. n (from _ _ r q)) (first-each rs to from f)
+
 module _ {A : Type 0} {P : A → Type 0} where
   least-unique : {xs : List A} {j k : ℕ} → FirstOf P xs j → FirstOf P xs k → j ≡ k
   least-unique (here p) (here q) = refl

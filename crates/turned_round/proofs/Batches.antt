@@ -21,11 +21,12 @@ use Rattle.grid.specs.declared.Window.{Window}
 use Rattle.grid.specs.Calls.{Given, written, answered, answeredBy, givesAll, refusedBy}
 use Rattle.grid.specs.Refusals.{none, refuse, noRoom, roomRefusal}
 use Rattle.grid.specs.Table.{strokesOf}
+use Rattle.rings.specs.Lists.{Each}
+use Rattle.rings.specs.Lists as lists
 use Rattle.strokes.specs.Strokes.{Clipped}
 use Rattle.strokes.specs.declared.StrokeAnswer.{StrokeAnswer}
 use Rattle.cuts.specs.Cuts.{isGiven}
-use Rattle.batch.specs.Batches.{Each, fiveOf, row, rows, RowsGiven, batchRefusal}
-use Rattle.batch.specs.Batches as batches
+use Rattle.batch.specs.Batches.{fiveOf, row, rows, RowsGiven, batchRefusal}
 use Rattle.strokes.proofs.Unique.{clipped-unique}
 use Rattle.turned_round.specs.Laws.{turnRound, oneMinus, AnswerTurnedRound, swap, strokesTurnedRound, rowsTurnedRound}
 use Rattle.turned_round.specs.Laws.{BatchTurnedRound, TurnedRoundInRows}
@@ -117,8 +118,8 @@ module _ (touches : Bool) (which : ℕ → Bool) where
       → Each (Clipped w) ss answers → Each (Clipped w) (turnSome which k ss) others
       → rowsTurnedRound which (rows touches k answers) ≡ rows touches k others
   unfolding rows rowsTurnedRound turnSome
-  each-turned k batches.none batches.none = refl
-  each-turned {w} k (batches._and_ {x = s} {y = a} {ys = answers} p ps) (batches._and_ {y = b} {ys = others} q qs) =
+  each-turned k lists.none lists.none = refl
+  each-turned {w} k (lists._and_ {x = s} {y = a} {ys = answers} p ps) (lists._and_ {y = b} {ys = others} q qs) =
       row-turned k a b (go (which k) q) (rows touches (suc k) answers) ∙ ap (λ (xs : List ℤ). row touches k b ++ xs) (each-turned (suc k) ps qs)
     where
       go : (turn : Bool) → Clipped w (if turn then turnRound s else s) b → Turns turn a b

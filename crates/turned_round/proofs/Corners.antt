@@ -21,7 +21,7 @@ use Rattle.corners.specs.Corners.{pointAt, KeepsIn, CornerClipped, cyrusBeckRef
 use Rattle.corners.specs.Edges.{start, finish, edgeCondition, firstConditions, edgeConditions}
 use Rattle.corners.specs.declared.CornerAnswer.{CornerAnswer}
 use Rattle.corners.proofs.Answers.{clip-unique}
-use Rattle.batch.specs.Batches.{Each, none as nothing, _and_}
+use Rattle.rings.specs.Lists.{Each, none as nothing, _and_}
 use Rattle.turned_round.specs.Laws.{turnRound, oneMinus, CornersTurnedRound, TurnedRoundInCorners}
 use Rattle.turned_round.proofs.Parts.{along-back, time-back, first-back, last-back}
 use Rattle.turned_round.proofs.Refusing.{SameRefusal, corners-turned}

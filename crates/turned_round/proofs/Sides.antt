@@ -2,7 +2,7 @@
 use mathlib.Core.Path.{_≡_}
 use mathlib.Core.List.{List, [], _∷_}
 use Prim.Native.Nat.{ℕ}
-use lib.IntN.{ℤ, pos, negsuc, negℤ, _-ℤ_, _*ℤ_}
+use lib.IntN.{pos, negsuc, negℤ, _-ℤ_, _*ℤ_}
 use Rattle.whole.proofs.Certificates.{gt, eq, eqn, eq-by, _⊹_, po, lt, _⊞_}
 use Rattle.whole.proofs.Expressions.{Expr, Env, var, con, _⊖_, _⊗_, neg, x0, x1, x2, x3}
 use Rattle.whole.proofs.Polynomials.{ring}
@@ -10,9 +10,10 @@ use Rattle.fraction.specs.declared.Fraction.{Fraction}
 use Rattle.grid.specs.declared.Stroke.{Stroke}
 use Rattle.grid.specs.declared.Window.{Window}
 use Rattle.grid.specs.Sides.{Side, left, right, bottom, top}
-use Rattle.spans.specs.Sides.{Condition, Inward, Outward, Fixes, FirstOf, here, later, StartSide, EndSide}
+use Rattle.rings.specs.Lists.{Each, none, _and_}
+use Rattle.spans.specs.Sides.{Condition, Inward, Outward, Fixes, StartSide, EndSide}
+use Rattle.spans.proofs.Sides.{first-each}
 use Rattle.strokes.specs.Sides.{condition, conditions}
-use Rattle.batch.specs.Batches.{Each, none, _and_}
 use Rattle.turned_round.specs.Laws.{turnRound, oneMinus}
 
 -- ---- the condition of a side, for the stroke turned round
@@ -74,11 +75,6 @@ module _ (c e : Condition) (h : TurnedBack c e) (f : Fraction) where
   back-inward x = record { crosses = gt ρ x0 (con (pos 0)) (po p′ (x .crosses) ⊞ eq (con (negsuc 0)) p′ (neg x0) (h .p)) tt; on = back-on (x .on) }
 
 -- ---- the sides are exchanged, for whatever conditions turn so
-first-each : {A B : Type 0} {R : A → B → Type 0} {P : A → Type 0} {Q : B → Type 0} {xs : List A} {ys : List B} {k : ℕ} → Each R xs ys
-    → ((x : A) (y : B) → R x y → P x → Q y) → ((x : A) (y : B) → R x y → Q y → P x) → FirstOf P xs k → FirstOf Q ys k
-first-each (_and_ r rs) to from (here p) = here (to _ _ r p)
-first-each (_and_ r rs) to from (later n f) = later (λ q. n (from _ _ r q)) (first-each rs to from f)
-
 module _ {cs es : List Condition} (h : Each TurnedBack cs es) (f : Fraction) where
   abbrev ends : Env
   ends = f .num ∷ f .den ∷ []
