@@ -1,4 +1,6 @@
 // What the bookkeeper is answered: a reply on a page, and the lines that tell of a refusal.
+#![tactic(auto)]
+
 ghost use Rattle.std.specs.Prelude.{◌+◌, ◌≤◌, length};
 ghost use Rattle.text.specs.Pages.{Put};
 ghost use Rattle.answers.specs.Answers.{meaning_text, refusal_text, strip_refusal_text, Exactly, Answers};

@@ -1,4 +1,6 @@
 // The arguments of a line: its text after the command's word, each argument with a space before it.
+#![tactic(auto)]
+
 ghost use Rattle.std.specs.Prelude.{◌≡◌, ◌≤◌, length};
 ghost use Rattle.arguments.specs.Arguments.{first_end, Numbers, first_window, ReadPair};
 

@@ -1,4 +1,6 @@
 // The artwork of a picture, from the strip at the bottom to the numbers and points on top.
+#![tactic(auto)]
+
 ghost use Rattle.std.specs.Prelude.{◌+◌, ◌*◌, ◌≤◌, length};
 ghost use Rattle.text.specs.Pages.{Put};
 ghost use Rattle.artwork.specs.Artwork.{artwork};

@@ -1,5 +1,7 @@
 // Many strokes against one rectangle: for each stroke that is given its index and its two rounded points, into a lent output. Strokes that only
 // touch are given where they are asked for by name.
+#![tactic(auto)]
+
 ghost use Rattle.std.specs.Prelude.{◌≡◌, true, false, List, [], ◌∷◌, ◌+◌, ◌<◌, ◌≤◌, ℤ, length};
 ghost use Rattle.std.proofs.lemmas.List.Edits.{sets};
 ghost use Rattle.grid.specs.Table.{WindowOnTable, StrokeOnTable, StrokesOnTable};

@@ -1,4 +1,6 @@
 // The commands of a list of strokes: batch, and touches, which asks for the strokes that only touch as well.
+#![tactic(auto)]
+
 ghost use Rattle.std.specs.Prelude.{true, false, ◌≤◌, length};
 ghost use Rattle.replies.specs.Replies.{answer_fields, Tells};
 ghost use Rattle.lending.specs.Lent.{Lends};

@@ -1,4 +1,6 @@
 // Keeps a strip book in the file that the program's argument names: reads the bookkeeper's lines from standard input, and answers them.
+#![tactic(auto)]
+
 use input::{Chunk, Line};
 use sittings::Page;
 

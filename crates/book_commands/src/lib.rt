@@ -1,5 +1,7 @@
 // The commands of the strip book: enter, release and strips. Of the first two the table is read into the lent output, where the call then works on
 // it; strips writes its listing there, and reads the table elsewhere.
+#![tactic(auto)]
+
 ghost use Rattle.std.specs.Prelude.{◌+◌, ◌≤◌, ◌<◌, length};
 ghost use Rattle.replies.specs.Replies.{answer_fields, Tells};
 ghost use Rattle.lending.specs.Lent.{Lends};

@@ -1,4 +1,6 @@
 // A strip book as text, which a person can read and a file can hold: it is put on a page, and read back.
+#![tactic(auto)]
+
 ghost use Rattle.std.specs.Prelude.{◌≡◌, ◌≤◌, ◌<◌, length};
 ghost use Rattle.whole.specs.Choice.{Decides};
 ghost use Rattle.text.specs.Pages.{Put};

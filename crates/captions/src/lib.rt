@@ -1,4 +1,6 @@
 // What stands below the drawing in a picture: the ruler, the strip's size and the counts.
+#![tactic(auto)]
+
 ghost use Rattle.std.specs.Prelude.{◌+◌, ◌≤◌, length};
 ghost use Rattle.text.specs.Pages.{Put};
 ghost use Rattle.captions.specs.Captions.{caption_place, strip_size, caption};

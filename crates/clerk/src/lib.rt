@@ -1,4 +1,6 @@
 // The bookkeeper's commands that change a strip book: each is one call on the table, and its answer is put on a page.
+#![tactic(auto)]
+
 ghost use Rattle.std.specs.Prelude.{◌≡◌, ◌≤◌, length};
 ghost use Rattle.answers.specs.Answers.{Answers};
 ghost use Rattle.clerk.specs.Commands.{BooksOnGrid, BooksAs, ReleasesAs, SlotOf};

@@ -1,4 +1,6 @@
 // Position codes and the Cohen-Sutherland rule, with the count of its shortenings.
+#![tactic(auto)]
+
 mod decisions;
 
 ghost use Rattle.std.specs.Prelude.{◌≡◌, ◌<◌, ◌≤◌};

@@ -4,6 +4,8 @@
 // it is one word more at the family's arm. Its word stands in `arguments`, what it takes in `reasons`, and its line for `help` in `telling`. It takes
 // 1 to 3 s to check in its family and 0.1 s here, and the call's own library 0.02 s a megabyte in both and in `desk`. A family of its own takes about
 // 5 s, and an arm here.
+#![tactic(auto)]
+
 ghost use Rattle.std.specs.Prelude.{◌≤◌, length};
 
 use arguments::{

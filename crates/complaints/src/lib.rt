@@ -1,4 +1,6 @@
 // The line that says why a line of the pen's text is not taken.
+#![tactic(auto)]
+
 ghost use Rattle.std.specs.Prelude.{◌+◌, ◌≤◌, length};
 ghost use Rattle.text.specs.Pages.{Put};
 ghost use Rattle.complaints.specs.Complaints.{expectation, reason, remark, complaint};

@@ -1,4 +1,6 @@
 // Lists of corners: how many they may be, and whether they are strictly convex counterclockwise. The corners are x y x y ..
+#![tactic(auto)]
+
 ghost use Rattle.std.specs.Prelude.{◌≡◌, ◌+◌, ◌<◌, ◌≤◌, length};
 ghost use Rattle.convex.specs.Corners.{corners_of, next, strictly_convex, most_corners, right_count, CornersOnTable};
 ghost use Rattle.convex.specs.Ways.{CornerOnTable, Short, corner_at, way_from, turns_left, change_of};

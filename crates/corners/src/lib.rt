@@ -1,4 +1,6 @@
 // Strokes against a corner window by the Cyrus-Beck rule.
+#![tactic(auto)]
+
 ghost use Rattle.std.specs.Prelude.{◌≡◌};
 ghost use Rattle.grid.specs.Table.{StrokeOnTable};
 ghost use Rattle.convex.specs.Corners.{corners_of, CornersOnTable};

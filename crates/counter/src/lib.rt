@@ -1,4 +1,6 @@
 // The counter at which the bookkeeper stands: a line of his text is read as an order, and the order is answered.
+#![tactic(auto)]
+
 ghost use Rattle.std.specs.Prelude.{◌≡◌, ◌≤◌, length};
 ghost use Rattle.text.specs.Pages.{Put};
 ghost use Rattle.pen_line.specs.Lines.{spoken};

@@ -1,5 +1,7 @@
 // Strokes against a rectangle by the cross-product rule, after Skala: the four corners of the window are put on one side or the other of the stroke's
 // line, then the two sides that it crosses are found.
+#![tactic(auto)]
+
 ghost use Rattle.std.specs.Prelude.{◌≡◌, ◌<◌};
 ghost use Rattle.grid.specs.Table.{WindowOnTable, StrokeOnTable};
 ghost use Rattle.spans.specs.Parts.{zeroth, unit};

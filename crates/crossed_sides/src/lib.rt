@@ -1,4 +1,6 @@
 // The line of a stroke and the four corners of a window: on which side of the line each corner lies, and which two sides of the window it crosses.
+#![tactic(auto)]
+
 ghost use Rattle.std.specs.Prelude.{◌≡◌};
 ghost use Rattle.whole.specs.Within.{Within};
 ghost use Rattle.grid.specs.Table.{farthest, WindowOnTable, StrokeOnTable};

@@ -1,6 +1,8 @@
 // Where lines meet: an edge of the outline or a side of the window with the line of a limit. A ring in memory names the line of each of its edges by a tag:
 // below 64 the outline's own edge from that corner, from 64 on the side of the window at that place. So every crossing is made from the numbers that were
 // given, and never from a corner that was made before.
+#![tactic(auto)]
+
 ghost use Rattle.std.specs.Prelude.{◌≡◌, ◌/◌, ◌%◌, ◌<◌, length};
 ghost use Rattle.whole.specs.Within.{Within};
 ghost use Rattle.grid.specs.Sides.{side_at};

@@ -1,5 +1,7 @@
 // What is given of a stroke, by its points alone: what the calls for many strokes ask for. A stroke that only touches the window is left out, or
 // given where touches are asked for by name.
+#![tactic(auto)]
+
 ghost use Rattle.std.specs.Prelude.{◌≡◌, ◌≤◌};
 ghost use Rattle.grid.specs.Table.{WindowOnTable, StrokeOnTable};
 ghost use Rattle.strokes.specs.Workers.{Reaching};

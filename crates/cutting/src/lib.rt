@@ -1,4 +1,6 @@
 // A drawing, read and cut to its strip.
+#![tactic(auto)]
+
 ghost use Rattle.std.specs.Prelude.{◌≤◌, length};
 ghost use Rattle.cutting.specs.Sheets.{CutDrawing};
 

@@ -1,4 +1,6 @@
 // The desk: each line of standard input is one call, and each gets one line back, in order.
+#![tactic(auto)]
+
 use input::{Chunk, Line};
 use output::Page;
 

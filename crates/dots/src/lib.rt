@@ -1,4 +1,6 @@
 // The points of a picture: a dot that is meant is filled, and a piece so short that the grid has one point for it is an open ring.
+#![tactic(auto)]
+
 ghost use Rattle.std.specs.Prelude.{◌≡◌, ◌+◌, ◌*◌, ◌≤◌, pos, length, get_or};
 ghost use Rattle.text.specs.Pages.{Put};
 ghost use Rattle.dots.specs.Dots.{spread, marked, point_path, point_paths, points};

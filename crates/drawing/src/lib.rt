@@ -1,4 +1,6 @@
 // The drawing: what its records draw, and the call that reads it.
+#![tactic(auto)]
+
 ghost use Rattle.std.specs.Prelude.{◌≡◌, ◌+◌, ◌≤◌, length};
 ghost use Rattle.grid.specs.Refusals.{refuse};
 ghost use Rattle.grid.specs.Calls.{written};

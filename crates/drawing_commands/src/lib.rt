@@ -1,4 +1,6 @@
 // The commands of a drawing: draw.
+#![tactic(auto)]
+
 ghost use Rattle.std.specs.Prelude.{◌≤◌, length};
 ghost use Rattle.replies.specs.Replies.{Tells};
 ghost use Rattle.lending.specs.Lent.{Lends};

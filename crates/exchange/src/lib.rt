@@ -1,4 +1,6 @@
 // The exchange of lines and replies: whatever is whole is answered before the desk waits for more, and a read or write that fails ends it.
+#![tactic(auto)]
+
 ghost use Rattle.std.specs.Prelude.{◌≤◌, length};
 ghost use Rattle.exchange.specs.Talks.{InBounds};
 

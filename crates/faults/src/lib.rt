@@ -1,4 +1,6 @@
 // What standard error says of a text that is not a strip book's.
+#![tactic(auto)]
+
 ghost use Rattle.std.specs.Prelude.{◌≤◌, length};
 ghost use Rattle.text.specs.Pages.{Put};
 ghost use Rattle.faults.specs.Words.{fault_text};

@@ -1,5 +1,7 @@
 // The first pass, over the outline itself: of its corners only those that are left come into the memory. Its crossings are those of the outline's own
 // edges, so that it needs no other number of the window than the limit's.
+#![tactic(auto)]
+
 ghost use Rattle.std.specs.Prelude.{false, ◌+◌, ◌-◌, ◌*◌, ◌/◌, ◌<◌, ◌≤◌, length};
 ghost use Rattle.grid.specs.Sides.{side_at};
 ghost use Rattle.rings.specs.Points.{Out};

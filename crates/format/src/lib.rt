@@ -1,4 +1,6 @@
 // The drawing file as bytes: its numbers, its head and its records.
+#![tactic(auto)]
+
 ghost use Rattle.std.specs.Prelude.{◌≡◌, ◌+◌, ◌≤◌, length};
 ghost use Rattle.format.specs.Format.{number32, number_at, float_at, head_size, head_fault, window_at, record_at};
 

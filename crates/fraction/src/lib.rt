@@ -1,4 +1,6 @@
 // Exact fractions: brought to lowest terms, compared, and rounded to the grid.
+#![tactic(auto)]
+
 ghost use Rattle.std.specs.Prelude.{◌≡◌, ◌<◌, ◌≤◌, ◌^◌, pos, ◌<ℤ◌};
 ghost use Rattle.whole.specs.Within.{Within};
 ghost use Rattle.fraction.specs.Fraction.{GreatestCommon, LowestOf, less_than, Comparable};

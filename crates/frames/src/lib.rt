@@ -1,4 +1,6 @@
 // What stands before the artwork of a picture: its size, its title and the drawing's place.
+#![tactic(auto)]
+
 ghost use Rattle.std.specs.Prelude.{◌≡◌, ◌+◌, ◌≤◌, length};
 ghost use Rattle.text.specs.Pages.{Put};
 ghost use Rattle.frames.specs.Frames.{pixels_high, size, frame, placed};

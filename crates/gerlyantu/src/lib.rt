@@ -1,4 +1,6 @@
 // Every public call, for C programs to link: the same call under the prefix gerlyantu_, with the same statement.
+#![tactic(auto)]
+
 ghost use Rattle.batch.specs.Batches.{Batch, BatchWithTouches};
 ghost use Rattle.codes.specs.Steps.{CohenSutherland};
 ghost use Rattle.corners.specs.Corners.{CyrusBeck};

@@ -1,4 +1,6 @@
 // The table: its range, windows and strokes, the refusals that every call shares, and the answer of a call that gives numbers into a lent output.
+#![tactic(auto)]
+
 ghost use Rattle.std.specs.Prelude.{◌≡◌, true, [], ◌∷◌, ◌+◌, ◌≤◌, eqb, length};
 ghost use Rattle.std.proofs.lemmas.List.Edits.{sets};
 ghost use Rattle.whole.specs.Choice.{if◌then◌else◌};

@@ -1,4 +1,6 @@
 // The input's lines, one after another; the last may lack its newline.
+#![tactic(auto)]
+
 ghost use Rattle.std.specs.Prelude.{◌≤◌, length};
 ghost use Rattle.input.specs.Sources.{InReach};
 

@@ -1,4 +1,6 @@
 // Millimetres to the grid of 1/32 mm and back.
+#![tactic(auto)]
+
 ghost use Rattle.std.specs.Prelude.{◌≡◌};
 ghost use Rattle.grid.specs.Refusals.{refuse};
 ghost use Rattle.intake.specs.Millimetres.{Taken, refused_point, PointToGrid, refused_window, WindowToGrid, ToMillimetres};

@@ -2,6 +2,8 @@
 // holds the old text or the new one, whole. A third file says that the file is in hand: as long as it is there, no other program can make it.
 //
 // The name of the new file is that of the file and ".new": the caller lends it, and says how long the file's own name is.
+#![tactic(auto)]
+
 ghost use Rattle.std.specs.Prelude.{◌≡◌, ◌≤◌, length};
 ghost use Rattle.keeping.specs.Folders.{FolderEnd};
 

@@ -1,4 +1,6 @@
 // The numbers of the strokes in a picture, where they are few enough to be read.
+#![tactic(auto)]
+
 ghost use Rattle.std.specs.Prelude.{◌≡◌, ◌+◌, ◌*◌, ◌≤◌, length};
 ghost use Rattle.text.specs.Pages.{Put};
 ghost use Rattle.labels.specs.Labels.{middle, beside, number_text, label, label_texts, label_place, labels};

@@ -1,4 +1,6 @@
 // A pass over a ring in memory, which a side before has left there: every pass but the first.
+#![tactic(auto)]
+
 ghost use Rattle.std.specs.Prelude.{◌≡◌, false, ◌+◌, ◌*◌, ◌<◌, ◌≤◌, length};
 ghost use Rattle.grid.specs.Sides.{side_at};
 ghost use Rattle.grid.specs.Table.{WindowOnTable};

@@ -1,4 +1,6 @@
 // The layers of a picture, one over another: the strip, what was drawn, and what is kept of it.
+#![tactic(auto)]
+
 ghost use Rattle.std.specs.Prelude.{◌+◌, ◌*◌, ◌≤◌, length};
 ghost use Rattle.text.specs.Pages.{Put};
 ghost use Rattle.layers.specs.Layers.{round_path, strip_path, drawn_paths};

@@ -1,4 +1,6 @@
 // The legend of a sheet: a line for each renter, which says how many strips the renter has.
+#![tactic(auto)]
+
 ghost use Rattle.std.specs.Prelude.{◌+◌, ◌≤◌, length};
 ghost use Rattle.text.specs.Pages.{Put};
 ghost use Rattle.legend.specs.Legends.{strip_word, legend_line, legend};

@@ -1,4 +1,6 @@
 // The output that a line lends: how many numbers it has, what they hold before the call, and the list behind a window that goes with it.
+#![tactic(auto)]
+
 ghost use Rattle.std.specs.Prelude.{◌≡◌, ◌≤◌, length, drop};
 ghost use Rattle.words.specs.Words.{numeral, unsigned};
 ghost use Rattle.lending.specs.Lent.{most_room, Prepared, as_room, ReadList};

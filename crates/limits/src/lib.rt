@@ -1,4 +1,6 @@
 // A side of a window as a limit on x or on y, and which corners of a ring in memory lie inside it: the tests on which every pass decides.
+#![tactic(auto)]
+
 ghost use Rattle.std.specs.Prelude.{◌≡◌, true, false, ◌+◌, ◌*◌, ◌<◌, ◌≤◌, length};
 ghost use Rattle.whole.specs.Choice.{Decides};
 ghost use Rattle.whole.specs.Within.{Within};

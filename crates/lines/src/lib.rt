@@ -1,4 +1,6 @@
 // The lines of a listing: the strip, the strokes that are kept, and their count.
+#![tactic(auto)]
+
 ghost use Rattle.std.specs.Prelude.{◌+◌, ◌*◌, ◌≤◌, length};
 ghost use Rattle.text.specs.Pages.{Put};
 ghost use Rattle.lines.specs.Lines.{strip_line, row_at, row_lines, listed};

@@ -1,4 +1,6 @@
 // The bookkeeper's commands that only look at a strip book: the rows of its strips are put on a page.
+#![tactic(auto)]
+
 ghost use Rattle.std.specs.Prelude.{◌≡◌, ◌≤◌, length};
 ghost use Rattle.std.proofs.Math.Seq.{slice};
 ghost use Rattle.slots.specs.Slots.{slots_of};

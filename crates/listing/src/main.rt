@@ -1,4 +1,6 @@
 // Reads a drawing on standard input, and prints its strip, its kept strokes and their count.
+#![tactic(auto)]
+
 ghost use Rattle.std.specs.Prelude.{◌≡◌, ◌≤◌, length, take};
 ghost use Rattle.io.specs.Counts.{IsPrefixLen};
 ghost use Rattle.listing.specs.Listings.{Listing};

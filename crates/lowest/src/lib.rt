@@ -1,4 +1,6 @@
 // The lowest corner of a ring that stands in a memory, four numbers a corner: down from the first corner, whichever way that is.
+#![tactic(auto)]
+
 ghost use Rattle.std.specs.Prelude.{◌+◌, ◌*◌, ◌≤◌, length};
 ghost use Rattle.whole.specs.Choice.{Decides};
 ghost use Rattle.rings.specs.Points.{Before};

@@ -1,4 +1,6 @@
 // What a listing and a picture are both made of: labelled numbers, points and the count of kept strokes. The last byte is the caller's, as in `text`.
+#![tactic(auto)]
+
 ghost use Rattle.std.specs.Prelude.{[], ◌∷◌, ◌+◌, ◌≤◌, length};
 ghost use Rattle.text.specs.Pages.{Put};
 ghost use Rattle.marks.specs.Marks.{labelled, labelled_pair, point_mark, kept_mark};

@@ -1,4 +1,6 @@
 // Measures put into a text: a number of thousandths, and a length in millimetres.
+#![tactic(auto)]
+
 ghost use Rattle.std.specs.Prelude.{[], ◌∷◌, ◌+◌, ◌<◌, ◌≤◌, length};
 ghost use Rattle.text.specs.Pages.{Put};
 ghost use Rattle.measures.specs.Measures.{thousandths, decimals, millimetres};

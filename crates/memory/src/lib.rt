@@ -1,4 +1,6 @@
 // A ring of corners in memory, four numbers a corner: corners put, read, copied and moved. The fourth number, the tag, is kept and never looked at here.
+#![tactic(auto)]
+
 ghost use Rattle.std.specs.Prelude.{◌≡◌, ◌+◌, ◌*◌, ◌≤◌, length};
 ghost use Rattle.memory.specs.Memory.{point_of, point_in};
 ghost use Rattle.memory.specs.Tagged.{tag_in, put_at, Brought};

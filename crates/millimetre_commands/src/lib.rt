@@ -1,4 +1,6 @@
 // The commands of the intake: mm2, mm4 and back.
+#![tactic(auto)]
+
 ghost use Rattle.std.specs.Prelude.{◌≡◌, ◌+◌, ◌≤◌, length, drop};
 ghost use Rattle.replies.specs.Replies.{Tells};
 ghost use Rattle.intake.specs.Millimetres.{ToMillimetres};

@@ -1,4 +1,6 @@
 // A line of the bookkeeper's text, read as an order to the strip book.
+#![tactic(auto)]
+
 ghost use Rattle.std.specs.Prelude.{◌≡◌, ◌≤◌, eqb, length};
 ghost use Rattle.text.specs.Pages.{ascii};
 ghost use Rattle.pen_line.specs.Lines.{start_of, spoken};

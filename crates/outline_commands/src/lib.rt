@@ -1,4 +1,6 @@
 // The commands of an outline: outline.
+#![tactic(auto)]
+
 ghost use Rattle.std.specs.Prelude.{◌≡◌, ◌≤◌, length, drop};
 ghost use Rattle.words.specs.Words.{numeral, unsigned};
 ghost use Rattle.replies.specs.Replies.{Tells};

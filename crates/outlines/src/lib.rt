@@ -1,4 +1,6 @@
 // An outline against a rectangle, in any of the 24 side orders: the ring of what they have in common.
+#![tactic(auto)]
+
 ghost use Rattle.std.specs.Prelude.{◌≡◌, true, List, ◌+◌, ◌*◌, ◌≤◌, ℤ, length};
 ghost use Rattle.whole.specs.Choice.{Decides};
 ghost use Rattle.grid.specs.Calls.{answered_by};

@@ -1,4 +1,6 @@
 // What the desk writes: its replies are put on a page, each on a line.
+#![tactic(auto)]
+
 ghost use Rattle.std.specs.Prelude.{[], ◌∷◌, ◌+◌, ◌*◌, ◌≤◌, length};
 ghost use Rattle.text.specs.Pages.{Put, integer};
 ghost use Rattle.output.specs.Written.{bits_text, field_text, fields_text, lent_text, lent_line, reply_line};

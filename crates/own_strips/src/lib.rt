@@ -1,4 +1,6 @@
 // A renter's own strips: for each, in slot order, its slot and its four numbers, into a lent output.
+#![tactic(auto)]
+
 ghost use Rattle.std.specs.Prelude.{◌≡◌, List, ℕ, ◌+◌, ◌≤◌, ℤ, length};
 ghost use Rattle.std.proofs.Math.Seq.{slice};
 ghost use Rattle.grid.specs.Calls.{written, refused_by};

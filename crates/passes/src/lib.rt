@@ -1,4 +1,6 @@
 // Cutting an outline along the sides of a window, one pass a side, in the order given. The window is its four sides' numbers, each at its side's place.
+#![tactic(auto)]
+
 ghost use Rattle.std.specs.Prelude.{◌≡◌, false, ℕ, ◌+◌, ◌*◌, ◌<◌, ◌≤◌, length, get_or};
 ghost use Rattle.grid.specs.Sides.{place_of};
 ghost use Rattle.grid.specs.Table.{WindowOnTable};

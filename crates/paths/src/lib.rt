@@ -1,4 +1,6 @@
 // What the paths of a picture are made of: the start, which says how wide the line is, and strokes.
+#![tactic(auto)]
+
 ghost use Rattle.std.specs.Prelude.{◌+◌, ◌*◌, ◌≤◌, length};
 ghost use Rattle.text.specs.Pages.{Put};
 ghost use Rattle.paths.specs.Paths.{path_start, stroke_path, stroke_paths};

@@ -1,4 +1,6 @@
 // The way in by hand: reads lines of text from standard input, and writes the drawing that they tell to standard output.
+#![tactic(auto)]
+
 ghost use Rattle.std.specs.Prelude.{◌+◌, ◌≤◌, ◌≡◌, length};
 ghost use Rattle.pen.specs.Texts.{most_text, Becomes};
 ghost use Rattle.pen.specs.Workers.{Counted};

@@ -1,4 +1,6 @@
 // A line of the pen's text: the record that it asks for, put on a page.
+#![tactic(auto)]
+
 ghost use Rattle.std.specs.Prelude.{◌+◌, ◌*◌, ◌≤◌, ◌≡◌, length};
 ghost use Rattle.pen_line.specs.Lines.{words_end, spoken};
 ghost use Rattle.pen_line.specs.Records.{LineTaken};

@@ -1,4 +1,6 @@
 // How far an outline reaches: the rectangle round its corners tells most outlines that no side cuts, and most that no side leaves.
+#![tactic(auto)]
+
 ghost use Rattle.std.specs.Prelude.{◌≡◌, true, ◌≤◌, length};
 ghost use Rattle.whole.specs.Choice.{Decides};
 ghost use Rattle.grid.specs.Sides.{Side, Clear, Beyond};

@@ -1,4 +1,6 @@
 // Why a line is no call. It is asked of such lines only, which are few, so it reads them anew.
+#![tactic(auto)]
+
 use arguments::{
     BACK, BATCH, CB, CS, DRAW, ENTER, LB, LONGEST, MM2, MM4, OUTLINE, RELEASE, STRIPS, TOUCHES, XP,
 };

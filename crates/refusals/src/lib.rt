@@ -1,4 +1,6 @@
 // What each refusal means, in a sentence. A new refusal gets its words here, and beside its number in include/gerlyantu.h; tests/linked compares.
+#![tactic(auto)]
+
 ghost use Rattle.std.specs.Prelude.{◌+◌, ◌≤◌, length};
 ghost use Rattle.text.specs.Pages.{Put};
 ghost use Rattle.refusals.specs.Words.{sentence, sentence_from12, refusal_words};

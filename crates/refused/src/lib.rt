@@ -1,4 +1,6 @@
 // The picture of a refusal: its number and place, and what it means in a sentence.
+#![tactic(auto)]
+
 ghost use Rattle.std.specs.Prelude.{◌+◌, ◌≤◌, length};
 ghost use Rattle.text.specs.Pages.{Put};
 ghost use Rattle.refused.specs.Refused.{refused_title, refused_picture};

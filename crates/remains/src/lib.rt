@@ -1,4 +1,6 @@
 // What a side leaves of a ring in memory, and the two steps that every pass takes there.
+#![tactic(auto)]
+
 ghost use Rattle.std.specs.Prelude.{◌≡◌, ◌+◌, ◌*◌, ◌<◌, ◌≤◌, eqb, length};
 ghost use Rattle.whole.specs.Choice.{if◌then◌else◌};
 ghost use Rattle.grid.specs.Sides.{side_at};

@@ -1,4 +1,6 @@
 // All strips of a renter in a sheet: counted, and drawn in the renter's colours.
+#![tactic(auto)]
+
 ghost use Rattle.std.specs.Prelude.{◌≡◌, ◌+◌, ◌<◌, ◌≤◌, length};
 ghost use Rattle.text.specs.Pages.{Put};
 ghost use Rattle.renter_art.specs.RenterArt.{strip_count, slot_art, slot_arts, look, group_start, renter_art};

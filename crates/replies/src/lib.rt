@@ -1,4 +1,6 @@
 // A reply: what the desk says to one line, as a value. A command makes it; how it is put on a line stands in `output`.
+#![tactic(auto)]
+
 ghost use Rattle.std.specs.Prelude.{◌+◌, ◌≤◌, ◌<◌};
 ghost use Rattle.replies.specs.Replies.{none, ◌and◌, number, float, plain, with_window, field_of, said, Says};
 

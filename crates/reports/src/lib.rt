@@ -1,4 +1,5 @@
 // What is reported of a drawing, whatever the report looks like. The definition is in specs/, its laws are in proofs/.
+#![tactic(auto)]
 
 // A report at the front of a page: where it ends, and the refusal's number and place, both 0 where the drawing was cut.
 #[derive(Drop)]

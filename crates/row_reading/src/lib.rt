@@ -1,5 +1,7 @@
 // A strip's line, found in a text. Its numbers are read first, whatever else stands there; then the line that a strip with these numbers has is made
 // anew and compared, so that what is found is that line and no other.
+#![tactic(auto)]
+
 ghost use Rattle.std.specs.Prelude.{◌≡◌, ◌≤◌, ◌<◌, length};
 ghost use Rattle.row_reading.specs.Rows.{RowAt};
 ghost use Rattle.row_reading.specs.Workers.{NumbersAt, RowOf, EndOf};

@@ -1,4 +1,6 @@
 // The ruler below a picture: a bar in ten parts, and the length that it shows.
+#![tactic(auto)]
+
 ghost use Rattle.std.specs.Prelude.{◌≡◌, ◌+◌, ◌≤◌, length};
 ghost use Rattle.text.specs.Pages.{Put};
 ghost use Rattle.ruler.specs.Rulers.{bar_length, bar_words, bar, ruler};

@@ -1,4 +1,6 @@
 // Reads the text of a strip book on standard input, and writes the sheet as an SVG: the table with the booked strips of both renters.
+#![tactic(auto)]
+
 ghost use Rattle.std.specs.Prelude.{◌≡◌, ◌≤◌, length};
 ghost use Rattle.bookkeeping.specs.Runs.{empty_book};
 ghost use Rattle.sheet.specs.Sheets.{Draws};

@@ -1,4 +1,6 @@
 // The sheet of a strip book, as an SVG: the table with the strips of both renters, a ruler and a legend.
+#![tactic(auto)]
+
 ghost use Rattle.std.specs.Prelude.{◌≡◌, ◌+◌, ◌≤◌, length};
 ghost use Rattle.text.specs.Pages.{Put};
 ghost use Rattle.sheet_art.specs.SheetArt.{table, sheet_head, glass, sheet_foot, sheet};

@@ -1,5 +1,7 @@
 // A sitting of the bookkeeper: the book is taken in hand and read from its file, his lines are answered, and a book that a line has changed is on disk
 // before that line's answer is written.
+#![tactic(auto)]
+
 ghost use Rattle.std.specs.Prelude.{◌≡◌, ◌≤◌, length};
 ghost use Rattle.book_text.specs.Texts.{Sound};
 ghost use Rattle.counter.specs.Serving.{Serves};

@@ -1,4 +1,6 @@
 // What a line of the pen's text that is not taken may have meant: the slips of the hand that are known.
+#![tactic(auto)]
+
 ghost use Rattle.std.specs.Prelude.{◌≡◌, ◌≤◌, length, get_or};
 ghost use Rattle.pen_line.specs.Lines.{spoken};
 ghost use Rattle.slips.specs.Slips.{has_mark, unseen, is_capital, of_digits, of_plain, of_number, of_numbers, of_line};

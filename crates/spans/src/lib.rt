@@ -1,4 +1,6 @@
 // What a window keeps of a stroke, as a span of fractions: cut by one condition after the other, and brought to lowest terms once, at the end.
+#![tactic(auto)]
+
 ghost use Rattle.std.specs.Prelude.{◌≡◌};
 ghost use Rattle.whole.specs.Within.{Within};
 ghost use Rattle.fraction.specs.Fraction.{LowestOf, less_than};

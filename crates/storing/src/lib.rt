@@ -1,4 +1,6 @@
 // A strip book in its file, which is in hand: loaded from there, and saved.
+#![tactic(auto)]
+
 ghost use Rattle.std.specs.Prelude.{◌≡◌, true, ◌≤◌, length};
 ghost use Rattle.bookkeeping.specs.Runs.{empty_book};
 ghost use Rattle.book_text.specs.Texts.{Sound, book_text};

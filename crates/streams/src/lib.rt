@@ -1,5 +1,7 @@
 // Standard input, output and error, and files that are open. Every program reads and writes through here: what is not ready yet is waited for, and
 // what fails is told in a line on standard error.
+#![tactic(auto)]
+
 ghost use Rattle.std.specs.Prelude.{◌≡◌, ◌≤◌, length};
 ghost use Rattle.io.specs.Counts.{IsPrefixLen};
 

@@ -1,4 +1,6 @@
 // A strip in a sheet: its name, its sides and its number.
+#![tactic(auto)]
+
 ghost use Rattle.std.specs.Prelude.{◌≡◌, ◌+◌, ◌≤◌, length};
 ghost use Rattle.text.specs.Pages.{Put};
 ghost use Rattle.strip_art.specs.StripArt.{lesser, number_size, strip_name, number_place, strip_number, strip_art};

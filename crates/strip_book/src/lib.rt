@@ -1,5 +1,7 @@
 // The strip book: a strip is tested and entered in one call, and a slot is released. The book is a table that the caller lends; each of its two
 // renters has a half of it, and is named in each call.
+#![tactic(auto)]
+
 ghost use Rattle.std.specs.Prelude.{◌≡◌, true, length};
 ghost use Rattle.grid.specs.Refusals.{refuse};
 ghost use Rattle.strip_book.specs.Books.{used_at, refused_booking, BookStrip, release_answer, ReleaseSlot};

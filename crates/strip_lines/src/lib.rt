@@ -1,4 +1,6 @@
 // A strip's line, or row, as the book's file and the bookkeeper's answers have it: 0 3 0 0 640 320 = 0 0 20 10 mm.
+#![tactic(auto)]
+
 ghost use Rattle.std.specs.Prelude.{◌+◌, ◌≤◌, ◌<◌, length};
 ghost use Rattle.text.specs.Pages.{Put};
 ghost use Rattle.grid.specs.Table.{sides};

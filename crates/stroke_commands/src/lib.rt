@@ -1,4 +1,6 @@
 // The commands of one stroke: lb, cs, xp and cb.
+#![tactic(auto)]
+
 ghost use Rattle.std.specs.Prelude.{◌+◌, ◌≤◌};
 ghost use Rattle.replies.specs.Replies.{said, Says};
 ghost use Rattle.stroke_commands.specs.Lines.{with_part, with_sides, part_fields, stroke_fields, Lb, Cs, Xp, Cb};

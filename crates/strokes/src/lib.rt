@@ -1,4 +1,6 @@
 // Strokes against a rectangle by the Liang-Barsky rule. `cuts` stands on the same workers and has the points alone.
+#![tactic(auto)]
+
 ghost use Rattle.std.specs.Prelude.{◌≡◌};
 ghost use Rattle.grid.specs.Table.{WindowOnTable, StrokeOnTable};
 ghost use Rattle.strokes.specs.Strokes.{Clipped, Clipping, blank as Strokes·blank};

@@ -1,4 +1,6 @@
 // What standard error says: why a line is refused or no call, for the first ten such lines; and the lines there are, for who asks.
+#![tactic(auto)]
+
 use arguments::HELP;
 use reasons::{Kind, Reason};
 use replies::Reply;

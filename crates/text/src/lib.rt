@@ -1,4 +1,6 @@
 // Text: words and numbers put one after another into a page that the caller lends.
+#![tactic(auto)]
+
 ghost use Rattle.std.specs.Prelude.{◌≡◌, [], ◌∷◌, ◌++◌, ◌+◌, ◌≤◌, length, drop};
 ghost use Rattle.text.specs.Runs.{run, is, is_not, is_in};
 ghost use Rattle.text.specs.Pages.{Put, big_endian, natural, integer, refusal};

@@ -1,5 +1,7 @@
 // An outline that lies in the window whole: its own corners, four numbers each. The walk down is that of `lowest`, but it compares the corners'
 // numbers as they are, without products: so it stands here once more.
+#![tactic(auto)]
+
 ghost use Rattle.std.specs.Prelude.{◌≡◌, ◌+◌, ◌*◌, ◌%◌, ◌≤◌, length};
 ghost use Rattle.whole.specs.Choice.{Decides};
 ghost use Rattle.rings.specs.Points.{Before};

@@ -1,4 +1,6 @@
 // What a line of the bookkeeper's text should have been, in a sentence.
+#![tactic(auto)]
+
 ghost use Rattle.std.specs.Prelude.{◌+◌, ◌≤◌, length};
 ghost use Rattle.text.specs.Pages.{Put};
 ghost use Rattle.usage.specs.Usage.{fault_words};

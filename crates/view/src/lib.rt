@@ -1,4 +1,6 @@
 // What a picture must show: the least rectangle that holds the strip and every stroke.
+#![tactic(auto)]
+
 ghost use Rattle.std.specs.Prelude.{◌≡◌, ◌*◌, ◌≤◌, ◌/◌, length};
 ghost use Rattle.view.specs.Views.{around, reach, apart, width, height, extent};
 

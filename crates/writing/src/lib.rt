@@ -1,4 +1,6 @@
 // The numbers of a ring that stands in a memory, four a corner: two fractions in lowest terms, given from the lowest corner on.
+#![tactic(auto)]
+
 ghost use Rattle.std.specs.Prelude.{◌+◌, ◌*◌, ◌<◌, ◌≤◌, pos, length, ◌<ℤ◌};
 ghost use Rattle.rings.specs.Lists.{All};
 ghost use Rattle.rings.specs.Points.{Proper};
