@@ -32,6 +32,7 @@ module _ (h : Line) where
     hn : Out h n
 
   leave : (f : Point) (s : List Point) → In h f → Any (Out h) s → Leaving (f ∷ s)
+  leave f [] hf x = elim x [ ]
   leave f (g ∷ s) hf (here q) = record { front = []; l = f; n = g; back = s; is = refl; hl = hf; hn = q }
   leave f (g ∷ s) hf (there a) = go (in_out g) (λ hg. leave g s hg a)
     where

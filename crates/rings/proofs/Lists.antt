@@ -61,7 +61,7 @@ module _ {A : Type 0} where
 
     pub all_of : {xs : List A} → ((x : A) → P x) → All P xs
     all_of {xs = []} f = ∅
-    all_of {xs = x ∷ xs} f = f x ◂ all_of f
+    all_of {xs = x ∷ xs} f = f x ◂ all_of {xs = xs} f
 
     -- what holds of each member in its place
     pub all_at : (r : List A) → ((xs : List A) (x : A) (ys : List A) → r ≡ xs ++ (x ∷ ys) → P x) → All P r
@@ -131,11 +131,11 @@ module _ {A : Type 0} where
 
     pub walk_left : {a b z : A} (xs ys : List A) → Walk R a (xs ++ (b ∷ ys)) z → Walk R a xs b
     walk_left [] ys (step r w) = last r
-    walk_left (x ∷ xs) ys (step r w) = step r (walk_left xs ys w)
+    walk_left {a = a} (x ∷ xs) ys (step r w) = step r (walk_left {a = x} xs ys w)
 
     pub walk_right : {a b z : A} (xs : List A) {ys : List A} → Walk R a (xs ++ (b ∷ ys)) z → Walk R b ys z
     walk_right [] (step r w) = w
-    walk_right (x ∷ xs) (step r w) = walk_right xs w
+    walk_right {a = a} (x ∷ xs) (step r w) = walk_right {a = x} xs w
 
     pub edges_turn : (xs ys : List A) → Edges R (xs ++ ys) → Edges R (ys ++ xs)
     edges_turn [] ys e = subst (Edges R) (sym (append-nil ys)) e
@@ -147,7 +147,7 @@ module _ {A : Type 0} where
 
     pub walk_of : {a z : A} {xs : List A} → ((x y : A) → R x y) → Walk R a xs z
     walk_of {xs = []} f = last (f _ _)
-    walk_of {xs = x ∷ xs} f = step (f _ _) (walk_of f)
+    walk_of {a = a} {xs = x ∷ xs} f = step (f _ _) (walk_of {a = x} {xs = xs} f)
 
     pub edges_of : {xs : List A} → ((x y : A) → R x y) → Edges R xs
     edges_of {xs = []} f = nothing
@@ -177,7 +177,7 @@ module _ {A : Type 0} where
   -- ---- parts
   pub part_refl : {xs : List A} → xs ⊑ xs
   part_refl {xs = []} = done
-  part_refl {xs = x ∷ xs} = take part_refl
+  part_refl {xs = x ∷ xs} = take (part_refl {xs = xs})
 
   pub part_right : {xs : List A} (zs : List A) {ys : List A} → xs ⊑ ys → xs ⊑ (zs ++ ys)
   part_right [] s = s
