@@ -19,23 +19,23 @@ Product x y = Reads w64 (to_z w64 (of_z w64 x) *ℤ to_z w64 (of_z w64 y)) (x *�
 product : (x y : ℤ) → SFits w64 x → SFits w64 y → Within 9223372036854775807 (x *ℤ y) → Product x y
 product x y p q h = reads (λ i. to_z-of_z p i *ℤ to_z-of_z q i) (fits_abs (omega (arith, within_abs h)))
 
-one : (c : tie.After-struct-told2) → let s = c.before.before.before.before in Product s.args.f.num s.args.g.den
+one : (c : tie.After-struct_told-2-1) → let s = c.before.before.before.before in Product s.args.f.num s.args.g.den
 one c =
     let s = c.before.before.before.before in
-    product s.args.f.num s.args.g.den (record { sfits = c.before.before.struct_told.given.0.1 })
-    (record { sfits = c.struct-told2.given.1.0.1 }) s.requires.one
+    product s.args.f.num s.args.g.den (record { sfits = c.before.before.struct_told-1.given.0.1 })
+    (record { sfits = c.struct_told-2-1.given.1.0.1 }) s.requires.one
 
-other : (c : tie.After-struct-told4) → let s = c.before.before.before.before.before.before.before.before in Product s.args.g.num s.args.f.den
+other : (c : tie.After-struct_told-4-1) → let s = c.before.before.before.before.before.before.before.before in Product s.args.g.num s.args.f.den
 other c =
     let s = c.before.before.before.before.before.before.before.before in
-    product s.args.g.num s.args.f.den (record { sfits = c.before.before.struct-told3.given.0.1 })
-    (record { sfits = c.struct-told4.given.1.0.1 }) s.requires.other
+    product s.args.g.num s.args.f.den (record { sfits = c.before.before.struct_told-3-1.given.0.1 })
+    (record { sfits = c.struct_told-4-1.given.1.0.1 }) s.requires.other
 
-mul-result : tie.Need-overflow-mul-result
-mul-result c = (one c).ranges
+mul-result : tie.Need-overflow_mul-result
+mul-result c = (one c).fits
 
-mul-result-2 : tie.Need-overflow-mul-result-2
-mul-result-2 c = (other c).ranges
+mul-result-2 : tie.Need-overflow_mul-result-2
+mul-result-2 c = (other c).fits
 
 returns : tie.Need-returns
 unfolding less_than

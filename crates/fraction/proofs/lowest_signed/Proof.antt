@@ -61,16 +61,16 @@ module _ (s : tie.Start) where
   d = s.args.d
 
   quotient : Reads w32 (quot_z (to_z w32 (of_z w32 n)) (to_z w32 (of_z w32 d))) (quot_z n d)
-  quotient = reads (λ i. quot_z (to_z-of_z s.fits.n i) (to_z-of_z s.fits.d i)) (quot_by n d s.pre s.fits.n)
+  quotient = reads (λ i. quot_z (to_z-of_z s.ranges.n i) (to_z-of_z s.ranges.d i)) (quot_by n d s.requires s.ranges.n)
 
   rest : Reads w32 (rem_z (to_z w32 (of_z w32 n)) (to_z w32 (of_z w32 d))) (rem_z n d)
-  rest = reads (λ i. rem_z (to_z-of_z s.fits.n i) (to_z-of_z s.fits.d i)) (rem_fits n d s.pre s.fits.d)
+  rest = reads (λ i. rem_z (to_z-of_z s.ranges.n i) (to_z-of_z s.ranges.d i)) (rem_fits n d s.requires s.ranges.d)
 
   wide_quotient : Reads w64 (to_z w32 (of_z w32 (quot_z (to_z w32 (of_z w32 n)) (to_z w32 (of_z w32 d))))) (quot_z n d)
-  wide_quotient = wide quotient.is (quot_by n d s.pre s.fits.n)
+  wide_quotient = wide quotient.is (quot_by n d s.requires s.ranges.n)
 
   wide_rest : Reads w64 (to_z w32 (of_z w32 (rem_z (to_z w32 (of_z w32 n)) (to_z w32 (of_z w32 d))))) (rem_z n d)
-  wide_rest = wide rest.is (rem_fits n d s.pre s.fits.d)
+  wide_rest = wide rest.is (rem_fits n d s.requires s.ranges.d)
 
   -- without a rest, the quotient over 1
   whole_number : rem_z n d ≡ pos 0 → LowestOf n d (record { num = quot_z n d; den = pos 1 })
@@ -80,25 +80,25 @@ module _ (s : tie.Start) where
         same = ring (d ∷ quot_z n d ∷ []) (x1 ⊗ x0) ((x0 ⊗ x1 ⊕ con (pos 0)) ⊗ con (pos 1)) tt ∙ ap (λ (z : ℤ). z *ℤ pos 1) (sym is);
       }
 
-rem-rest : tie.Need-nonzero-rem-rest
-rem-rest c = (positive_bits (d c) c.requires, (quotient c).ranges)
+rem-rest : tie.Need-nonzero_rem-rest
+rem-rest c = (positive_bits (d c) c.requires, (quotient c).fits)
 
-div-t6 : tie.Need-nonzero-div-t6
+div-t6 : tie.Need-nonzero_div-result
 div-t6 c = (positive_bits (d c.before) c.before.requires, (quotient c.before).fits)
 
-cast-t7 : tie.Need-overflow-cast-t7
+cast-t7 : tie.Need-overflow_cast-result
 cast-t7 c = (wide_quotient c.before).fits
 
-returns : tie.Need-returns
+returns : tie.Need-returns-then-rest-eq0
 returns c =
     let s = c.before in
     subst (λ (z : ℤ). LowestOf (n s) (d s) (record { num = z; den = pos 1 })) (sym (wide_quotient s).is)
-    (whole_number s (sym (rest s).is ∙ ap (to_z w32) c.if1.true))
+    (whole_number s (sym (rest s).is ∙ ap (to_z w32) c.if-rest-eq0.true))
 
-cast-common : tie.Need-overflow-cast-common
+cast-common : tie.Need-overflow_cast-d
 cast-common c = let s = c.before in cast_unsigned w32 s.ranges.d (<→≤ s.requires) w32 (abs_small (d s) s.ranges.d)
 
-cast-size : tie.Need-overflow-cast-size
+cast-size : tie.Need-overflow_cast-rest
 cast-size c = (wide_rest c.before).fits
 
 size-requires : tie.Need-size-requires
@@ -108,27 +108,27 @@ size-requires c κs = search rules
 sized : (c : tie.After-size) → let s = c.before.before in c.size.result ≡ nat_abs (n s) % nat_abs (d s)
 sized c = let s = c.before.before in c.size.ensures ∙ ap nat_abs (wide_rest s).is ∙ abs_rem (n s) (d s)
 
-cast-common-2 : tie.Need-overflow-cast-common-2
+cast-common-2 : tie.Need-overflow_cast-size
 cast-common-2 c = record { fits = rw (sized c) (let s = c.before.before in omega (arith, mod-le (nat_abs (n s)) (nat_abs (d s)), abs_small (n s) s.ranges.n)) }
 
-common-requires : tie.Need-common-requires
+common-requires : tie.Need-common-shared-requires
 common-requires c κs = search rules
 
 -- ---- divided by the greatest common divisor
-module _ (c : tie.After-common) where
+module _ (c : tie.After-common-shared) where
   abbrev start : tie.Start
   start = c.before.before.before
 
   abbrev g : ℕ
-  g = c.common.result
+  g = c.common-shared.result
 
   reduced : Reduction (n start) (d start) g
-  reduced = reduction (n start) (d start) start.pre
+  reduced = reduction (n start) (d start) start.requires
       (same_common (same_step (same_start (nat_abs (n start)) (nat_abs (d start))))
-      (subst₂ (λ (a b : ℕ). GreatestCommon a b g) (ap nat_abs (to_z-of_z start.fits.d)) (sized c.before) c.common.ensures))
+      (subst₂ (λ (a b : ℕ). GreatestCommon a b g) (ap nat_abs (to_z-of_z start.ranges.d)) (sized c.before) c.common-shared.ensures))
 
   divisor_fits : SFits w32 (pos g)
-  divisor_fits = let l = reduced.at_most in let h = fits_high start.fits.d in record { sfits = omega zarith }
+  divisor_fits = let l = reduced.at_most in let h = fits_high start.ranges.d in record { sfits = omega zarith }
 
   by_divisor : {x : ℤ} → SFits w32 x → Reads w32 (quot_z (to_z w32 (of_z w32 x)) (to_z w32 g)) (quot_z x (pos g))
   by_divisor {x} f = reads (λ i. quot_z (to_z-of_z f i) (to_z_pos w32 {n = g} divisor_fits.sfits i)) (quot_fits x g f)
@@ -140,36 +140,36 @@ module _ (c : tie.After-common) where
   answered : {a b : ℤ} → a ≡ quot_z (n start) (pos g) → b ≡ quot_z (d start) (pos g) → LowestOf (n start) (d start) (record { num = a; den = b })
   answered p q = subst₂ (λ (a b : ℤ). LowestOf (n start) (d start) (record { num = a; den = b })) (sym p) (sym q) reduced.answer
 
-cast-shared : tie.Need-overflow-cast-shared
+cast-shared : tie.Need-overflow_cast-shared
 cast-shared c = divisor_fits c
 
-cast-t13 : tie.Need-overflow-cast-t13
-cast-t13 c = let f = (start c.before).fits.n in (wide (to_z-of_z f) f).fits
+cast-t13 : tie.Need-overflow_cast-result-then-shared-eq1
+cast-t13 c = let f = (start c.before).ranges.n in (wide (to_z-of_z f) f).fits
 
-cast-t14 : tie.Need-overflow-cast-t14
-cast-t14 c = let f = (start c.before).fits.d in (wide (to_z-of_z f) f).fits
+cast-t14 : tie.Need-overflow_cast-result-then-shared-eq1-2
+cast-t14 c = let f = (start c.before).ranges.d in (wide (to_z-of_z f) f).fits
 
 -- by 1 nothing changes
-by_one : (c : tie.Then2) {x : ℤ} → SFits w32 x → to_z w64 (of_z w64 (to_z w32 (of_z w32 x))) ≡ quot_z x (pos (g c.before))
-by_one c {x} f = (wide (to_z-of_z f) f).is ∙ sym (quot_one x) ∙ ap (λ (k : ℕ). quot_z x (pos k)) (sym c.if2.true)
+by_one : (c : tie.Then-shared-eq1) {x : ℤ} → SFits w32 x → to_z w64 (of_z w64 (to_z w32 (of_z w32 x))) ≡ quot_z x (pos (g c.before))
+by_one c {x} f = (wide (to_z-of_z f) f).is ∙ sym (quot_one x) ∙ ap (λ (k : ℕ). quot_z x (pos k)) (sym c.if-shared-eq1.true)
 
-returns-2 : tie.Need-returns-2
-returns-2 c = let f = (start c.before).fits in answered c.before (by_one c f.n) (by_one c f.d)
+returns-2 : tie.Need-returns-then-shared-eq1
+returns-2 c = let f = (start c.before).ranges in answered c.before (by_one c f.n) (by_one c f.d)
 
-div-t15 : tie.Need-nonzero-div-t15
-div-t15 c = ((reduced c.before).positive, (by_divisor c.before (start c.before).fits.n).fits)
+div-t15 : tie.Need-nonzero_div-result-2
+div-t15 c = ((reduced c.before).positive, (by_divisor c.before (start c.before).ranges.n).fits)
 
-cast-t11 : tie.Need-overflow-cast-t11
-cast-t11 c = (wide_by c.before (start c.before).fits.n).fits
+cast-t11 : tie.Need-overflow_cast-result-2
+cast-t11 c = (wide_by c.before (start c.before).ranges.n).fits
 
-div-t16 : tie.Need-nonzero-div-t16
-div-t16 c = ((reduced c.before).positive, (by_divisor c.before (start c.before).fits.d).fits)
+div-t16 : tie.Need-nonzero_div-result-3
+div-t16 c = ((reduced c.before).positive, (by_divisor c.before (start c.before).ranges.d).fits)
 
-cast-t17 : tie.Need-overflow-cast-t17
-cast-t17 c = (wide_by c.before (start c.before).fits.d).fits
+cast-t17 : tie.Need-overflow_cast-result-3
+cast-t17 c = (wide_by c.before (start c.before).ranges.d).fits
 
-returns-3 : tie.Need-returns-3
-returns-3 c = let f = (start c.before).fits in answered c.before (wide_by c.before f.n).is (wide_by c.before f.d).is
+returns-3 : tie.Need-returns
+returns-3 c = let f = (start c.before).ranges in answered c.before (wide_by c.before f.n).is (wide_by c.before f.d).is
 
 pub lowest_signed_spec : {M : Type 1} → statement M
 lowest_signed_spec =

@@ -15,50 +15,50 @@ use Rattle.fraction.proofs.LowestTerms.{Reduction, reduction}
 use Rattle.fraction.proofs.lowest_small.Statement.{statement}
 use Rattle.fraction.proofs.lowest_small.Tie as tie
 
-reduced : (c : tie.After-common) → Reduction (pos c.before.args.n) (pos c.before.args.d) c.common.result
-reduced c = reduction (pos c.before.args.n) (pos c.before.args.d) (let h = c.before.requires in omega zarith) (common_swap c.common.ensures)
+reduced : (c : tie.After-common-divisor) → Reduction (pos c.before.args.n) (pos c.before.args.d) c.common-divisor.result
+reduced c = reduction (pos c.before.args.n) (pos c.before.args.d) (let h = c.before.requires in omega zarith) (common_swap c.common-divisor.ensures)
 
 -- a number of 32 bits is itself in 64
 wide : {k : ℕ} → k < 2 ^ 32 → to_z w64 k ≡ pos k
 wide {k} h = to_z_pos w64 (omega arith)
 
-common-requires : tie.Need-common-requires
+common-requires : tie.Need-common-divisor-requires
 common-requires c κs = search rules
 
-cast-t5 : tie.Need-overflow-cast-t5
+cast-t5 : tie.Need-overflow_cast-result
 cast-t5 c = search rules
 
-cast-t6 : tie.Need-overflow-cast-t6
+cast-t6 : tie.Need-overflow_cast-result-then-divisor-eq1
 cast-t6 c = search rules
 
 -- what is answered, once its two numbers are the quotients
-answered : (c : tie.After-common) {a b : ℤ} → let s = c.before.args in
-    a ≡ pos (s.n / c.common.result) → b ≡ pos (s.d / c.common.result) → LowestOf (pos s.n) (pos s.d) (record { num = a; den = b })
+answered : (c : tie.After-common-divisor) {a b : ℤ} → let s = c.before.args in
+    a ≡ pos (s.n / c.common-divisor.result) → b ≡ pos (s.d / c.common-divisor.result) → LowestOf (pos s.n) (pos s.d) (record { num = a; den = b })
 answered c p q = subst₂ (λ (a b : ℤ). LowestOf (pos c.before.args.n) (pos c.before.args.d) (record { num = a; den = b })) (sym p) (sym q) (reduced c).answer
 
-by_one : (c : tie.Then1) {k : ℕ} → k < 2 ^ 32 → to_z w64 k ≡ pos (k / c.before.common.result)
-by_one c {k} h = wide h ∙ ap pos (sym (ap (λ (g : ℕ). k / g) c.if1.true ∙ div-one k))
+by_one : (c : tie.Then-divisor-eq1) {k : ℕ} → k < 2 ^ 32 → to_z w64 k ≡ pos (k / c.before.common-divisor.result)
+by_one c {k} h = wide h ∙ ap pos (sym (ap (λ (g : ℕ). k / g) c.if-divisor-eq1.true ∙ div-one k))
 
-returns : tie.Need-returns
+returns : tie.Need-returns-then-divisor-eq1
 returns c = let s = c.before.before in answered c.before (by_one c s.ranges.n.fits) (by_one c s.ranges.d.fits)
 
 -- a quotient is no larger
-small : (c : tie.Else1) {k : ℕ} → k < 2 ^ 32 → k / c.before.common.result < 2 ^ 32
-small c {k} h = omega (arith, div-le_self k c.before.common.result)
+small : (c : tie.Else-divisor-eq1) {k : ℕ} → k < 2 ^ 32 → k / c.before.common-divisor.result < 2 ^ 32
+small c {k} h = omega (arith, div-le_self k c.before.common-divisor.result)
 
-div-t7 : tie.Need-nonzero-div-t7
+div-t7 : tie.Need-nonzero_div-result
 div-t7 c = (reduced c.before).positive
 
-cast-t8 : tie.Need-overflow-cast-t8
+cast-t8 : tie.Need-overflow_cast-result-2
 cast-t8 c = record { sfits = omega (arith, small c c.before.before.ranges.n.fits) }
 
-div-t9 : tie.Need-nonzero-div-t9
+div-t9 : tie.Need-nonzero_div-result-2
 div-t9 c = (reduced c.before).positive
 
-cast-t10 : tie.Need-overflow-cast-t10
+cast-t10 : tie.Need-overflow_cast-result-3
 cast-t10 c = record { sfits = omega (arith, small c c.before.before.ranges.d.fits) }
 
-returns-2 : tie.Need-returns-2
+returns-2 : tie.Need-returns
 returns-2 c = let s = c.before.before in answered c.before (wide (small c s.ranges.n.fits)) (wide (small c s.ranges.d.fits))
 
 pub lowest_small_spec : {M : Type 1} → statement M

@@ -50,25 +50,25 @@ bounds c =
     let p = c.requires in
     (p.0, (p.1.0, (abs_within (omega (arith, p.1.1.1, p.1.1.0.1)), (abs_within p.1.1.0.1, tt))))
 
-add-lifted : tie.Need-overflow-add-lifted
+add-lifted : tie.Need-overflow_add-lifted
 add-lifted c = need β (env c) (bounds c) high tt
 
-cast-lifted : tie.Need-overflow-cast-lifted
+cast-lifted : tie.Need-overflow_cast-lifted
 cast-lifted c = search rules
 
-mul-lifted : tie.Need-overflow-mul-lifted
+mul-lifted : tie.Need-overflow_mul-lifted
 mul-lifted c = need β (env c) (bounds c) one tt
 
-sub-lifted : tie.Need-overflow-sub-lifted
+sub-lifted : tie.Need-overflow_sub-lifted
 sub-lifted c = need β (env c) (bounds c) far tt
 
-cast-lifted-2 : tie.Need-overflow-cast-lifted-2
+cast-lifted-2 : tie.Need-overflow_cast-lifted-2
 cast-lifted-2 c = search rules
 
-mul-lifted-2 : tie.Need-overflow-mul-lifted-2
+mul-lifted-2 : tie.Need-overflow_mul-lifted-2
 mul-lifted-2 c = need β (env c) (bounds c) two tt
 
-add-lifted-2 : tie.Need-overflow-add-lifted-2
+add-lifted-2 : tie.Need-overflow_add-lifted-2
 add-lifted-2 c = need β (env c) (bounds c) all tt
 
 -- ---- it is from 0 to 32,767
@@ -112,7 +112,7 @@ size c =
 positive : (c : tie.Start) → T (non_neg (made c))
 positive c = subst (λ (y : ℤ). T (non_neg y)) (sym (made_is c)) (yes_non_neg (not_below c))
 
-cast-closest : tie.Need-overflow-cast-closest
+cast-closest : tie.Need-overflow_cast-lifted-3
 cast-closest c = (positive c, record { fits = omega (arith, size c) })
 
 closest-requires : tie.Need-closest-requires
@@ -140,10 +140,10 @@ found_env c = pos c.closest.result ∷ []
 found_bounds : (c : tie.After-closest) → Bounds (top ∷ []) (found_env c)
 found_bounds c = (abs_within (small c), tt)
 
-cast-result : tie.Need-overflow-cast-result
+cast-result : tie.Need-overflow_cast-result
 cast-result c = record { sfits = omega (arith, small c) }
 
-sub-result : tie.Need-overflow-sub-result
+sub-result : tie.Need-overflow_sub-result
 sub-result c = need (top ∷ []) (found_env c) (found_bounds c) back tt
 
 returns : tie.Need-returns
