@@ -5,20 +5,20 @@ use borrow.Author.Rules.{rules}
 use Rattle.text.proofs.put_count.Statement.{statement}
 use Rattle.text.proofs.put_count.Tie as tie
 
-put-natural-requires : tie.Need-put-natural-requires
+put-natural-requires : tie.Need-put_natural-end-requires
 put-natural-requires c κs = search rules
 
-slice-write-page : tie.Need-slice-write-page
+slice-write-page : tie.Need-bounds-page-end
 slice-write-page c = search rules
 
-add-result : tie.Need-overflow-add-result
+add-result : tie.Need-overflow_add-result
 add-result c = search rules
 
-same_length : tie.Need-same-length
+same_length : tie.Need-shape_of-page
 same_length c = search rules
 
 returns : tie.Need-returns
-returns c = let p = c.before.before.put-natural.ensures in (put_byte _ (omega (arith, p.0.same)) p.0, omega (arith, p.1))
+returns c = let p = c.before.before.put_natural-end.ensures in (put_byte _ (omega (arith, p.0.same)) p.0, omega (arith, p.1))
 
 pub put_count_spec : {M : Type 1} → statement M
 put_count_spec =

@@ -9,44 +9,44 @@ use borrow.Author.Rules.{rules}
 use Rattle.text.proofs.put_integer.Statement.{statement}
 use Rattle.text.proofs.put_integer.Tie as tie
 
-size-requires : tie.Need-size-requires
+size-requires : tie.Need-size-size-requires
 size-requires c κs = search rules
 
-size_is : (c : tie.After-size) → c.size.result ≡ nat_abs c.before.before.args.z
-size_is c = simp (to_z-of_z c.before.before.ranges.z) at c.size.ensures
+size_is : (c : tie.After-size-size) → c.size-size.result ≡ nat_abs c.before.before.args.z
+size_is c = simp (to_z-of_z c.before.before.ranges.z) at c.size-size.ensures
 
-slice-write-page : tie.Need-slice-write-page
+slice-write-page : tie.Need-bounds-page-at
 slice-write-page c = search rules
 
-add-put-natural : tie.Need-overflow-add-put-natural
+add-put-natural : tie.Need-overflow_add-at
 add-put-natural c = search rules
 
-put-natural-requires : tie.Need-put-natural-requires
+put-natural-requires : tie.Need-put_natural-requires
 put-natural-requires c κs = simp length-set (omega arith)
 
-same_length : tie.Need-same-length
-same_length c = c.before.before.put-natural.ensures.0.same ∙ simp length-set
+same_length : tie.Need-shape_of-page-then-z-lt0
+same_length c = c.before.before.put_natural.ensures.0.same ∙ simp length-set
 
-returns : tie.Need-returns
+returns : tie.Need-returns-then-z-lt0
 returns c =
     let s = c.before.before.before.before.before.before.before in
-    let p = c.before.before.put-natural.ensures in (
-      negative s.args.z (simp (to_z-of_z s.ranges.z) at c.before.before.before.before.if1.true) (size_is c.before.before.before.before.before)
+    let p = c.before.before.put_natural.ensures in (
+      negative s.args.z (simp (to_z-of_z s.ranges.z) at c.before.before.before.before.if-z-lt0.true) (size_is c.before.before.before.before.before)
           (omega arith) p.0,
       omega (arith, p.1),
     )
 
-put-natural-requires-2 : tie.Need-put-natural-requires-2
+put-natural-requires-2 : tie.Need-put_natural-requires-2
 put-natural-requires-2 c κs = search rules
 
-same-length-2 : tie.Need-same-length-2
+same-length-2 : tie.Need-shape_of-page
 same-length-2 c = search rules
 
-returns-2 : tie.Need-returns-2
+returns-2 : tie.Need-returns
 returns-2 c =
     let s = c.before.before.before.before.before.before.before in
-    let p = c.before.before.put-natural2.ensures in (
-      positive s.args.z (simp (to_z-of_z s.ranges.z) at c.before.before.before.before.if1.false) (size_is c.before.before.before.before.before)
+    let p = c.before.before.put_natural-2.ensures in (
+      positive s.args.z (simp (to_z-of_z s.ranges.z) at c.before.before.before.before.if-z-lt0.false) (size_is c.before.before.before.before.before)
           p.0,
       omega (arith, p.1),
     )

@@ -10,33 +10,33 @@ use borrow.Author.Rules.{rules}
 use Rattle.text.proofs.put_natural.Statement.{statement}
 use Rattle.text.proofs.put_natural.Tie as tie
 
-decimal-requires : tie.Need-decimal-requires
+decimal-requires : tie.Need-decimal-count-requires
 decimal-requires c κs = search rules
 
-array-share-prefix-digits : tie.Need-array-share-prefix-digits
+array-share-prefix-digits : tie.Need-slice_bounds-digits-end
 array-share-prefix-digits c = search rules
 
-slice-aggregate-put : tie.Need-slice-aggregate-put
+slice-aggregate-put : tie.Need-slice_bounds-put-end
 slice-aggregate-put c = search rules
 
 below : (c : tie.Start) → c.args.n < 10 ^ 20
 below c = lt_of_lt_of_le c.ranges.n.fits (lit≤ tt)
 
-few : (c : tie.After-decimal) → c.decimal.result ≤ 20
-few c = enough 10 1 20 (lit< tt) (lit≤ tt) (below c.before.before.before) c.decimal.ensures.1.0
+few : (c : tie.After-decimal-count) → c.decimal-count.result ≤ 20
+few c = enough 10 1 20 (lit< tt) (lit≤ tt) (below c.before.before.before) c.decimal-count.ensures.1.0
 
 put-requires : tie.Need-put-requires
-put-requires c κs = omega (arith, few c.before.before, c.before.before.decimal.ensures.0.1)
+put-requires c κs = omega (arith, few c.before.before, c.before.before.decimal-count.ensures.0.1)
 
-same_length : tie.Need-same-length
+same_length : tie.Need-shape_of-page
 same_length c = search rules
 
 returns : tie.Need-returns
 returns c =
     let d = c.before.before.before.before.before in
     let p = c.before.before.put.ensures in (
-      subst (Put _ _ _ _) (d.decimal.ensures.1.1 ∙ natural_is (below d.before.before.before) d.decimal.ensures.1.0) p,
-      omega (arith, few d, d.decimal.ensures.0.1, p.ends),
+      subst (Put _ _ _ _) (d.decimal-count.ensures.1.1.0 ∙ natural_is (below d.before.before.before) d.decimal-count.ensures.1.0) p,
+      omega (arith, few d, d.decimal-count.ensures.0.1, p.ends),
     )
 
 pub put_natural_spec : {M : Type 1} → statement M

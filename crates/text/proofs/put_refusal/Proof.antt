@@ -9,25 +9,19 @@ use borrow.Author.Rules.{rules}
 use Rattle.text.proofs.put_refusal.Statement.{statement}
 use Rattle.text.proofs.put_refusal.Tie as tie
 
-slice-aggregate-put : tie.Need-slice-aggregate-put
-slice-aggregate-put c = search rules
-
-put-requires : tie.Need-put-requires
+put-requires : tie.Need-put-a-requires
 put-requires c κs = search rules
 
-put-count-requires : tie.Need-put-count-requires
+put-count-requires : tie.Need-put_count-b-requires
 put-count-requires c κs = search rules
 
-slice-aggregate-put-2 : tie.Need-slice-aggregate-put-2
-slice-aggregate-put-2 c = search rules
-
-put-requires-2 : tie.Need-put-requires-2
+put-requires-2 : tie.Need-put-c-requires
 put-requires-2 c κs = search rules
 
-put-count-requires-2 : tie.Need-put-count-requires-2
+put-count-requires-2 : tie.Need-put_count-requires
 put-count-requires-2 c κs = search rules
 
-same_length : tie.Need-same-length
+same_length : tie.Need-shape_of-page
 same_length c = search rules
 
 words : (n p : List ℕ) (b : ℕ) → ascii "refused " ++ ((n ++ 32 ∷ []) ++ (ascii "place " ++ (p ++ b ∷ []))) ≡ (ascii "refused " ++ (n ++ ascii " place " ++ p)) ++ b ∷ []
@@ -39,10 +33,10 @@ returns c =
     let second = third.before.before.before.before.before in
     let first = second.before.before.before.before in
     let a = first.before.before.before.before.args in
-    let p = first.put.ensures in
-    let q = second.put_count.ensures in
-    let r = third.put2.ensures in
-    let s = c.before.before.put-count2.ensures in (
+    let p = first.put-a.ensures in
+    let q = second.put_count-b.ensures in
+    let r = third.put-c.ensures in
+    let s = c.before.before.put_count.ensures in (
       subst (Put _ _ _ _) (words (natural a.number) (natural a.place) a.last) (put_then p (put_then q.0 (put_then r s.0))),
       omega (arith, p.ends, q.1, r.ends, s.1),
     )
@@ -51,10 +45,8 @@ pub put_refusal_spec : {M : Type 1} → statement M
 put_refusal_spec =
     tie.close
     (tie.spec
-    slice-aggregate-put
     put-requires
     put-count-requires
-    slice-aggregate-put-2
     put-requires-2
     put-count-requires-2
     same_length
