@@ -12,18 +12,18 @@ use Rattle.grid.proofs.Ranges.{within_on}
 use Rattle.grid.proofs.short.Statement.{statement}
 use Rattle.grid.proofs.short.Tie as tie
 
-returns : tie.Need-returns
+returns : tie.Need-returns-then-x-ltminus32768
 returns c h = absurd h.low.le
 
-returns-2 : tie.Need-returns-2
+returns-2 : tie.Need-returns-then-x-gt32767
 returns-2 c h = absurd h.high.le
 
-cast-result : tie.Need-overflow-cast-result
+cast-result : tie.Need-overflow_cast-result
 cast-result c =
-    let h : to_z w32 (of_z w32 c.before.before.args.x) ≤ℤ pos 32767 = lt_no refl refl c.if2.false in
-    fits_range (lt_no refl refl c.before.if1.false) (omega zarith)
+    let h : to_z w32 (of_z w32 c.before.before.args.x) ≤ℤ pos 32767 = lt_no refl refl c.if-x-gt32767.false in
+    fits_range (lt_no refl refl c.before.if-x-ltminus32768.false) (omega zarith)
 
-returns-3 : tie.Need-returns-3
+returns-3 : tie.Need-returns
 returns-3 c h =
     let f = c.before.before.ranges.x in within_on _ (plain {w = w32} (Within farthest) f (plain {w = w16} (Within farthest) (cast-result c) h))
 

@@ -11,84 +11,84 @@ use Rattle.grid.proofs.Refusals.{window_fine}
 use Rattle.grid.proofs.window_refusal.Statement.{statement}
 use Rattle.grid.proofs.window_refusal.Tie as tie
 
-bad-window-requires : tie.Need-bad-window-requires
+bad-window-requires : tie.Need-bad_window-requires
 bad-window-requires c κs h =
     let w = c.before.before.before.args.w in
-    let t : w.left <ℤ negsuc 16382 = lt_taken w32 (record { sfits = c.before.struct_told.given.0.1 }) (sfits_lit {z = negsuc 16382} tt) c.if1.true in
+    let t : w.left <ℤ negsuc 16382 = lt_taken w32 (record { sfits = c.before.struct_told-1.given.0.1 }) (sfits_lit {z = negsuc 16382} tt) c.if-w-ltminus16383.true in
     omega (zarith, h.left.low)
 
-returns : tie.Need-returns
+returns : tie.Need-returns-then-w-ltminus16383
 returns c = search rules
 
-left_low : (c : tie.Else1) → let w = c.before.before.before.args.w in negsuc 16382 ≤ℤ w.left
-left_low c = lt_left w32 (record { sfits = c.before.struct_told.given.0.1 }) (sfits_lit {z = negsuc 16382} tt) c.if1.false
+left_low : (c : tie.Else-w-ltminus16383) → let w = c.before.before.before.args.w in negsuc 16382 ≤ℤ w.left
+left_low c = lt_left w32 (record { sfits = c.before.struct_told-1.given.0.1 }) (sfits_lit {z = negsuc 16382} tt) c.if-w-ltminus16383.false
 
-bad-window-requires-2 : tie.Need-bad-window-requires-2
+bad-window-requires-2 : tie.Need-bad_window-requires-then-w
 bad-window-requires-2 c κs h =
     let w = c.before.before.before.before.before.before.args.w in
-    let t : w.right ≤ℤ w.left = le_yes (back w32 _ c.before.struct-told2.given.1.1.0.1) (back w32 _ c.before.struct-told2.given.0.1) c.if2.true in
+    let t : w.right ≤ℤ w.left = le_yes (back w32 _ c.before.struct_told-2-1.given.1.1.0.1) (back w32 _ c.before.struct_told-2-1.given.0.1) c.if-w.true in
     omega (zarith, h.wide)
 
-returns-2 : tie.Need-returns-2
+returns-2 : tie.Need-returns-then-w
 returns-2 c = search rules
 
-wide : (c : tie.Else2) → let w = c.before.before.before.before.before.before.args.w in w.left <ℤ w.right
-wide c = le_no (back w32 _ c.before.struct-told2.given.1.1.0.1) (back w32 _ c.before.struct-told2.given.0.1) c.if2.false
+wide : (c : tie.Else-w) → let w = c.before.before.before.before.before.before.args.w in w.left <ℤ w.right
+wide c = le_no (back w32 _ c.before.struct_told-2-1.given.1.1.0.1) (back w32 _ c.before.struct_told-2-1.given.0.1) c.if-w.false
 
-bad-window-requires-3 : tie.Need-bad-window-requires-3
+bad-window-requires-3 : tie.Need-bad_window-requires-then-w-gt16383
 bad-window-requires-3 c κs h =
     let w = c.before.before.before.before.before.before.before.before.before.args.w in
-    let t : pos 16383 <ℤ w.right = lt_taken w32 (sfits_lit {z = pos 16383} tt) (record { sfits = c.before.struct-told3.given.1.1.0.1 }) c.if3.true in
+    let t : pos 16383 <ℤ w.right = lt_taken w32 (sfits_lit {z = pos 16383} tt) (record { sfits = c.before.struct_told-3-1.given.1.1.0.1 }) c.if-w-gt16383.true in
     omega (zarith, h.right.high)
 
-returns-3 : tie.Need-returns-3
+returns-3 : tie.Need-returns-then-w-gt16383
 returns-3 c = search rules
 
 -- the window, after three tests
-abbrev window : tie.Else3 → Window
+abbrev window : tie.Else-w-gt16383 → Window
 window c = c.before.before.before.before.before.before.before.before.before.args.w
 
-right_high : (c : tie.Else3) → (window c).right ≤ℤ pos 16383
-right_high c = lt_left w32 (sfits_lit {z = pos 16383} tt) (record { sfits = c.before.struct-told3.given.1.1.0.1 }) c.if3.false
+right_high : (c : tie.Else-w-gt16383) → (window c).right ≤ℤ pos 16383
+right_high c = lt_left w32 (sfits_lit {z = pos 16383} tt) (record { sfits = c.before.struct_told-3-1.given.1.1.0.1 }) c.if-w-gt16383.false
 
-bad-window-requires-4 : tie.Need-bad-window-requires-4
+bad-window-requires-4 : tie.Need-bad_window-requires-then-w-ltminus16383-2
 bad-window-requires-4 c κs h =
     let w = window c.before.before.before in
-    let t : w.bottom <ℤ negsuc 16382 = lt_taken w32 (record { sfits = c.before.struct-told4.given.1.0.1 }) (sfits_lit {z = negsuc 16382} tt) c.if4.true in
+    let t : w.bottom <ℤ negsuc 16382 = lt_taken w32 (record { sfits = c.before.struct_told-4-1.given.1.0.1 }) (sfits_lit {z = negsuc 16382} tt) c.if-w-ltminus16383-2.true in
     omega (zarith, h.bottom.low)
 
-returns-4 : tie.Need-returns-4
+returns-4 : tie.Need-returns-then-w-ltminus16383-2
 returns-4 c = search rules
 
-bottom_low : (c : tie.Else4) → negsuc 16382 ≤ℤ (window c.before.before.before).bottom
-bottom_low c = lt_left w32 (record { sfits = c.before.struct-told4.given.1.0.1 }) (sfits_lit {z = negsuc 16382} tt) c.if4.false
+bottom_low : (c : tie.Else-w-ltminus16383-2) → negsuc 16382 ≤ℤ (window c.before.before.before).bottom
+bottom_low c = lt_left w32 (record { sfits = c.before.struct_told-4-1.given.1.0.1 }) (sfits_lit {z = negsuc 16382} tt) c.if-w-ltminus16383-2.false
 
-bad-window-requires-5 : tie.Need-bad-window-requires-5
+bad-window-requires-5 : tie.Need-bad_window-requires-then-w-2
 bad-window-requires-5 c κs h =
     let w = window c.before.before.before.before.before.before in
-    let g = c.before.struct-told5.given in
-    let t : w.top ≤ℤ w.bottom = le_yes (back w32 _ g.1.1.1.0.1) (back w32 _ g.1.0.1) c.if5.true in
+    let g = c.before.struct_told-5-1.given in
+    let t : w.top ≤ℤ w.bottom = le_yes (back w32 _ g.1.1.1.0.1) (back w32 _ g.1.0.1) c.if-w-2.true in
     omega (zarith, h.tall)
 
-returns-5 : tie.Need-returns-5
+returns-5 : tie.Need-returns-then-w-2
 returns-5 c = search rules
 
-tall : (c : tie.Else5) → let w = window c.before.before.before.before.before.before in w.bottom <ℤ w.top
-tall c = le_no (back w32 _ c.before.struct-told5.given.1.1.1.0.1) (back w32 _ c.before.struct-told5.given.1.0.1) c.if5.false
+tall : (c : tie.Else-w-2) → let w = window c.before.before.before.before.before.before in w.bottom <ℤ w.top
+tall c = le_no (back w32 _ c.before.struct_told-5-1.given.1.1.1.0.1) (back w32 _ c.before.struct_told-5-1.given.1.0.1) c.if-w-2.false
 
-bad-window-requires-6 : tie.Need-bad-window-requires-6
+bad-window-requires-6 : tie.Need-bad_window-requires-then-w-gt16383-2
 bad-window-requires-6 c κs h =
     let w = window c.before.before.before.before.before.before.before.before.before in
-    let t : pos 16383 <ℤ w.top = lt_taken w32 (sfits_lit {z = pos 16383} tt) (record { sfits = c.before.struct-told6.given.1.1.1.0.1 }) c.if6.true in
+    let t : pos 16383 <ℤ w.top = lt_taken w32 (sfits_lit {z = pos 16383} tt) (record { sfits = c.before.struct_told-6-1.given.1.1.1.0.1 }) c.if-w-gt16383-2.true in
     omega (zarith, h.top.high)
 
-returns-6 : tie.Need-returns-6
+returns-6 : tie.Need-returns-then-w-gt16383-2
 returns-6 c = search rules
 
-top_high : (c : tie.Else6) → (window c.before.before.before.before.before.before.before.before.before).top ≤ℤ pos 16383
-top_high c = lt_left w32 (sfits_lit {z = pos 16383} tt) (record { sfits = c.before.struct-told6.given.1.1.1.0.1 }) c.if6.false
+top_high : (c : tie.Else-w-gt16383-2) → (window c.before.before.before.before.before.before.before.before.before).top ≤ℤ pos 16383
+top_high c = lt_left w32 (sfits_lit {z = pos 16383} tt) (record { sfits = c.before.struct_told-6-1.given.1.1.1.0.1 }) c.if-w-gt16383-2.false
 
-returns-7 : tie.Need-returns-7
+returns-7 : tie.Need-returns
 returns-7 c =
     let l = left_low c.before.before.before.before.before.before.before.before.before.before.before.before.before.before.before in
     let w = wide c.before.before.before.before.before.before.before.before.before.before.before.before in
