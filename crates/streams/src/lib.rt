@@ -2,10 +2,11 @@
 // what fails is told in a line on standard error.
 #![tactic(auto)]
 
-ghost use Rattle.std.specs.Prelude.{◌≡◌, ◌≤◌, length};
+ghost use Rattle.std.specs.Prelude.{◌≡◌, ◌≤◌, length, IfOk};
 ghost use Rattle.io.specs.Counts.{IsPrefixLen};
 
-use libc::{EAGAIN, EINTR, STDERR_FILENO, STDIN_FILENO, STDOUT_FILENO};
+use std::io::{Error, ErrorKind, Read, Write};
+use std::thread;
 
 // What was read: how many bytes; or that a read failed, of which standard error then says why.
 #[derive(Drop)]
@@ -15,24 +16,49 @@ pub struct Received {
 }
 
 // Whether the call that just failed is worth another try: a signal came before it moved a byte, or the other side is not ready. Other programs run
-// meanwhile; a sleep cannot be had, since C's takes a struct by reference, which the proofs do not cover.
-fn try_again() -> bool {
-    let error = os::errno();
-    if error == EINTR {
-        return true;
+// meanwhile.
+fn try_again(error: &Error) -> bool {
+    match error.kind() {
+        ErrorKind::Interrupted => true,
+        ErrorKind::WouldBlock => {
+            thread::yield_now();
+            true
+        }
+        _ => false,
     }
-    if error != EAGAIN {
-        return false;
+}
+
+// Where the words of an error's text end: std puts the error's number behind them, in parentheses after a space.
+fn words_end(text: &[u8]) -> usize
+    ensures { result ≤ length text.now }
+{
+    for i in 0..text.len() {
+        if text[i] == b'(' {
+            return i.saturating_sub(1);
+        }
     }
-    libc::sched_yield();
-    true
+    text.len()
+}
+
+// Tells what failed, as the caller names it, and why. The words of an error of the system or of std are fewer than the page holds.
+pub fn fail(rt: &HostRuntime, what: &[u8], error: &Error) {
+    let mut page = [0u8; 320];
+    let mut room: &mut [u8] = &mut page;
+    let _ = write!(room, "{error}");
+    let left = room.len();
+    let end = page.len().saturating_sub(left);
+    let words = words_end(&page[..end]);
+    tell(rt, what);
+    tell(rt, b": ");
+    tell(rt, &page[..words]);
+    tell(rt, b"\n");
 }
 
 // Tells that a read failed.
-fn unread() -> Received
+fn unread(rt: &HostRuntime, error: &Error) -> Received
     ensures { result.count ≡ 0 }
 {
-    os::fail(b"could not read");
+    fail(rt, b"could not read", error);
     Received {
         count: 0,
         failed: true,
@@ -41,40 +67,43 @@ fn unread() -> Received
 
 // Reads what is there, and waits where nothing is there yet; no bytes are the end. A proved loop has to end, so it counts its turns, to a number that
 // no run reaches.
-fn read_from(from: i32, buf: &mut [u8]) -> Received
+fn read_from<R: Read>(rt: &HostRuntime, from: &mut R, buf: &mut [u8]) -> Received
     ensures { IsPrefixLen result.count buf.new }
 {
     let mut turns: u64 = 0;
     while turns < 0x4000_0000_0000_0000 {
-        let got = libc::read(from, buf);
-        if got >= 0 {
-            return Received {
-                count: io::count(got, buf),
-                failed: false,
-            };
-        }
-        if !try_again() {
-            return unread();
+        match from.read(buf) {
+            Ok(count) => {
+                return Received {
+                    count,
+                    failed: false,
+                };
+            }
+            Err(error) => {
+                if !try_again(&error) {
+                    return unread(rt, &error);
+                }
+            }
         }
         turns += 1;
     }
-    unread()
+    unread(rt, &Error::from(ErrorKind::TimedOut))
 }
 
 // The same of standard input.
-pub fn read_some(buf: &mut [u8]) -> Received
+pub fn read_some(rt: &HostRuntime, buf: &mut [u8]) -> Received
     ensures { IsPrefixLen result.count buf.new }
 {
-    read_from(STDIN_FILENO, buf)
+    read_from(rt, &mut rt.stdin(), buf)
 }
 
 // Reads a file until it ends or buf is full.
-pub fn read_file(from: i32, buf: &mut [u8]) -> Received
+pub fn read_file<R: Read>(rt: &HostRuntime, from: &mut R, buf: &mut [u8]) -> Received
     ensures { IsPrefixLen result.count buf.new }
 {
     let mut count = 0;
     while count < buf.len() {
-        let taken = read_from(from, &mut buf[count..]);
+        let taken = read_from(rt, from, &mut buf[count..]);
         if taken.failed {
             return Received {
                 count,
@@ -93,53 +122,56 @@ pub fn read_file(from: i32, buf: &mut [u8]) -> Received
 }
 
 // The same of standard input.
-pub fn read_all(buf: &mut [u8]) -> Received
+pub fn read_all(rt: &HostRuntime, buf: &mut [u8]) -> Received
     ensures { IsPrefixLen result.count buf.new }
 {
-    read_file(STDIN_FILENO, buf)
+    read_file(rt, &mut rt.stdin(), buf)
 }
 
-// Writes as much of the bytes as is taken at once, and waits where nothing is; 0 where the write failed.
-fn write_some(to: i32, bytes: &[u8]) -> usize
-    ensures { result ≤ length bytes.now }
+// Writes as much of the bytes as is taken at once, and waits where nothing is; an error where the write failed.
+fn write_some<W: Write>(to: &mut W, bytes: &[u8]) -> Result<usize, Error>
+    ensures { IfOk result (λ n. n ≤ length bytes.now) }
 {
     let mut turns: u64 = 0;
     while turns < 0x4000_0000_0000_0000 {
-        let got = libc::write(to, bytes);
-        if got >= 0 {
-            return io::count(got, bytes);
-        }
-        if !try_again() {
-            break;
+        match to.write(bytes) {
+            Ok(count) => return Ok(count),
+            Err(error) => {
+                if !try_again(&error) {
+                    return Err(error);
+                }
+            }
         }
         turns += 1;
     }
-    0
+    Err(Error::from(ErrorKind::TimedOut))
 }
 
-// Writes all of the bytes, and says whether that could be done.
-pub fn write_to(to: i32, bytes: &[u8]) -> bool {
+// Writes all of the bytes; an error where that could not be done.
+pub fn write_to<W: Write>(to: &mut W, bytes: &[u8]) -> Result<(), Error> {
     let mut done = 0;
     while done < bytes.len() {
-        let put = write_some(to, &bytes[done..]);
+        let put = write_some(to, &bytes[done..])?;
         if put == 0 {
-            return false;
+            return Err(Error::from(ErrorKind::WriteZero));
         }
         done += put;
     }
-    true
+    Ok(())
 }
 
 // Writes a page to standard output. Where that fails, standard error says why, and the program is to end.
-pub fn write(page: &[u8]) -> bool {
-    if write_to(STDOUT_FILENO, page) {
-        return true;
+pub fn write(rt: &HostRuntime, page: &[u8]) -> bool {
+    match write_to(&mut rt.stdout(), page) {
+        Ok(()) => true,
+        Err(error) => {
+            fail(rt, b"could not write", &error);
+            false
+        }
     }
-    os::fail(b"could not write");
-    false
 }
 
 // Writes a line to standard error. Where that fails there is nobody left to tell.
-pub fn tell(line: &[u8]) {
-    write_to(STDERR_FILENO, line);
+pub fn tell(rt: &HostRuntime, line: &[u8]) {
+    let _ = write_to(&mut rt.stderr(), line);
 }
