@@ -8,36 +8,36 @@ use borrow.Author.Rules.{rules}
 use Rattle.measures.proofs.put_millimetres.Statement.{statement}
 use Rattle.measures.proofs.put_millimetres.Tie as tie
 
-put-natural-requires : tie.Need-put-natural-requires
+put-natural-requires : tie.Need-put_natural-requires
 put-natural-requires c κs = search rules
 
-same_length : tie.Need-same-length
+same_length : tie.Need-shape_of-page-then-steps-eq0
 same_length c = search rules
 
-returns : tie.Need-returns
+returns : tie.Need-returns-then-steps-eq0
 unfolding millimetres
 returns c =
     let s = c.before.before.before.before.before.before.args.steps in
-    let p = c.before.before.put-natural.ensures in
-    (rw (eq-eqb (s % 32) 0 c.before.before.before.before.if1.true) p.0, omega (arith, p.1))
+    let p = c.before.before.put_natural.ensures in
+    (rw (eq-eqb (s % 32) 0 c.before.before.before.before.if-steps-eq0.true) p.0, omega (arith, p.1))
 
-put-count-requires : tie.Need-put-count-requires
+put-count-requires : tie.Need-put_count-point-requires
 put-count-requires c κs = search rules
 
-put-decimals-requires : tie.Need-put-decimals-requires
+put-decimals-requires : tie.Need-put_decimals-requires
 put-decimals-requires c κs = search rules
 
-same-length-2 : tie.Need-same-length-2
+same-length-2 : tie.Need-shape_of-page
 same-length-2 c = search rules
 
-returns-2 : tie.Need-returns-2
+returns-2 : tie.Need-returns
 unfolding millimetres
 returns-2 c =
     let at₁ = c.before.before.before.before.before.before in
     let s = at₁.before.before.before.before.args.steps in
-    let p = at₁.put_count.ensures in
-    let q = c.before.before.put-decimals.ensures in
-    (rw (ne_eqb (s % 32) 0 at₁.before.before.if1.false) (put_then p.0 q.0), omega (arith, p.1, q.1))
+    let p = at₁.put_count-point.ensures in
+    let q = c.before.before.put_decimals.ensures in
+    (rw (ne_eqb (s % 32) 0 at₁.before.before.if-steps-eq0.false) (put_then p.0 q.0), omega (arith, p.1, q.1))
 
 pub put_millimetres_spec : {M : Type 1} → statement M
 put_millimetres_spec =
