@@ -158,6 +158,10 @@ cross x y p q a c C h k =
     swap a p q = sym (regroup a q p) ∙ mul_right_comm (a * 2 ^ 149) q p ∙ regroup a p q
 
 pub value_unique : (x y : Float) (s : Bool) (a c : ℕ) → 0 < c → T (fits binary32 x) → T (fits binary32 y) → HasValue x s a c → HasValue y s a c → x ≡ y
+value_unique nan y s a c C p q v w = elim v [ ]
+value_unique (inf _) y s a c C p q v w = elim v [ ]
+value_unique (fin t m e) nan s a c C p q v w = elim w [ ]
+value_unique (fin t m e) (inf _) s a c C p q v w = elim w [ ]
 value_unique (fin t m e) (fin u n d) s a c C p q v w =
     let k : m * up e * 2 ^ 149 / down e ≡ n * up d * 2 ^ 149 / down d =
     div_same (m * up e * 2 ^ 149) (down e) (n * up d * 2 ^ 149) (down d) (down_pos e) (down_pos d) (cross (m * up e) (n * up d) (down e) (down d) a c C v.1 w.1) in

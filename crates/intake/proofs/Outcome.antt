@@ -1,7 +1,7 @@
 -- What becomes of one number is computed: `outcome x` is the only thing that `Taken x` holds of.
 use mathlib.Core.Path.{◌≡◌, refl, sym, ap, ◌∙◌}
 use mathlib.Core.Bool.{Bool, true, false, ◌&&◌}
-use Prim.Native.Nat.{ℕ, zero, suc, ◌*◌}
+use Prim.Native.Nat.{ℕ, zero, suc, ◌*◌, ◌^◌}
 use native.Mathlib.Nat.{lt_of_le_of_lt}
 use lib.Dec.{leb, leb-suc-suc, lit<}
 use lib.IntN.{ℤ, pos}
@@ -87,4 +87,4 @@ taken_on (on_range n h) = h
 
 -- so the machine reads it back as it is
 pub read_back : {x : Float} {o : Coordinate} → Taken x o → to_z w32 (of_z w32 o.grid) ≡ o.grid
-read_back {o = o} t = to_z-of_z (fits_abs (lt_of_le_of_lt (within_abs (on_within o.grid (taken_on t))) (lit< tt)))
+read_back {o = o} t = to_z-of_z {w = w32} (fits_abs (lt_of_le_of_lt (within_abs (on_within o.grid (taken_on t))) (lit< {m = 16383} {n = 2 ^ 31} tt)))

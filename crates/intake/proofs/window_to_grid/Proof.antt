@@ -9,66 +9,66 @@ use Rattle.intake.proofs.Answers.{to_window}
 use Rattle.intake.proofs.window_to_grid.Statement.{statement}
 use Rattle.intake.proofs.window_to_grid.Tie as tie
 
-left : (c : tie.After-to-grid) → outcome c.before.args.w.left ≡ c.to-grid.result
-left c = sym (taken_is c.to-grid.ensures)
+left : (c : tie.After-to_grid-left) → outcome c.before.args.w.left ≡ c.to_grid-left.result
+left c = sym (taken_is c.to_grid-left.ensures)
 
-bottom : (c : tie.After-to-grid2) → outcome c.before.before.before.before.args.w.bottom ≡ c.to-grid2.result
-bottom c = sym (taken_is c.to-grid2.ensures)
+bottom : (c : tie.After-to_grid-bottom) → outcome c.before.before.before.before.args.w.bottom ≡ c.to_grid-bottom.result
+bottom c = sym (taken_is c.to_grid-bottom.ensures)
 
-right : (c : tie.After-to-grid3) → outcome c.before.before.before.before.before.before.before.args.w.right ≡ c.to-grid3.result
-right c = sym (taken_is c.to-grid3.ensures)
+right : (c : tie.After-to_grid-right) → outcome c.before.before.before.before.before.before.before.args.w.right ≡ c.to_grid-right.result
+right c = sym (taken_is c.to_grid-right.ensures)
 
-top : (c : tie.After-to-grid4) → outcome c.before.before.before.before.before.before.before.before.before.before.args.w.top ≡ c.to-grid4.result
-top c = sym (taken_is c.to-grid4.ensures)
+top : (c : tie.After-to_grid-top) → outcome c.before.before.before.before.before.before.before.before.before.before.args.w.top ≡ c.to_grid-top.result
+top c = sym (taken_is c.to_grid-top.ensures)
 
-to-grid-requires : tie.Need-to-grid-requires
+to-grid-requires : tie.Need-to_grid-left-requires
 to-grid-requires c κs = search rules
 
-refused-window-requires : tie.Need-refused-window-requires
+refused-window-requires : tie.Need-refused_window-requires
 refused-window-requires c κs = search rules
 
-returns : tie.Need-returns
+returns : tie.Need-returns-then-left-ne0
 unfolding first window_fault window_answer
 returns c =
     let l = c.before.before.before in
-    to_window l.before.args.w (c.refused_window.ensures ∙ simp (left l, ne_eqb _ _ c.before.if1.true))
+    to_window l.before.args.w (c.refused_window.ensures ∙ simp (left l, ne_eqb _ _ c.before.if-left-ne0.true))
 
-to-grid-requires-2 : tie.Need-to-grid-requires-2
+to-grid-requires-2 : tie.Need-to_grid-bottom-requires
 to-grid-requires-2 c κs = search rules
 
-refused-window-requires-2 : tie.Need-refused-window-requires-2
+refused-window-requires-2 : tie.Need-refused_window-requires-then-bottom-ne0
 refused-window-requires-2 c κs = search rules
 
-returns-2 : tie.Need-returns-2
+returns-2 : tie.Need-returns-then-bottom-ne0
 unfolding first window_fault window_answer
 returns-2 c =
     let b = c.before.before.before in
     let l = b.before.before.before in
-    to_window l.before.args.w (c.refused-window2.ensures ∙ simp (left l, bottom b, eq-eqb _ _ b.before.if1.false, ne_eqb _ _ c.before.if2.true))
+    to_window l.before.args.w (c.refused_window-then-bottom-ne0.ensures ∙ simp (left l, bottom b, eq-eqb _ _ b.before.if-left-ne0.false, ne_eqb _ _ c.before.if-bottom-ne0.true))
 
-to-grid-requires-3 : tie.Need-to-grid-requires-3
+to-grid-requires-3 : tie.Need-to_grid-right-requires
 to-grid-requires-3 c κs = search rules
 
-refused-window-requires-3 : tie.Need-refused-window-requires-3
+refused-window-requires-3 : tie.Need-refused_window-requires-then-right-ne0
 refused-window-requires-3 c κs = search rules
 
-returns-3 : tie.Need-returns-3
+returns-3 : tie.Need-returns-then-right-ne0
 unfolding first window_fault window_answer
 returns-3 c =
     let r = c.before.before.before in
     let b = r.before.before.before in
     let l = b.before.before.before in
     to_window l.before.args.w
-    (c.refused-window3.ensures
-    ∙ simp (left l, bottom b, right r, eq-eqb _ _ b.before.if1.false, eq-eqb _ _ r.before.if2.false, ne_eqb _ _ c.before.if3.true))
+    (c.refused_window-then-right-ne0.ensures
+    ∙ simp (left l, bottom b, right r, eq-eqb _ _ b.before.if-left-ne0.false, eq-eqb _ _ r.before.if-bottom-ne0.false, ne_eqb _ _ c.before.if-right-ne0.true))
 
-to-grid-requires-4 : tie.Need-to-grid-requires-4
+to-grid-requires-4 : tie.Need-to_grid-top-requires
 to-grid-requires-4 c κs = search rules
 
-refused-window-requires-4 : tie.Need-refused-window-requires-4
+refused-window-requires-4 : tie.Need-refused_window-requires-then-top-ne0
 refused-window-requires-4 c κs = search rules
 
-returns-4 : tie.Need-returns-4
+returns-4 : tie.Need-returns-then-top-ne0
 unfolding first window_fault window_answer
 returns-4 c =
     let t = c.before.before.before in
@@ -76,20 +76,20 @@ returns-4 c =
     let b = r.before.before.before in
     let l = b.before.before.before in
     to_window l.before.args.w
-    (c.refused-window4.ensures
+    (c.refused_window-then-top-ne0.ensures
     ∙ simp (
       left l,
       bottom b,
       right r,
       top t,
-      eq-eqb _ _ b.before.if1.false,
-      eq-eqb _ _ r.before.if2.false,
+      eq-eqb _ _ b.before.if-left-ne0.false,
+      eq-eqb _ _ r.before.if-bottom-ne0.false,
       eq-eqb _ _
-          t.before.if3.false,
-      ne_eqb _ _ c.before.if4.true,
+          t.before.if-right-ne0.false,
+      ne_eqb _ _ c.before.if-top-ne0.true,
     ))
 
-returns-5 : tie.Need-returns-5
+returns-5 : tie.Need-returns
 unfolding first window_fault window_answer
 returns-5 c =
     let t = c.before.before.before.before.before.before in
@@ -102,14 +102,14 @@ returns-5 c =
       bottom b,
       right r,
       top t,
-      eq-eqb _ _ b.before.if1.false,
-      eq-eqb _ _ r.before.if2.false,
-      eq-eqb _ _ t.before.if3.false,
-      eq-eqb _ _ c.before.before.before.before.if4.false,
-      read_back l.to-grid.ensures,
-      read_back b.to-grid2.ensures,
-      read_back r.to-grid3.ensures,
-      read_back t.to-grid4.ensures,
+      eq-eqb _ _ b.before.if-left-ne0.false,
+      eq-eqb _ _ r.before.if-bottom-ne0.false,
+      eq-eqb _ _ t.before.if-right-ne0.false,
+      eq-eqb _ _ c.before.before.before.before.if-top-ne0.false,
+      read_back l.to_grid-left.ensures,
+      read_back b.to_grid-bottom.ensures,
+      read_back r.to_grid-right.ensures,
+      read_back t.to_grid-top.ensures,
     ))
 
 pub window_to_grid_spec : {M : Type 1} → statement M
