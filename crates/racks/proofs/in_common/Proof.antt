@@ -32,13 +32,13 @@ first_row c =
     lesser (get_or rack (144 + p) (pos 0)) (get_or rack (144 + q) (pos 0))
     -ℤ greater (get_or rack (zero-add p i) (pos 0)) (get_or rack (zero-add q i) (pos 0))
 
-overlap-at-requires : tie.Need-overlap-at-requires
+overlap-at-requires : tie.Need-overlap_at-width-requires
 overlap-at-requires c κs =
     let l = c.requires.1.0 in
     let m = c.requires.1.1 in
     (omega arith, (m, (omega arith, subst (SFits w16) (sym (first_row c)) (compared c).wide)))
 
-overlap-at-requires-2 : tie.Need-overlap-at-requires-2
+overlap-at-requires-2 : tie.Need-overlap_at-height-requires
 overlap-at-requires-2 c κs =
     let l = c.before.requires.1.0 in
     let m = c.before.requires.1.1 in
@@ -50,11 +50,11 @@ lesser-requires c κs = tt
 returns : tie.Need-returns
 returns c =
     let r = c.lesser in
-    let h = c.before.overlap-at2 in
-    let w = c.before.before.overlap-at in
-    let width = back w16 w.result w.type-inv ∙ w.ensures ∙ first_row c.before.before.before in
-    let height = back w16 h.result h.type-inv ∙ h.ensures in
-    ap (lt_z (pos 0)) (back w16 r.result r.type-inv ∙ r.ensures ∙ (λ i. lesser (width i) (height i)))
+    let h = c.before.overlap_at-height in
+    let w = c.before.before.overlap_at-width in
+    let width = back w16 w.result w.type_inv ∙ w.ensures ∙ first_row c.before.before.before in
+    let height = back w16 h.result h.type_inv ∙ h.ensures in
+    ap (lt_z (pos 0)) (back w16 r.result r.type_inv ∙ r.ensures ∙ (λ i. lesser (width i) (height i)))
     ∙ (compared c.before.before.before).test
 
 pub in_common_spec : {M : Type 1} → statement M

@@ -22,10 +22,10 @@ is c =
     let g = c.greater in
     let f = c.before.before.ranges in
     λ i.
-    (back w16 l.result l.type-inv ∙ l.ensures ∙ (λ k. lesser (to_z-of_z f.b k) (to_z-of_z f.y k))) i
-    -ℤ (back w16 g.result g.type-inv ∙ g.ensures ∙ (λ k. greater (to_z-of_z f.a k) (to_z-of_z f.x k))) i
+    (back w16 l.result l.type_inv ∙ l.ensures ∙ (λ k. lesser (to_z-of_z f.b k) (to_z-of_z f.y k))) i
+    -ℤ (back w16 g.result g.type_inv ∙ g.ensures ∙ (λ k. greater (to_z-of_z f.a k) (to_z-of_z f.x k))) i
 
-sub-result : tie.Need-overflow-sub-result
+sub-result : tie.Need-overflow_sub-result
 sub-result c = subst (SFits w16) (sym (is c)) c.before.before.requires
 
 returns : tie.Need-returns

@@ -4,49 +4,49 @@ use Rattle.racks.proofs.Holding.{short_fits, put_holds}
 use Rattle.racks.proofs.put.Statement.{statement}
 use Rattle.racks.proofs.put.Tie as tie
 
-cast-left : tie.Need-overflow-cast-left
+cast-left : tie.Need-overflow_cast-left
 cast-left c = short_fits c.before.before.requires.1.left
 
-cast-bottom : tie.Need-overflow-cast-bottom
+cast-bottom : tie.Need-overflow_cast-bottom
 cast-bottom c = short_fits c.before.before.before.before.requires.1.bottom
 
-cast-right : tie.Need-overflow-cast-right
+cast-right : tie.Need-overflow_cast-right
 cast-right c = short_fits c.before.before.before.before.before.before.requires.1.right
 
-cast-top : tie.Need-overflow-cast-top
+cast-top : tie.Need-overflow_cast-top
 cast-top c = short_fits c.before.before.before.before.before.before.before.before.requires.1.top
 
-mul_left : tie.Need-overflow-mul-left
+mul_left : tie.Need-offset_bounds-rack-n
 mul_left c = search rules
 
-element-set-from-left : tie.Need-element-set-from-left
+element-set-from-left : tie.Need-bounds-rack-n
 element-set-from-left c = search rules
 
-add-bottom : tie.Need-overflow-add-bottom
+add-bottom : tie.Need-overflow_add-bottom
 add-bottom c = search rules
 
-mul-bottom : tie.Need-overflow-mul-bottom
+mul-bottom : tie.Need-offset_bounds-rack-n-2
 mul-bottom c = search rules
 
-element-set-from-bottom : tie.Need-element-set-from-bottom
+element-set-from-bottom : tie.Need-bounds-rack-n-2
 element-set-from-bottom c = search rules
 
-add_right : tie.Need-overflow-add-right
+add_right : tie.Need-overflow_add-right
 add_right c = search rules
 
-mul_right : tie.Need-overflow-mul-right
+mul_right : tie.Need-offset_bounds-rack-n-3
 mul_right c = search rules
 
-element-set-from-right : tie.Need-element-set-from-right
+element-set-from-right : tie.Need-bounds-rack-n-3
 element-set-from-right c = search rules
 
-add-top : tie.Need-overflow-add-top
+add-top : tie.Need-overflow_add-top
 add-top c = search rules
 
-mul-top : tie.Need-overflow-mul-top
+mul-top : tie.Need-offset_bounds-rack-n-4
 mul-top c = search rules
 
-element-set-from-top : tie.Need-element-set-from-top
+element-set-from-top : tie.Need-bounds-rack-n-4
 element-set-from-top c = search rules
 
 returns : tie.Need-returns
