@@ -6,19 +6,19 @@ use borrow.Author.Rules.{rules}
 use Rattle.marks.proofs.put_labelled.Statement.{statement}
 use Rattle.marks.proofs.put_labelled.Tie as tie
 
-put-requires : tie.Need-put-requires
+put-requires : tie.Need-put-next-requires
 put-requires c κs = search rules
 
-put-count-requires : tie.Need-put-count-requires
+put-count-requires : tie.Need-put_count-requires
 put-count-requires c κs = search rules
 
-same_length : tie.Need-same-length
+same_length : tie.Need-shape_of-page
 same_length c = search rules
 
 returns : tie.Need-returns
 unfolding labelled
 returns c =
-    let p = c.before.before.before.before.before.before.put.ensures in
+    let p = c.before.before.before.before.before.before.put-next.ensures in
     let q = c.before.before.put_count.ensures in
     (put_then p q.0, omega (arith, p.ends, q.1))
 

@@ -6,19 +6,19 @@ use borrow.Author.Rules.{rules}
 use Rattle.marks.proofs.put_labelled_pair.Statement.{statement}
 use Rattle.marks.proofs.put_labelled_pair.Tie as tie
 
-put-labelled-requires : tie.Need-put-labelled-requires
+put-labelled-requires : tie.Need-put_labelled-next-requires
 put-labelled-requires c κs = search rules
 
-put-count-requires : tie.Need-put-count-requires
+put-count-requires : tie.Need-put_count-requires
 put-count-requires c κs = search rules
 
-same_length : tie.Need-same-length
+same_length : tie.Need-shape_of-page
 same_length c = search rules
 
 returns : tie.Need-returns
 unfolding labelled_pair
 returns c =
-    let p = c.before.before.before.before.before.before.put-labelled.ensures in
+    let p = c.before.before.before.before.before.before.put_labelled-next.ensures in
     let q = c.before.before.put_count.ensures in
     (put_then p.0 q.0, omega (arith, p.1, q.1))
 

@@ -7,21 +7,21 @@ use borrow.Author.Rules.{rules}
 use Rattle.marks.proofs.put_point.Statement.{statement}
 use Rattle.marks.proofs.put_point.Tie as tie
 
-put-number-requires : tie.Need-put-number-requires
+put-number-requires : tie.Need-put_number-next-requires
 put-number-requires c κs = search rules
 
-put-number-requires-2 : tie.Need-put-number-requires-2
+put-number-requires-2 : tie.Need-put_number-requires
 put-number-requires-2 c κs = search rules
 
-same_length : tie.Need-same-length
+same_length : tie.Need-shape_of-page
 same_length c = search rules
 
 returns : tie.Need-returns
 unfolding point_mark
 returns c =
     let f = c.before.before.before.before.before.before.before.before.before.ranges in
-    let p = c.before.before.before.before.before.before.put-number.ensures in
-    let q = c.before.before.put-number2.ensures in
+    let p = c.before.before.before.before.before.before.put_number-next.ensures in
+    let q = c.before.before.put_number.ensures in
     (put_then (simp (to_z-of_z f.x) at p.0) (simp (to_z-of_z f.y) at q.0), omega (arith, p.1, q.1))
 
 pub put_point_spec : {M : Type 1} → statement M
