@@ -7,7 +7,9 @@
 ghost use Rattle.std.specs.Prelude.{◌≡◌, ◌≤◌, length};
 ghost use Rattle.keeping.specs.Folders.{FolderEnd};
 
-use libc::{EEXIST, ENOENT};
+use std::fs::{File, OpenOptions};
+use std::io::{Error, ErrorKind};
+use std::{fs, str};
 
 // What was read of a file: how many bytes; none where there is no such file; or that it could not be read, of which standard error then says why.
 #[derive(Drop)]
@@ -18,82 +20,123 @@ pub struct Held {
 }
 
 // Tells that another program has the file in hand, or had it when it was stopped.
-fn tell_busy(busy: &[u8]) {
-    streams::tell(b"the book is busy: there is a file ");
-    streams::tell(busy);
+fn tell_busy(rt: &HostRuntime, busy: &[u8]) {
+    streams::tell(rt, b"the book is busy: there is a file ");
+    streams::tell(rt, busy);
     streams::tell(
+        rt,
         b". Another program has the book in hand, or was stopped while it had. If none is running, remove that file and start again: the book is whole\n",
     );
 }
 
 // Tells that a new file was left behind.
-fn tell_left(new: &[u8]) {
-    streams::tell(b"there is a file ");
-    streams::tell(new);
+fn tell_left(rt: &HostRuntime, new: &[u8]) {
+    streams::tell(rt, b"there is a file ");
+    streams::tell(rt, new);
     streams::tell(
+        rt,
         b", left by a program that was stopped. It holds nothing that was answered: remove it and start again\n",
     );
 }
 
-// Whether a name is a link's.
-fn is_link(name: &[u8]) -> bool {
-    if 4095 < name.len() {
-        return false;
+// A file's name as std takes one: as text. One that is not UTF-8 names no file.
+fn name_of(name: &[u8]) -> Result<&str, Error> {
+    match str::from_utf8(name) {
+        Ok(text) => Ok(text),
+        Err(_) => Err(Error::new(ErrorKind::InvalidInput, "the name is not UTF-8")),
     }
-    let mut path = [0u8; 4096];
-    text::put(&mut path, 0, name);
-    path[4095] = 0;
-    let mut target = [0u8; 1];
-    libc::readlink(&path, &mut target) >= 0
+}
+
+// Opens a file, or a folder, to be read.
+fn open(rt: &HostRuntime, name: &[u8]) -> Result<File, Error> {
+    fs::open(rt, name_of(name)?)
+}
+
+// Makes a file that is not there yet, to be written.
+fn create(rt: &HostRuntime, name: &[u8]) -> Result<File, Error> {
+    OpenOptions::new()
+        .write(true)
+        .create_new(true)
+        .open(rt, name_of(name)?)
+}
+
+// Removes a file.
+fn remove(rt: &HostRuntime, name: &[u8]) -> Result<(), Error> {
+    fs::remove_file(rt, name_of(name)?)
+}
+
+// Gives a file another name, at which there may be a file already.
+fn rename(rt: &HostRuntime, from: &[u8], to: &[u8]) -> Result<(), Error> {
+    fs::rename(rt, name_of(from)?, name_of(to)?)
+}
+
+// What the system says of a name itself, and not of what a link leads to.
+fn said_of(rt: &HostRuntime, name: &[u8]) -> Result<fs::Metadata, Error> {
+    fs::symlink_metadata(rt, name_of(name)?)
+}
+
+// Whether a name is a link's.
+fn is_link(rt: &HostRuntime, name: &[u8]) -> bool {
+    match said_of(rt, name) {
+        Ok(said) => said.is_symlink(),
+        Err(_) => false,
+    }
 }
 
 // Whether a name is a file's own. A link's is not: the new file would take its place, and there would be two books. Standard error then says so.
-pub fn is_own(name: &[u8]) -> bool {
-    if !is_link(name) {
+pub fn is_own(rt: &HostRuntime, name: &[u8]) -> bool {
+    if !is_link(rt, name) {
         return true;
     }
-    streams::tell(name);
-    streams::tell(b" is a link: name the file itself, so that the book has one name\n");
+    streams::tell(rt, name);
+    streams::tell(
+        rt,
+        b" is a link: name the file itself, so that the book has one name\n",
+    );
     false
 }
 
-// Takes a file in hand: makes the file that says so, and answers its descriptor, or a negative number, of which standard error then says why.
-pub fn take(busy: &[u8]) -> i32 {
-    let held = os::create(busy);
-    if held < 0 {
-        if os::errno() == EEXIST {
-            tell_busy(busy);
-        } else {
-            os::fail(busy);
+// Takes a file in hand: makes the file that says so, and answers it, or nothing, where standard error then says why.
+pub fn take(rt: &HostRuntime, busy: &[u8]) -> Option<File> {
+    match create(rt, busy) {
+        Ok(held) => Some(held),
+        Err(error) => {
+            if error.kind() == ErrorKind::AlreadyExists {
+                tell_busy(rt, busy);
+            } else {
+                streams::fail(rt, busy, &error);
+            }
+            None
         }
     }
-    held
 }
 
 // Lets a file go that is in hand.
-pub fn leave(busy: &[u8], held: i32) {
-    libc::close(held);
-    if os::unlink(busy) != 0 {
-        os::fail(busy);
+pub fn leave(rt: &HostRuntime, busy: &[u8], held: File) {
+    drop(held);
+    match remove(rt, busy) {
+        Ok(()) => {}
+        Err(error) => streams::fail(rt, busy, &error),
     }
 }
 
 // Whether there is no new file. Of one that is there, standard error says what to do: the file is in hand, so no program is at it.
-pub fn is_clear(new: &[u8]) -> bool {
-    let left = os::open_read(new);
-    if left < 0 {
-        return true;
+pub fn is_clear(rt: &HostRuntime, new: &[u8]) -> bool {
+    match open(rt, new) {
+        Err(_) => true,
+        Ok(left) => {
+            drop(left);
+            tell_left(rt, new);
+            false
+        }
     }
-    libc::close(left);
-    tell_left(new);
-    false
 }
 
 // A file that could not be read, or that the disk does not say it holds: standard error says why, and nothing is to be answered from it.
-fn not_read(file: &[u8]) -> Held
+fn not_read(rt: &HostRuntime, file: &[u8], error: &Error) -> Held
     ensures { result.count ≡ 0 }
 {
-    os::fail(file);
+    streams::fail(rt, file, error);
     Held {
         count: 0,
         missing: false,
@@ -102,17 +145,17 @@ fn not_read(file: &[u8]) -> Held
 }
 
 // Why a file could not be opened: there is none, or standard error says it.
-fn unopened(file: &[u8]) -> Held
+fn unopened(rt: &HostRuntime, file: &[u8], error: &Error) -> Held
     ensures { result.count ≡ 0 }
 {
-    if os::errno() == ENOENT {
+    if error.kind() == ErrorKind::NotFound {
         return Held {
             count: 0,
             missing: true,
             failed: false,
         };
     }
-    not_read(file)
+    not_read(rt, file, error)
 }
 
 // How many bytes of a file's name are its folder's: up to the last slash, and that too; none where it has no slash.
@@ -130,102 +173,113 @@ fn folder(file: &[u8]) -> usize
 }
 
 // Opens a file's folder.
-fn open_folder(file: &[u8]) -> i32 {
+fn open_folder(rt: &HostRuntime, file: &[u8]) -> Result<File, Error> {
     let end = folder(file);
     if end == 0 {
-        return os::open_read(b".");
+        return open(rt, b".");
     }
-    os::open_read(&file[..end])
+    open(rt, &file[..end])
 }
 
-// Has the disk hold what a folder says of its files, and says whether that could be done.
-fn sync_folder(file: &[u8]) -> bool {
-    let at = open_folder(file);
-    if at < 0 {
-        return false;
-    }
-    let done = libc::fsync(at);
-    libc::close(at);
-    done == 0
+// Has the disk hold what a folder says of its files; an error where that could not be done.
+fn sync_folder(rt: &HostRuntime, file: &[u8]) -> Result<(), Error> {
+    let at = open_folder(rt, file)?;
+    at.sync_all()
 }
 
 // Reads a file until it ends or buf is full, and has the disk hold it under its name: a program that was stopped may have written it and not seen to
 // that, and what is answered from it must not be lost.
-pub fn read(file: &[u8], buf: &mut [u8]) -> Held
+pub fn read(rt: &HostRuntime, file: &[u8], buf: &mut [u8]) -> Held
     ensures { result.count ≤ length buf.new }
 {
-    let from = os::open_read(file);
-    if from < 0 {
-        return unopened(file);
-    }
-    let taken = streams::read_file(from, buf);
-    let held = libc::fsync(from);
-    libc::close(from);
-    if held != 0 {
-        return not_read(file);
-    }
-    if !sync_folder(file) {
-        return not_read(file);
-    }
-    Held {
-        count: taken.count,
-        missing: false,
-        failed: taken.failed,
+    match open(rt, file) {
+        Ok(from) => read_open(rt, file, from, buf),
+        Err(error) => unopened(rt, file, &error),
     }
 }
 
-// Writes a whole text to a file, has the disk hold it, closes the file, and says whether all of that could be done.
-fn put_down(to: i32, text: &[u8]) -> bool {
-    let written = streams::write_to(to, text);
-    let mut held = -1;
-    if written {
-        held = libc::fsync(to);
+// The same of a file that is open.
+fn read_open(rt: &HostRuntime, file: &[u8], from: File, buf: &mut [u8]) -> Held
+    ensures { result.count ≤ length buf.new }
+{
+    let mut from = from;
+    let taken = streams::read_file(rt, &mut from, buf);
+    match hold_read(rt, file, from) {
+        Ok(()) => Held {
+            count: taken.count,
+            missing: false,
+            failed: taken.failed,
+        },
+        Err(error) => not_read(rt, file, &error),
     }
-    let closed = libc::close(to);
-    if held != 0 {
-        return false;
-    }
-    closed == 0
 }
 
-// Makes the new file, and answers its descriptor, or a negative number, of which standard error then says why.
-fn make(new: &[u8]) -> i32 {
-    let to = os::create(new);
-    if to < 0 {
-        if os::errno() == EEXIST {
-            tell_left(new);
-        } else {
-            os::fail(new);
+// Has the disk hold a file that was read, under its name, and closes it.
+fn hold_read(rt: &HostRuntime, file: &[u8], from: File) -> Result<(), Error> {
+    from.sync_all()?;
+    drop(from);
+    sync_folder(rt, file)
+}
+
+// Writes a whole text to a file, has the disk hold it, and closes the file; an error where that could not be done.
+fn put_down(to: File, text: &[u8]) -> Result<(), Error> {
+    let mut to = to;
+    streams::write_to(&mut to, text)?;
+    to.sync_all()
+}
+
+// Makes the new file, and answers it, or nothing, where standard error then says why.
+fn make(rt: &HostRuntime, new: &[u8]) -> Option<File> {
+    match create(rt, new) {
+        Ok(to) => Some(to),
+        Err(error) => {
+            if error.kind() == ErrorKind::AlreadyExists {
+                tell_left(rt, new);
+            } else {
+                streams::fail(rt, new, &error);
+            }
+            None
         }
     }
-    to
 }
 
 // Tells that the new text is not kept, and removes the new file.
-fn not_kept(new: &[u8]) -> bool {
-    os::fail(b"the book could not be written, and is as it was");
-    os::unlink(new);
+fn not_kept(rt: &HostRuntime, new: &[u8], error: &Error) -> bool {
+    streams::fail(
+        rt,
+        b"the book could not be written, and is as it was",
+        error,
+    );
+    let _ = remove(rt, new);
     false
 }
 
+// Writes a new text to its new file, which then takes the file's name.
+fn replace(rt: &HostRuntime, new: &[u8], file: &[u8], to: File, text: &[u8]) -> Result<(), Error> {
+    put_down(to, text)?;
+    rename(rt, new, file)
+}
+
 // Keeps a new text in a file that is in hand: it is on disk, under the file's name, before this answers true. Else standard error says why.
-pub fn keep(new: &[u8], long: usize, text: &[u8]) -> bool
+pub fn keep(rt: &HostRuntime, new: &[u8], long: usize, text: &[u8]) -> bool
     requires { long ≤ length new.now }
 {
     let file = &new[..long];
-    let to = make(new);
-    if to < 0 {
+    let Some(to) = make(rt, new) else {
         return false;
+    };
+    if let Err(error) = replace(rt, new, file, to, text) {
+        return not_kept(rt, new, &error);
     }
-    if !put_down(to, text) {
-        return not_kept(new);
+    match sync_folder(rt, file) {
+        Ok(()) => true,
+        Err(error) => {
+            streams::fail(
+                rt,
+                b"the book is written, but the disk does not say that it holds it",
+                &error,
+            );
+            false
+        }
     }
-    if os::rename(new, file) != 0 {
-        return not_kept(new);
-    }
-    if sync_folder(file) {
-        return true;
-    }
-    os::fail(b"the book is written, but the disk does not say that it holds it");
-    false
 }
