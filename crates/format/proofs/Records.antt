@@ -8,7 +8,6 @@ use lib.ListN.{length, get_or}
 use Rattle.whole.proofs.Comparisons.{by-test}
 use Rattle.format.specs.Format.{record_at}
 use Rattle.format.specs.declared.Found.{Found}
-use Rattle.format.specs.declared.Found.TheVariants as Found
 
 -- n is the length of the bytes
 abbrev pub EndsWithin : ℕ → ℕ → Found → Type 0

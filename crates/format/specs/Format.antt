@@ -14,7 +14,6 @@ use Rattle.whole.specs.Choice.{if◌then◌else◌}
 use Rattle.intake.specs.declared.WindowMm.{WindowMm}
 use Rattle.format.specs.declared.Step.TheVariants as Step
 use Rattle.format.specs.declared.Found.{Found}
-use Rattle.format.specs.declared.Found.TheVariants as Found
 
 -- ---- numbers
 

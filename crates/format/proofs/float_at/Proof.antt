@@ -7,19 +7,19 @@ use Rattle.format.proofs.Patterns.{above, not_above}
 use Rattle.format.proofs.float_at.Statement.{statement}
 use Rattle.format.proofs.float_at.Tie as tie
 
-number-at-requires : tie.Need-number-at-requires
+number-at-requires : tie.Need-number_at-bits-requires
 number-at-requires c κs = search rules
 
-returns : tie.Need-returns
+returns : tie.Need-returns-then-bits-gt2139095040
 unfolding float_at div of_bits
-returns c = sym (ap (of_bits binary32) (sym c.before.number_at.ensures) ∙ above c.before.number_at.result c.if1.true)
+returns c = sym (ap (of_bits binary32) (sym c.before.number_at-bits.ensures) ∙ above c.before.number_at-bits.result c.if-bits-gt2139095040.true)
 
-float-from-bits-result : tie.Need-float-from-bits-result
-float-from-bits-result c = not_above c.before.number_at.result c.if1.false
+float-from-bits-result : tie.Need-float_from_bits-result
+float-from-bits-result c = not_above c.before.number_at-bits.result c.if-bits-gt2139095040.false
 
-returns-2 : tie.Need-returns-2
+returns-2 : tie.Need-returns
 unfolding float_at
-returns-2 c = ap (of_bits binary32) c.before.number_at.ensures
+returns-2 c = ap (of_bits binary32) c.before.number_at-bits.ensures
 
 pub float_at_spec : {M : Type 1} → statement M
 float_at_spec = tie.close (tie.spec number-at-requires returns float-from-bits-result returns-2)
