@@ -13,9 +13,7 @@ use Rattle.whole.specs.Choice.{if◌then◌else◌}
 use Rattle.words.specs.Digits.{word_value}
 use Rattle.words.specs.Words.{up_to, has_minus, numeral, unsigned, as_integer}
 use Rattle.words.specs.declared.Natural.{Natural}
-use Rattle.words.specs.declared.Natural.TheVariants as Natural
 use Rattle.words.specs.declared.Integer.{Integer}
-use Rattle.words.specs.declared.Integer.TheVariants as Integer
 
 -- ---- the minus
 

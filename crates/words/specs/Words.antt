@@ -24,12 +24,9 @@ use Rattle.io.specs.Digits.{last_digits}
 use Rattle.whole.specs.Choice.{if◌then◌else◌}
 use Rattle.words.specs.Digits.{digit_of, word_value}
 use Rattle.words.specs.declared.Natural.{Natural}
-use Rattle.words.specs.declared.Natural.TheVariants as Natural
 use Rattle.words.specs.declared.Integer.{Integer}
-use Rattle.words.specs.declared.Integer.TheVariants as Integer
 use Rattle.words.specs.declared.Read.{Read}
 use Rattle.words.specs.declared.Single.{Single}
-use Rattle.words.specs.declared.Single.TheVariants as Single
 
 -- ---- numbers
 

@@ -6,14 +6,14 @@ use borrow.Author.Rules.{rules}
 use Rattle.words.proofs.from_bits.Statement.{statement}
 use Rattle.words.proofs.from_bits.Tie as tie
 
-returns : tie.Need-returns
+returns : tie.Need-returns-then-bits-gt2139095040
 unfolding div of_bits
-returns c = sym (above c.before.args.bits c.if1.true)
+returns c = sym (above c.args.bits c.if-bits-gt2139095040.true)
 
-float-from-bits-result : tie.Need-float-from-bits-result
-float-from-bits-result c = not_above c.before.args.bits c.if1.false
+float-from-bits-result : tie.Need-float_from_bits-result
+float-from-bits-result c = not_above c.args.bits c.if-bits-gt2139095040.false
 
-returns-2 : tie.Need-returns-2
+returns-2 : tie.Need-returns
 returns-2 c = search rules
 
 pub from_bits_spec : {M : Type 1} → statement M

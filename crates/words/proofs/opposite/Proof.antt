@@ -14,17 +14,17 @@ flipped : (n : ℕ) → (n ≡ 0 → ⊥) → n ≤ 2 ^ 31 → to_z w32 (4294967
 flipped zero h k = absurd (omega arith)
 flipped (suc n) h k = let same : 4294967295 - (suc n - 1) ≡ 4294967296 - suc n = omega arith in ap (to_z w32) same ∙ to_z-neg w32 n (omega arith)
 
-returns : tie.Need-returns
-returns c = rw c.if1.true
+returns : tie.Need-returns-then-n-eq0
+returns c = rw c.if-n-eq0.true
 
-sub-result : tie.Need-overflow-sub-result
+sub-result : tie.Need-overflow_sub-result
 sub-result c = search rules
 
-cast-result : tie.Need-overflow-cast-result
+cast-result : tie.Need-overflow_cast-result
 cast-result c = search rules
 
-returns-2 : tie.Need-returns-2
-returns-2 c = flipped c.before.args.n c.if1.false c.before.requires
+returns-2 : tie.Need-returns
+returns-2 c = flipped c.args.n c.if-n-eq0.false c.requires
 
 pub opposite_spec : {M : Type 1} → statement M
 opposite_spec = tie.close (tie.spec returns sub-result cast-result returns-2)

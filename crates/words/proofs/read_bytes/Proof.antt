@@ -11,44 +11,44 @@ use Rattle.words.proofs.read_bytes.Tie as tie
 unread-requires : tie.Need-unread-requires
 unread-requires c κs = search rules
 
-returns : tie.Need-returns
+returns : tie.Need-returns-then-word-eq0
 unfolding bytes
-returns c = rw c.unread.ensures (no_list _ _ (simp (eq-eqb _ _ c.before.if1.true)))
+returns c = rw c.unread.ensures (no_list _ _ (simp (eq-eqb _ _ c.if-word-eq0.true)))
 
-has-minus-requires : tie.Need-has-minus-requires
+has-minus-requires : tie.Need-has_minus-requires
 has-minus-requires c κs = search rules
 
-unread-requires-2 : tie.Need-unread-requires-2
+unread-requires-2 : tie.Need-unread-requires-then-word-ne1
 unread-requires-2 c κs = search rules
 
-returns-2 : tie.Need-returns-2
+returns-2 : tie.Need-returns-then-word-ne1
 unfolding bytes
-returns-2 c = rw c.unread2.ensures
+returns-2 c = rw c.unread-then-word-ne1.ensures
     (no_list _ _ (simp (
-      ne_eqb _ _ c.before.before.before.before.if1.false,
-      sym c.before.before.before.has-minus.ensures
-          ∙ c.before.before.if2.true,
-      ne_eqb _ _ c.before.if3.true,
+      ne_eqb _ _ c.if-word-eq0.false,
+      sym c.has_minus.ensures
+          ∙ c.if-has_minus.true,
+      ne_eqb _ _ c.if-word-ne1.true,
     )))
 
-returns-3 : tie.Need-returns-3
+returns-3 : tie.Need-returns-then-has_minus
 unfolding bytes
 returns-3 c = all_read _ _ 0 zero-le
-    (simp (ne_eqb _ _ c.before.before.before.if1.false, sym c.before.before.has-minus.ensures ∙ c.before.if2.true, eq-eqb _ _ c.if3.false))
+    (simp (ne_eqb _ _ c.if-word-eq0.false, sym c.has_minus.ensures ∙ c.if-has_minus.true, eq-eqb _ _ c.if-word-ne1.false))
 
-read-pairs-requires : tie.Need-read-pairs-requires
+read-pairs-requires : tie.Need-read_pairs-requires
 read-pairs-requires c κs = search rules
 
-same_length : tie.Need-same-length
+same_length : tie.Need-shape_of-out
 same_length c = search rules
 
-returns-4 : tie.Need-returns-4
+returns-4 : tie.Need-returns
 unfolding bytes
 returns-4 c = simp (
-  ne_eqb _ _ c.before.before.before.before.before.before.if1.false,
-  sym c.before.before.before.before.before.has-minus.ensures
-      ∙ c.before.before.before.before.if2.false,
-) c.before.before.read_pairs.ensures
+  ne_eqb _ _ c.if-word-eq0.false,
+  sym c.has_minus.ensures
+      ∙ c.if-has_minus.false,
+) c.read_pairs.ensures
 
 pub read_bytes_spec : {M : Type 1} → statement M
 read_bytes_spec =

@@ -9,34 +9,34 @@ use borrow.Author.Rules.{rules}
 use Rattle.words.proofs.read_unsigned.Statement.{statement}
 use Rattle.words.proofs.read_unsigned.Tie as tie
 
-has-minus-requires : tie.Need-has-minus-requires
+has-minus-requires : tie.Need-has_minus-requires
 has-minus-requires c κs = search rules
 
-found : (c : tie.Then1) → has_minus c.before.before.before.args.word.now ≡ true
-found c = sym c.before.has-minus.ensures ∙ c.if1.true
+found : (c : tie.Then-has_minus) → has_minus c.args.word.now ≡ true
+found c = sym c.has_minus.ensures ∙ c.if-has_minus.true
 
-sub-read-natural : tie.Need-overflow-sub-read-natural
+sub-read-natural : tie.Need-slice_bounds-read_natural-count
 sub-read-natural c = minus_long _ (found c)
 
-part-read-natural-start : tie.Need-slice-bounds-read-natural-start
+part-read-natural-start : tie.Need-slice_bounds-read_natural-start
 part-read-natural-start c = minus_long _ (found c)
 
-part-read-natural-end : tie.Need-slice-bounds-read-natural-end
+part-read-natural-end : tie.Need-slice_bounds-read_natural-end
 part-read-natural-end c = search rules
 
-read-natural-requires : tie.Need-read-natural-requires
+read-natural-requires : tie.Need-read_natural-requires
 read-natural-requires c κs = search rules
 
-returns : tie.Need-returns
-returns c = c.read-natural.ensures ∙ ap (λ w. up_to 0 (word_value 10 w)) (part_to_end c.before.before.before.before.before.args.word.now 1)
-    ∙ sym (unsigned_minus c.before.before.before.before.before.args.word.now _ (found c.before.before))
+returns : tie.Need-returns-then-has_minus
+returns c = c.read_natural.ensures ∙ ap (λ w. up_to 0 (word_value 10 w)) (part_to_end c.args.word.now 1)
+    ∙ sym (unsigned_minus c.args.word.now _ (found c.before.before))
 
-read-natural-requires-2 : tie.Need-read-natural-requires-2
+read-natural-requires-2 : tie.Need-read_natural-requires-2
 read-natural-requires-2 c κs = search rules
 
-returns-2 : tie.Need-returns-2
-returns-2 c = c.read-natural2.ensures
-    ∙ sym (unsigned_plus c.before.before.before.before.args.word.now _ (sym c.before.before.has-minus.ensures ∙ c.before.if1.false))
+returns-2 : tie.Need-returns
+returns-2 c = c.read_natural-2.ensures
+    ∙ sym (unsigned_plus c.args.word.now _ (sym c.has_minus.ensures ∙ c.if-has_minus.false))
 
 pub read_unsigned_spec : {M : Type 1} → statement M
 read_unsigned_spec =
