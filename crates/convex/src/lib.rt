@@ -6,14 +6,14 @@ ghost use Rattle.convex.specs.Corners.{corners_of, next, strictly_convex, most_c
 ghost use Rattle.convex.specs.Ways.{CornerOnTable, Short, corner_at, way_from, turns_left, change_of};
 
 // A point of the table.
-#[derive(Drop)]
+#[derive(Clone, Copy)]
 pub struct Corner {
     pub x: i32,
     pub y: i32,
 }
 
 // The way from one point of the table to another.
-#[derive(Drop)]
+#[derive(Clone, Copy)]
 pub struct Way {
     pub x: i32,
     pub y: i32,

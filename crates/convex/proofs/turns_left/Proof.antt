@@ -25,10 +25,10 @@ bounds c = (c.requires.0.x, (c.requires.0.y, (c.requires.1.x, (c.requires.1.y, t
 abbrev product : ℕ → ℕ → Code
 product i j = mul w32 (par w32 i) (par w32 j)
 
-mul-result : tie.Need-overflow-mul-result
+mul-result : tie.Need-overflow_mul-result
 mul-result c = let s = c.before.before.before.before in need β (env s) (bounds s) (product 1 2) tt
 
-mul-result-2 : tie.Need-overflow-mul-result-2
+mul-result-2 : tie.Need-overflow_mul-result-2
 mul-result-2 c = let s = c.before.before.before.before.before.before.before.before in need β (env s) (bounds s) (product 0 3) tt
 
 returns : tie.Need-returns

@@ -24,16 +24,16 @@ bounds c = (c.requires.0.x, (c.requires.0.y, (c.requires.1.x, (c.requires.1.y, t
 abbrev less : ℕ → ℕ → Code
 less i j = sub w32 (par w32 i) (par w32 j)
 
-abbrev start : tie.After-struct-told4 → tie.Start
+abbrev start : tie.After-struct_told-4-1 → tie.Start
 start c = c.before.before.before.before.before.before.before.before
 
-sub-t3 : tie.Need-overflow-sub-t3
+sub-t3 : tie.Need-overflow_sub-result
 sub-t3 c = let s = c.before.before.before.before in need β (env s) (bounds s) (less 2 0) tt
 
-sub-t4 : tie.Need-overflow-sub-t4
+sub-t4 : tie.Need-overflow_sub-result-2
 sub-t4 c = need β (env (start c)) (bounds (start c)) (less 3 1) tt
 
-is : (c : tie.After-struct-told4)
+is : (c : tie.After-struct_told-4-1)
     → record { x = machine (env (start c)) (less 2 0); y = machine (env (start c)) (less 3 1) } ≡ way_from (start c).args.a (start c).args.b
 is c = let v = value β (env (start c)) (bounds (start c)) in λ i. record { x = v (less 2 0) tt i; y = v (less 3 1) tt i }
 
