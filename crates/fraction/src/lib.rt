@@ -7,7 +7,7 @@ ghost use Rattle.fraction.specs.Fraction.{GreatestCommon, LowestOf, less_than, C
 ghost use Rattle.fraction.specs.Rounding.{along, Rounded};
 
 #[repr(C)]
-#[derive(Drop)]
+#[derive(Clone, Copy)]
 pub struct Fraction {
     pub num: i64,
     pub den: i64,

@@ -32,7 +32,7 @@ pub const BAD_DRAWING: u8 = 11;
 
 // A rectangle: its left, bottom, right and top side.
 #[repr(C)]
-#[derive(Drop)]
+#[derive(Clone, Copy)]
 pub struct Window {
     pub left: i32,
     pub bottom: i32,
@@ -42,7 +42,7 @@ pub struct Window {
 
 // A stroke from (x1, y1) to (x2, y2).
 #[repr(C)]
-#[derive(Drop)]
+#[derive(Clone, Copy)]
 pub struct Stroke {
     pub x1: i32,
     pub y1: i32,
@@ -51,7 +51,7 @@ pub struct Stroke {
 }
 
 // A refusal's number and place; number 0 refuses nothing.
-#[derive(Drop)]
+#[derive(Clone, Copy)]
 pub struct Refusal {
     pub number: u8,
     pub place: usize,
@@ -59,7 +59,7 @@ pub struct Refusal {
 
 // What a call that gives numbers returns: number and place of a refusal, or how many numbers it wrote.
 #[repr(C)]
-#[derive(Drop)]
+#[derive(Clone, Copy)]
 pub struct Answer {
     pub number: u8,
     pub place: usize,
