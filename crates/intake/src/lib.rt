@@ -9,7 +9,7 @@ use grid::Window;
 
 // A point in millimetres.
 #[repr(C)]
-#[derive(Drop)]
+#[derive(Clone, Copy)]
 pub struct PointMm {
     pub x: f32,
     pub y: f32,
@@ -17,7 +17,7 @@ pub struct PointMm {
 
 // A rectangle in millimetres: its left, bottom, right and top side.
 #[repr(C)]
-#[derive(Drop)]
+#[derive(Clone, Copy)]
 pub struct WindowMm {
     pub left: f32,
     pub bottom: f32,
@@ -27,7 +27,7 @@ pub struct WindowMm {
 
 // A refusal's number and place, or a point of the grid.
 #[repr(C)]
-#[derive(Drop)]
+#[derive(Clone, Copy)]
 pub struct PointAnswer {
     pub number: u8,
     pub place: usize,
@@ -37,7 +37,7 @@ pub struct PointAnswer {
 
 // A refusal's number and place, or a window of the grid.
 #[repr(C)]
-#[derive(Drop)]
+#[derive(Clone, Copy)]
 pub struct WindowAnswer {
     pub number: u8,
     pub place: usize,
@@ -46,7 +46,7 @@ pub struct WindowAnswer {
 
 // A refusal's number and place, or a number in millimetres.
 #[repr(C)]
-#[derive(Drop)]
+#[derive(Clone, Copy)]
 pub struct BackAnswer {
     pub number: u8,
     pub place: usize,
@@ -54,7 +54,7 @@ pub struct BackAnswer {
 }
 
 // What becomes of one millimetre number: a refusal's number and 0, or 0 and its grid number.
-#[derive(Drop)]
+#[derive(Clone, Copy)]
 struct Coordinate {
     number: u8,
     grid: i32,
