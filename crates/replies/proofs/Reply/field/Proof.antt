@@ -6,16 +6,16 @@ use borrow.Author.Rules.{rules}
 use Rattle.replies.proofs.Reply.field.Statement.{statement}
 use Rattle.replies.proofs.Reply.field.Tie as tie
 
-element-write-self : tie.Need-element-write-self
+element-write-self : tie.Need-bounds-self-n
 element-write-self c = search rules
 
-mul-self : tie.Need-overflow-mul-self
+mul-self : tie.Need-offset_bounds-self-n
 mul-self c = search rules
 
-element-write-self-2 : tie.Need-element-write-self-2
+element-write-self-2 : tie.Need-bounds-self-n-2
 element-write-self-2 c = search rules
 
-add-self : tie.Need-overflow-add-self
+add-self : tie.Need-overflow_add-self
 add-self c = search rules
 
 returns : tie.Need-returns

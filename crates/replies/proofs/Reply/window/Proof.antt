@@ -21,13 +21,13 @@ integer-requires-4 c κs = search rules
 returns : tie.Need-returns
 returns c =
     let a = c.before.before.before.before.before.before in
-    let f = a.before.struct_told.given in
+    let f = a.struct_told-1.given in
     counted (omega arith)
     (next_signed w32 f.1.1.1.0.1
     (next_signed w32 f.1.1.0.1
     (next_signed w32 f.1.0.1 (next_signed w32 f.0.1 (itself _) a.integer.ensures)
-    c.before.before.before.before.integer2.ensures) c.before.before.integer3.ensures)
-    c.integer4.ensures)
+    c.integer-2.ensures) c.integer-3.ensures)
+    c.integer-4.ensures)
 
 pub window_spec : {M : Type 1} → statement M
 window_spec =
