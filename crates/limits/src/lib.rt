@@ -15,7 +15,7 @@ ghost use Rattle.limits.specs.Limits.{LimitOnTable, limit_line, SmallIn, RunTo};
 pub mod own;
 
 // Inside is where X, or Y where axis is 1, is at least c times the denominator where low, else at most.
-#[derive(Drop)]
+#[derive(Clone, Copy)]
 pub struct Limit {
     pub low: bool,
     pub axis: usize,

@@ -41,22 +41,22 @@ next_in c =
     omega (arith, c.next_of.ensures, next_below (length s.args.outline.now / 2) s.args.k s.requires.1)
 
 mul-t13 : tie.Need-overflow-mul-t13
-mul-t13 c = omega (arith, next_in c.before.before, c.before.before.before.well-formed)
+mul-t13 c = omega (arith, next_in c.before.before, c.before.before.before.well_formed)
 
 mul-t14 : tie.Need-overflow-mul-t14
-mul-t14 c = omega (arith, next_in c.before.before, c.before.before.before.well-formed)
+mul-t14 c = omega (arith, next_in c.before.before, c.before.before.before.well_formed)
 
 shared-slice-copy-out-t16 : tie.Need-shared-slice-copy-out-t16
 shared-slice-copy-out-t16 c = omega (arith, next_in c.before.before)
 
 mul-t17 : tie.Need-overflow-mul-t17
-mul-t17 c = omega (arith, next_in c.before.before.before, c.before.before.before.before.well-formed)
+mul-t17 c = omega (arith, next_in c.before.before.before, c.before.before.before.before.well_formed)
 
 add-t18 : tie.Need-overflow-add-t18
-add-t18 c = omega (arith, next_in c.before.before.before, c.before.before.before.before.well-formed)
+add-t18 c = omega (arith, next_in c.before.before.before, c.before.before.before.before.well_formed)
 
 mul-t19 : tie.Need-overflow-mul-t19
-mul-t19 c = omega (arith, next_in c.before.before.before, c.before.before.before.before.well-formed)
+mul-t19 c = omega (arith, next_in c.before.before.before, c.before.before.before.before.well_formed)
 
 shared-slice-copy-out-t21 : tie.Need-shared-slice-copy-out-t21
 shared-slice-copy-out-t21 c = next_in c.before.before.before

@@ -49,25 +49,25 @@ module _ (s : tie.Start) where
   k = side_at s.args.side
 
   held : (w : Window) → Held w zs g (places 0 n)
-  held = loaded_held s.pre.0 (loaded_of_lem zs)
+  held = loaded_held s.requires.0 (loaded_of_lem zs)
 
   few : length zs ≤ 128
-  few = s.pre.0.corners.few
+  few = s.requires.0.corners.few
 
   fits : 2 * length zs + 4 ≤ length s.args.m.now
-  fits = s.pre.1.1.0
+  fits = s.requires.1.1.0
 
   some : 0 < s.args.a
-  some = s.pre.1.1.1.0
+  some = s.requires.1.1.1.0
 
   before_end : s.args.a < n
-  before_end = s.pre.1.1.1.1
+  before_end = s.requires.1.1.1.1
 
   first_in : (i : ℕ) → 0 ≤ i → i < s.args.a → In h (point_in g i)
-  first_in = s.pre.1.1.1.2.run
+  first_in = s.requires.1.1.1.2.run
 
   first_out : Out h (point_in g s.args.a)
-  first_out = s.pre.1.1.1.2.ends before_end
+  first_out = s.requires.1.1.1.2.ends before_end
 
 -- ---- the run outside, up to b
 module _ (c : tie.After-end-of-run) where
@@ -118,7 +118,7 @@ lies-on-requires-2 : tie.Need-lies-on-requires-2
 lies-on-requires-2 c κs =
     let e = c.before.before in
     let s = start e in
-    subst (λ (k : ℕ). LimitOnTable s.args.l × (k < n s)) (sym c.after.ensures) (s.pre.1.0.1, (next_of_ring e).0)
+    subst (λ (k : ℕ). LimitOnTable s.args.l × (k < n s)) (sym c.after.ensures) (s.requires.1.0.1, (next_of_ring e).0)
 
 load-requires : tie.Need-load-requires
 load-requires c κs = let s = start c.before.before.before.before in (few s, ((omega arith, omega (arith, before_end s)), omega (arith, before_end s, fits s)))
@@ -168,7 +168,7 @@ sub-leave-2 : tie.Need-overflow-sub-leave-2
 sub-leave-2 c = omega (arith, some (s₁ c.before.before))
 
 leave-requires : tie.Need-leave-requires
-leave-requires c κs = let l = c.before.before in let s = s₁ l in (s.pre.0, (s.pre.1.0, (leave_fits l, below l)))
+leave-requires c κs = let l = c.before.before in let s = s₁ l in (s.requires.0, (s.requires.1.0, (leave_fits l, below l)))
 
 module _ (c : tie.After-leave) where
   abbrev loaded : tie.After-load
@@ -208,7 +208,7 @@ enter-requires c κs =
     let l = c.before.before in
     let s = s₂ l in
     let f = found (loaded l) in
-    (s.pre.0, (s.pre.1.0.1, (omega (arith, after_a f, to_end f), enter_fits l)))
+    (s.requires.0, (s.requires.1.0.1, (omega (arith, after_a f, to_end f), enter_fits l)))
 
 module _ (c : tie.After-enter) where
   abbrev gone_out : tie.After-leave
@@ -256,7 +256,7 @@ returns c w q =
     let d = loaded l in
     let f = found d in
     let s = s₃ e in
-    first_cut w (k s) s.pre.0 (g s) q (some s) (after_a f) (to_end f) (held s w) (first_in s) (all_out f) (back_in f) s.args.m.now (m₁ d) (m₂ l)
+    first_cut w (k s) s.requires.0 (g s) q (some s) (after_a f) (to_end f) (held s w) (first_in s) (all_out f) (back_in f) s.args.m.now (m₁ d) (m₂ l)
     (m₃ e) c.before.load2.new.1.1.1.0 l.leave.result e.enter.result
     d.load.ensures (went l w q) (came e w q) c.before.load2.ensures
 

@@ -46,16 +46,16 @@ module _ (s : tie.Start) where
   k = side_at s.args.side
 
   held : (w : Window) → Held w zs g (places 0 n)
-  held = loaded_held s.pre.0 (loaded_of_lem zs)
+  held = loaded_held s.requires.0 (loaded_of_lem zs)
 
   few : length zs ≤ 128
-  few = s.pre.0.corners.few
+  few = s.requires.0.corners.few
 
   some : 0 < n
-  some = omega (arith, s.pre.0.corners.three)
+  some = omega (arith, s.requires.0.corners.three)
 
   fits : 2 * length zs + 4 ≤ length s.args.m.now
-  fits = s.pre.1.1.0
+  fits = s.requires.1.1.0
 
 -- ---- the run outside, up to f
 module _ (c : tie.After-end-of-run) where
@@ -69,7 +69,7 @@ module _ (c : tie.After-end-of-run) where
   after_first = omega (arith, c.end-of-run.ensures.above)
 
   all_out : (i : ℕ) → 0 ≤ i → i < f → Out (h start) (point_in (g start) i)
-  all_out = run_with true start.pre.1.1.1 c.end-of-run.ensures
+  all_out = run_with true start.requires.1.1.1 c.end-of-run.ensures
 
 end-of-run-requires : tie.Need-end-of-run-requires
 end-of-run-requires c κs = (c.requires.1.0.1, (omega (arith, some c), omega arith))
@@ -95,7 +95,7 @@ add-end-of-run : tie.Need-overflow-add-end-of-run
 add-end-of-run c = omega (arith, before_end c, few (start (first c)))
 
 end-of-run-requires-2 : tie.Need-end-of-run-requires-2
-end-of-run-requires-2 c κs = ((start (first c)).pre.1.0.1, (omega (arith, before_end c), omega arith))
+end-of-run-requires-2 c κs = ((start (first c)).requires.1.0.1, (omega (arith, before_end c), omega arith))
 
 module _ (c : tie.After-end-of-run2) where
   abbrev some_in : tie.Else1
@@ -138,7 +138,7 @@ enter-requires : tie.Need-enter-requires
 enter-requires c κs =
     let k = c.before.before.before in
     let s = s₁ k in
-    (s.pre.0, (s.pre.1.0.1, (omega (arith, before_end (some_in k)), omega (arith, fits s))))
+    (s.requires.0, (s.requires.1.0.1, (omega (arith, before_end (some_in k)), omega (arith, fits s))))
 
 -- ---- the memories
 module _ (c : tie.After-enter) where
@@ -233,7 +233,7 @@ sub-leave-3 : tie.Need-overflow-sub-leave-3
 sub-leave-3 c = omega (arith, after_f (found (entered c.before.before)))
 
 leave-requires : tie.Need-leave-requires
-leave-requires c κs = let l = c.before.before in let s = s₃ l in (s.pre.0, (s.pre.1.0, (leave_fits l, below l)))
+leave-requires c κs = let l = c.before.before in let s = s₃ l in (s.requires.0, (s.requires.1.0, (leave_fits l, below l)))
 
 same_length : tie.Need-same-length
 same_length c = c.before.leave.auto.1.1.1.0 ∙ size₂ c.before.before.before.before
@@ -252,7 +252,7 @@ returns-2 c w q =
     let inside : In (h s) (point_in (m₂ l) (last l)) = subst (In (h s)) (sym p) (all_in j (e j - 1) (omega (arith, after_f j)) (omega (arith, after_f j))) in
     let went : Gone w (zs s) (k s) (m₂ l) (last l) m₃ c.before.leave.result =
     gone_own (e₃ l - 1) q (below l) tag (leave_fits l) on inside c.before.leave.ensures in
-    first_keep w (k s) s.pre.0 (g s) q (after_first (first (some_in j))) (after_f j) (to_end j) (held s w) (all_out (first (some_in j))) (all_in j)
+    first_keep w (k s) s.requires.0 (g s) q (after_first (first (some_in j))) (after_f j) (to_end j) (held s w) (all_out (first (some_in j))) (all_in j)
     (out_again j) s.args.m.now (m₁ d) (m₂ l) m₃ (begin d) c.before.leave.result
     (came d w q) l.load.ensures went
 

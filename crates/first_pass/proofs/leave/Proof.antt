@@ -58,7 +58,7 @@ returns-2 c =
     let s = x.before.before.before in
     let p = point_of x.edge-crossing.result in
     let wrote : c.before.put.new.0 ≡ put_at (memory s) (s.args.i + 1) p (side_tag (side_at s.args.side)) =
-    c.before.put.ensures ∙ ap (put_at (memory s) (s.args.i + 1) p) (back w32 _ c.before.before.side-tag.type-inv ∙ c.before.before.side-tag.ensures) in
+    c.before.put.ensures ∙ ap (put_at (memory s) (s.args.i + 1) p) (back w32 _ c.before.before.side-tag.type_inv ∙ c.before.before.side-tag.ensures) in
     subst (λ (m : List ℤ). Done s m (s.args.i + 2)) (sym wrote) (crosses x.before.before.if1.false x.edge-crossing.ensures)
 
 pub leave_spec : {M : Type 1} → statement M

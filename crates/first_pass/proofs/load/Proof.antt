@@ -74,7 +74,7 @@ add-k : tie.Need-overflow-add-k invariant_loop decreases_loop
 add-k c = omega arith
 
 add-i : tie.Need-overflow-add-i invariant_loop decreases_loop
-add-i c = omega (arith, fits c.before.before.before.before.before, c.before.before.before.before.before.before.before.well-formed)
+add-i c = omega (arith, fits c.before.before.before.before.before, c.before.before.before.before.before.before.before.well_formed)
 
 loop-less : tie.Need-loop-smaller invariant_loop decreases_loop
 loop-less c = omega (arith, c.before.before.before.before.before.loop-test.true)

@@ -69,9 +69,9 @@ module _ (c : tie.At-loop invariant_loop decreases_loop) where
       c.loop.invariant.3 o t.order (sides_after o t.order start.args.t.k (omega (arith, t.place)) t.sides) b.left
 
   -- there is one
-  some_order : Running (window_of start.args.numbers.now) start.pre.1.1.1.1.0 start.args.outline.now c.loop.m c.loop.p
+  some_order : Running (window_of start.args.numbers.now) start.requires.1.1.1.1.0 start.args.outline.now c.loop.m c.loop.p
       c.loop.k (take c.loop.k c.loop.counts)
-  some_order = (so_far start.pre.1.1.1.1.0 start.pre.1.1.1.1.1).1
+  some_order = (so_far start.requires.1.1.1.1.0 start.requires.1.1.1.1.1).1
 
 -- ---- the side that comes next
 module _ (c : tie.In-loop invariant_loop decreases_loop) where
@@ -82,7 +82,7 @@ module _ (c : tie.In-loop invariant_loop decreases_loop) where
   side = at.loop.rest % 4
 
   sides : Cutting (window_of (start at).args.numbers.now) (start at).args.outline.now (start at).args.cuts.now
-  sides = (start at).pre.1.0
+  sides = (start at).requires.1.0
 
   below : at.loop.k < 4
   below = omega (arith, c.loop-test.true)
@@ -98,14 +98,14 @@ module _ (c : tie.In-loop invariant_loop decreases_loop) where
       ≡ take at.loop.k at.loop.counts ++ ((p.to - p.from) ∷ [])
   counted p =
       ap (λ (j : ℕ). take j (set at.loop.counts at.loop.k (p.to - p.from))) (add-one at.loop.k)
-      ∙ take-suc-set at.loop.counts at.loop.k (p.to - p.from) (omega (arith, at.loop.inv.2))
+      ∙ take-suc-set at.loop.counts at.loop.k (p.to - p.from) (omega (arith, at.loop.invariant.2))
 
   -- what a pass along it leaves
   left : (p : Places) (m : List ℤ)
       → Passed (window_of (start at).args.numbers.now) (start at).args.outline.now (side_at side) at.loop.m at.loop.p m p → 3 ≤ p.to - p.from
       → Left-by p m
   left p m d h o ho e₀ r₀ =
-      let f = at.loop.inv.3 o ho e₀ r₀ in (
+      let f = at.loop.invariant.3 o ho e₀ r₀ in (
         sides_after o ho at.loop.k below f.0,
         subst (Running (window_of (start at).args.numbers.now) o (start at).args.outline.now m p (at.loop.k + 1)) (sym (counted p))
             (run_more ho below (next_side o ho at.loop.k below f.0) d f.1 h),
@@ -132,16 +132,16 @@ is_number c = let i = c.before.before.before in back w32 _ c.limit-of-arg.given 
 limit-of-requires : tie.Need-limit-of-requires invariant_loop decreases_loop
 limit-of-requires c κs =
     let i = c.before.before.before in
-    (omega arith, subst (Within farthest) (sym (is_number c)) (number_within (window_of (start (at i)).args.numbers.now) (side_at (side i)) (start (at i)).pre.0))
+    (omega arith, subst (Within farthest) (sym (is_number c)) (number_within (window_of (start (at i)).args.numbers.now) (side_at (side i)) (start (at i)).requires.0))
 
 pass-requires : tie.Need-pass-requires invariant_loop decreases_loop
 pass-requires c κs =
     let n = c.before.before in
     let i = n.before.before.before in
     let s = start (at i) in
-    let p = s.pre.1.1 in
+    let p = s.requires.1.1 in
     let r = some_order (at i) in
-    let job : Job (window_of s.args.numbers.now) s.args.outline.now (side i) = record { window = s.pre.0; outline = p.0; side = omega arith } in
+    let job : Job (window_of s.args.numbers.now) s.args.outline.now (side i) = record { window = s.requires.0; outline = p.0; side = omega arith } in
     let l = c.before.limit-of.ensures in
     (job, ((l.0 (window_of s.args.numbers.now) (is_number n), l.1), (omega (arith, r.room, p.1.0, (at i).loop.invariant.1, i.loop-test.true), r.held)))
 
@@ -174,7 +174,7 @@ nothing-requires : tie.Need-nothing-requires invariant_loop decreases_loop
 nothing-requires c κs = search rules
 
 same_length : tie.Need-same-length invariant_loop decreases_loop
-same_length c = let p = c.before.before.before.before in p.pass.auto.1.1.1.1.0 ∙ (at (within p)).loop.inv.1
+same_length c = let p = c.before.before.before.before in p.pass.auto.1.1.1.1.0 ∙ (at (within p)).loop.invariant.1
 
 returns : tie.Need-returns invariant_loop decreases_loop
 returns c o b =
@@ -195,16 +195,16 @@ module _ (c : tie.Joined1 invariant_loop decreases_loop) where
   joined =
       ⊎_elim
       (λ o. transport (λ j. Left-with inside (sym o.9 j) (sym o.8 j))
-      (o.4.kept.1.1.1.1.0 ∙ (at inside).loop.inv.1, left inside o.4.result o.4.last.1.1.1.1.0 o.4.ensures o.7.left))
-      (λ o. transport (λ j. Left-with inside (sym o.2 j) (sym o.1 j)) ((at inside).loop.inv.1, over inside o.0.left))
+      (o.4.kept.1.1.1.1.0 ∙ (at inside).loop.invariant.1, left inside o.4.result o.4.last.1.1.1.1.0 o.4.ensures o.7.left))
+      (λ o. transport (λ j. Left-with inside (sym o.2 j) (sym o.1 j)) ((at inside).loop.invariant.1, over inside o.0.left))
       c.if1.branch
 
   -- in the order that there is
   here : let l = (at inside).loop in
-      Running (window_of (start (at inside)).args.numbers.now) (start (at inside)).pre.1.1.1.1.0 (start (at inside)).args.outline.now
+      Running (window_of (start (at inside)).args.numbers.now) (start (at inside)).requires.1.1.1.1.0 (start (at inside)).args.outline.now
       c.if1.m c.if1.p (l.k + 1) (take (l.k + 1) (set l.counts l.k (c.if1.p.to - c.if1.p.from)))
   here =
-      let b = (start (at inside)).pre.1.1.1.1.1 in
+      let b = (start (at inside)).requires.1.1.1.1.1 in
       let t = b.in_order in
       (joined.1 _ t.order (sides_after _ t.order (start (at inside)).args.t.k (omega (arith, t.place)) t.sides) b.left).1
 
@@ -214,7 +214,7 @@ sub-counts c = (here c.before).order
 cast-counts : tie.Need-overflow-cast-counts invariant_loop decreases_loop
 cast-counts c =
     let j = c.before in
-    omega (arith, (here j).room, below (inside j), (start (at (inside j))).pre.1.1.0.corners.few)
+    omega (arith, (here j).room, below (inside j), (start (at (inside j))).requires.1.1.0.corners.few)
 
 array-write-counts : tie.Need-array-write-counts invariant_loop decreases_loop
 array-write-counts c = below (inside c.before)
@@ -229,7 +229,7 @@ loop-again : tie.Need-loop-preserved invariant_loop decreases_loop
 loop-again c =
     let j = c.before in
     let i = inside j in
-    (omega (arith, below i), (joined j).0, length-set (at i).loop.counts _ _ ∙ (at i).loop.inv.2, (joined j).1)
+    (omega (arith, below i), (joined j).0, length-set (at i).loop.counts _ _ ∙ (at i).loop.invariant.2, (joined j).1)
 
 same-length-2 : tie.Need-same-length-2 invariant_loop decreases_loop
 same-length-2 c = c.before.loop.invariant.1
@@ -240,7 +240,7 @@ returns-2 c o b =
     let s = start a in
     let e : a.loop.k ≡ 4 = omega arith in
     let all : take a.loop.k a.loop.counts ≡ a.loop.counts = take_all a.loop.k a.loop.counts (omega (arith, a.loop.invariant.2)) in
-    run_ended b.in_order.order (omega (arith, s.pre.1.1.1.0, a.loop.invariant.1))
+    run_ended b.in_order.order (omega (arith, s.requires.1.1.1.0, a.loop.invariant.1))
     (transport (λ i. Running (window_of s.args.numbers.now) o s.args.outline.now a.loop.m a.loop.p (e i) (all i)) (so_far a o b).1)
 
 pub go_on_spec : {M : Type 1} → statement M

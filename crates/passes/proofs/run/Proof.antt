@@ -43,7 +43,7 @@ module _ (c : tie.After-first-turn) where
   side = t.rest % 4
 
   sides : Cutting (window_of start.args.numbers.now) zs start.args.cuts.now
-  sides = start.pre.1.1.0
+  sides = start.requires.1.1.0
 
   place : t.k ≤ 3
   place = c.first-turn.ensures.0.place
@@ -57,7 +57,7 @@ module _ (c : tie.After-first-turn) where
   skipped : Running (window_of start.args.numbers.now) start.args.order zs (loaded_of zs) (places 0 (length zs / 2)) t.k
       (take t.k (replicate 4 (length zs / 2)))
   skipped =
-      run_skipped start.pre.1.1.1.0 order t.k (omega (arith, place))
+      run_skipped start.requires.1.1.1.0 order t.k (omega (arith, place))
       (λ j l. sides (side_in start.args.order j) (c.first-turn.ensures.1 j l))
 
 first-turn-requires : tie.Need-first-turn-requires
@@ -85,7 +85,7 @@ limit-of-requires c κs =
 
 pass-requires : tie.Need-pass-requires
 pass-requires c κs =
-    let p = (start c.before.before.before.before).pre.1.1.1 in
+    let p = (start c.before.before.before.before).requires.1.1.1 in
     (p.0, ((omega arith, c.before.limit-of.ensures.1), omega (arith, p.1)))
 
 -- ---- after the first pass
@@ -124,7 +124,7 @@ cast-counts c = search rules
 cast-counts-2 : tie.Need-overflow-cast-counts-2
 cast-counts-2 c =
     let p = c.before.before.before in
-    omega (arith, (passed p).end, (start (turn p)).pre.1.1.1.0.corners.few)
+    omega (arith, (passed p).end, (start (turn p)).requires.1.1.1.0.corners.few)
 
 array-write-counts : tie.Need-array-write-counts
 array-write-counts c = search rules
@@ -153,7 +153,7 @@ go-on-requires c κs =
     let p = c.before.before.before.before in
     let f = turn p in
     let s = start f in
-    (s.pre.0, (sides f, (s.pre.1.1.1.0, (omega (arith, s.pre.1.1.1.1, size p), (s.args.order, left c.before)))))
+    (s.requires.0, (sides f, (s.requires.1.1.1.0, (omega (arith, s.requires.1.1.1.1, size p), (s.args.order, left c.before)))))
 
 same-length-2 : tie.Need-same-length-2
 same-length-2 c = search rules

@@ -28,7 +28,7 @@ returns c =
     let s = t.before.before.before.before in (
       refl,
       c.before.put.ensures
-          ∙ (λ k. put_at s.args.m.now s.args.i (t.before.corner_at.ensures k) ((back w32 _ t.side-tag.type-inv ∙ t.side-tag.ensures) k)),
+          ∙ (λ k. put_at s.args.m.now s.args.i (t.before.corner_at.ensures k) ((back w32 _ t.side-tag.type_inv ∙ t.side-tag.ensures) k)),
     )
 
 pub turn_along_spec : {M : Type 1} → statement M

@@ -15,53 +15,53 @@ use Rattle.limits.proofs.Owned.{below_low, above_low, plain_run}
 use Rattle.limits.proofs.own.end_below.Statement.{statement}
 use Rattle.limits.proofs.own.end_below.Tie as tie
 
-abbrev invariant_loop : tie.invariant_loop
+abbrev invariant_loop : tie.invariant-loop-k
 invariant_loop outline axis t from to k₀ k = RunSo (line_by true axis (to_z w32 t)) (loaded_of outline) true from to k
 
-abbrev decreases_loop : tie.decreases_loop
+abbrev decreases_loop : tie.decreases-loop-k
 decreases_loop outline axis t from to k₀ k = to - k
 
-there : (c : tie.In-loop invariant_loop decreases_loop) → c.before.loop.k < length c.before.before.args.outline.now / 2
-there c = omega (arith, c.before.before.requires.1.1, c.loop-test.true)
+there : (c : tie.In-loop-k invariant_loop decreases_loop) → c.before.loop-k.k < length c.before.before.args.outline.now / 2
+there c = omega (arith, c.before.before.requires.1.1, c.loop-k-test.true)
 
-loop-holds : tie.Need-loop-init invariant_loop decreases_loop
+loop-holds : tie.Need-loop-k-init invariant_loop decreases_loop
 loop-holds c = run_starts c.requires.1.0
 
-mul-if1 : tie.Need-overflow-mul-if1 invariant_loop decreases_loop
+mul-if1 : tie.Need-overflow_mul-k invariant_loop decreases_loop
 mul-if1 c = search rules
 
-add-if1 : tie.Need-overflow-add-if1 invariant_loop decreases_loop
+add-if1 : tie.Need-overflow_add-k invariant_loop decreases_loop
 add-if1 c = search rules
 
-mul-if1-2 : tie.Need-overflow-mul-if1-2 invariant_loop decreases_loop
+mul-if1-2 : tie.Need-offset_bounds-outline-k invariant_loop decreases_loop
 mul-if1-2 c = search rules
 
-shared-slice-copy-out-if1 : tie.Need-shared-slice-copy-out-if1 invariant_loop decreases_loop
+shared-slice-copy-out-if1 : tie.Need-bounds-outline-k invariant_loop decreases_loop
 shared-slice-copy-out-if1 c = search rules
 
-returns : tie.Need-returns invariant_loop decreases_loop
+returns : tie.Need-returns-then-t-outline invariant_loop decreases_loop
 returns c =
     let k = c.before.before in
     let s = k.before.before in
     plain_run s.args.outline.now true s.args.axis s.ranges.t
-    (run_ends k.before.loop.invariant
-    (above_low s.args.outline.now s.requires.0 (there k) _ (le_yes refl (back w32 _ c.before.if12.given) c.if1.true)))
+    (run_ends k.before.loop-k.invariant
+    (above_low s.args.outline.now s.requires.0 (there k) _ (le_yes refl (back w32 _ c.before.t12-1.given) c.if-t-outline.true)))
 
-add-k : tie.Need-overflow-add-k invariant_loop decreases_loop
+add-k : tie.Need-overflow_add-k-in-loop-k invariant_loop decreases_loop
 add-k c = search rules
 
-loop-less : tie.Need-loop-smaller invariant_loop decreases_loop
+loop-less : tie.Need-loop-k-smaller invariant_loop decreases_loop
 loop-less c = search rules
 
-loop-again : tie.Need-loop-preserved invariant_loop decreases_loop
+loop-again : tie.Need-loop-k-preserved invariant_loop decreases_loop
 loop-again c =
     let k = c.before.before in
     let s = k.before.before in
-    run_goes_on k.before.loop.invariant k.loop-test.true
-    (below_low s.args.outline.now s.requires.0 (there k) _ (le_no refl (back w32 _ c.before.if12.given) c.if1.false))
+    run_goes_on k.before.loop-k.invariant k.loop-k-test.true
+    (below_low s.args.outline.now s.requires.0 (there k) _ (le_no refl (back w32 _ c.before.t12-1.given) c.if-t-outline.false))
 
-returns-2 : tie.Need-returns-2 invariant_loop decreases_loop
-returns-2 c = let s = c.before.before in plain_run s.args.outline.now true s.args.axis s.ranges.t (run_is_all c.before.loop.invariant c.loop-test.false)
+returns-2 : tie.Need-returns invariant_loop decreases_loop
+returns-2 c = let s = c.before.before in plain_run s.args.outline.now true s.args.axis s.ranges.t (run_is_all c.before.loop-k.invariant c.loop-k-test.false)
 
 pub end_below_spec : {M : Type 1} → statement M
 end_below_spec =

@@ -5,45 +5,45 @@ use Rattle.limits.proofs.Owned.{more_fits, low_ends, high_ends}
 use Rattle.limits.proofs.own.end_of_run.Statement.{statement}
 use Rattle.limits.proofs.own.end_of_run.Tie as tie
 
-end-below-requires : tie.Need-end-below-requires
+end-below-requires : tie.Need-end_below-requires
 end-below-requires c κs = search rules
 
-returns : tie.Need-returns
+returns : tie.Need-returns-then-outside
 returns c =
-    let s = c.before.before.before.before in low_ends s.args.l s.args.outline.now s.requires.0 c.before.before.before.if1.true
-    c.before.before.if2.true c.end_Below.ensures
+    let s = c.before.before.before.before in low_ends s.args.l s.args.outline.now s.requires.0 c.before.before.before.if-l.true
+    c.before.before.if-outside.true c.end_below.ensures
 
-end-above-requires : tie.Need-end-above-requires
+end-above-requires : tie.Need-end_above-requires
 end-above-requires c κs = search rules
 
-returns-2 : tie.Need-returns-2
+returns-2 : tie.Need-returns-then-l
 returns-2 c =
-    let s = c.before.before.before.before in low_ends s.args.l s.args.outline.now s.requires.0 c.before.before.before.if1.true
-    c.before.before.if2.false c.end-above.ensures
+    let s = c.before.before.before.before in low_ends s.args.l s.args.outline.now s.requires.0 c.before.before.before.if-l.true
+    c.before.before.if-outside.false c.end_above.ensures
 
-add-end-above : tie.Need-overflow-add-end-above
+add-end-above : tie.Need-overflow_add-l
 add-end-above c = more_fits c.before.before.before.before.requires.0.number
 
-end-above-requires-2 : tie.Need-end-above-requires-2
+end-above-requires-2 : tie.Need-end_above-requires-then-outside-2
 end-above-requires-2 c κs = search rules
 
-returns-3 : tie.Need-returns-3
+returns-3 : tie.Need-returns-then-outside-2
 returns-3 c =
     let s = c.before.before.before.before.before in
-    high_ends s.args.l s.args.outline.now s.requires.0 true c.before.before.before.before.if1.false c.before.before.before.if3.true
-    s.requires.1.1 c.end-above2.ensures
+    high_ends s.args.l s.args.outline.now s.requires.0 true c.before.before.before.before.if-l.false c.before.before.before.if-outside-2.true
+    s.requires.1.1 c.end_above-then-outside-2.ensures
 
-add-end-below : tie.Need-overflow-add-end-below
+add-end-below : tie.Need-overflow_add-l-2
 add-end-below c = more_fits c.before.before.before.before.requires.0.number
 
-end-below-requires-2 : tie.Need-end-below-requires-2
+end-below-requires-2 : tie.Need-end_below-requires-2
 end-below-requires-2 c κs = search rules
 
-returns-4 : tie.Need-returns-4
+returns-4 : tie.Need-returns
 returns-4 c =
     let s = c.before.before.before.before.before in
-    high_ends s.args.l s.args.outline.now s.requires.0 false c.before.before.before.before.if1.false c.before.before.before.if3.false
-    s.requires.1.1 c.end-below2.ensures
+    high_ends s.args.l s.args.outline.now s.requires.0 false c.before.before.before.before.if-l.false c.before.before.before.if-outside-2.false
+    s.requires.1.1 c.end_below-2.ensures
 
 pub end_of_run_spec : {M : Type 1} → statement M
 end_of_run_spec =
