@@ -11,58 +11,58 @@ use borrow.Author.Rules.{rules}
 use Rattle.lines.proofs.put_row.Statement.{statement}
 use Rattle.lines.proofs.put_row.Tie as tie
 
-mul-index : tie.Need-overflow-mul-index
+mul-index : tie.Need-offset_bounds-rows-i
 mul-index c = search rules
 
-shared-slice-copy-out-index : tie.Need-shared-slice-copy-out-index
+shared-slice-copy-out-index : tie.Need-bounds-rows-i
 shared-slice-copy-out-index c = search rules
 
-add-ax : tie.Need-overflow-add-ax
+add-ax : tie.Need-overflow_add-ax
 add-ax c = search rules
 
-mul-ax : tie.Need-overflow-mul-ax
+mul-ax : tie.Need-offset_bounds-rows-i-2
 mul-ax c = search rules
 
-shared-slice-copy-out-ax : tie.Need-shared-slice-copy-out-ax
+shared-slice-copy-out-ax : tie.Need-bounds-rows-i-2
 shared-slice-copy-out-ax c = search rules
 
-add-ay : tie.Need-overflow-add-ay
+add-ay : tie.Need-overflow_add-ay
 add-ay c = search rules
 
-mul-ay : tie.Need-overflow-mul-ay
+mul-ay : tie.Need-offset_bounds-rows-i-3
 mul-ay c = search rules
 
-shared-slice-copy-out-ay : tie.Need-shared-slice-copy-out-ay
+shared-slice-copy-out-ay : tie.Need-bounds-rows-i-3
 shared-slice-copy-out-ay c = search rules
 
-add-bx : tie.Need-overflow-add-bx
+add-bx : tie.Need-overflow_add-bx
 add-bx c = search rules
 
-mul-bx : tie.Need-overflow-mul-bx
+mul-bx : tie.Need-offset_bounds-rows-i-4
 mul-bx c = search rules
 
-shared-slice-copy-out-bx : tie.Need-shared-slice-copy-out-bx
+shared-slice-copy-out-bx : tie.Need-bounds-rows-i-4
 shared-slice-copy-out-bx c = search rules
 
-add-by : tie.Need-overflow-add-by
+add-by : tie.Need-overflow_add-by
 add-by c = search rules
 
-mul-by : tie.Need-overflow-mul-by
+mul-by : tie.Need-offset_bounds-rows-i-5
 mul-by c = search rules
 
-shared-slice-copy-out-by : tie.Need-shared-slice-copy-out-by
+shared-slice-copy-out-by : tie.Need-bounds-rows-i-5
 shared-slice-copy-out-by c = search rules
 
-put-number-requires : tie.Need-put-number-requires
+put-number-requires : tie.Need-put_number-a-requires
 put-number-requires c κs = search rules
 
-put-point-requires : tie.Need-put-point-requires
+put-point-requires : tie.Need-put_point-b-requires
 put-point-requires c κs = search rules
 
-put-point-requires-2 : tie.Need-put-point-requires-2
+put-point-requires-2 : tie.Need-put_point-requires
 put-point-requires-2 c κs = search rules
 
-same_length : tie.Need-same-length
+same_length : tie.Need-shape_of-page
 same_length c = search rules
 
 returns : tie.Need-returns
@@ -80,14 +80,14 @@ returns c =
     let s = at₁ in
     let xs = s.args.rows.now in
     let i = s.args.i in
-    let p = at₇.put-number.ensures in
-    let q = at₈.put-point.ensures in
-    let r = at₉.put-point2.ensures in
-    let k = (back w32 (get_or xs i (pos 0)) at₂.index.given) in
-    let a = (back w32 (get_or xs (i + 1) (pos 0)) at₃.ax.given) in
-    let b = (back w32 (get_or xs (i + 2) (pos 0)) at₄.ay.given) in
-    let d = (back w32 (get_or xs (i + 3) (pos 0)) at₅.bx.given) in
-    let e = (back w32 (get_or xs (i + 4) (pos 0)) at₆.by.given) in
+    let p = at₇.put_number-a.ensures in
+    let q = at₈.put_point-b.ensures in
+    let r = at₉.put_point.ensures in
+    let k = (back w32 (get_or xs i (pos 0)) at₂.index-1.given) in
+    let a = (back w32 (get_or xs (i + 1) (pos 0)) at₃.ax-1.given) in
+    let b = (back w32 (get_or xs (i + 2) (pos 0)) at₄.ay-1.given) in
+    let d = (back w32 (get_or xs (i + 3) (pos 0)) at₅.bx-1.given) in
+    let e = (back w32 (get_or xs (i + 4) (pos 0)) at₆.by-1.given) in
     (put_then (put_then (simp k at p.0) (simp (a, b) at q.0)) (simp (d, e) at r.0), omega (arith, p.1, q.1, r.1))
 
 pub put_row_spec : {M : Type 1} → statement M

@@ -8,19 +8,16 @@ use borrow.Author.Rules.{rules}
 use Rattle.lines.proofs.put_strip.Statement.{statement}
 use Rattle.lines.proofs.put_strip.Tie as tie
 
-slice-aggregate-put : tie.Need-slice-aggregate-put
-slice-aggregate-put c = search rules
-
-put-requires : tie.Need-put-requires
+put-requires : tie.Need-put-a-requires
 put-requires c κs = search rules
 
-put-point-requires : tie.Need-put-point-requires
+put-point-requires : tie.Need-put_point-b-requires
 put-point-requires c κs = search rules
 
-put-point-requires-2 : tie.Need-put-point-requires-2
+put-point-requires-2 : tie.Need-put_point-requires
 put-point-requires-2 c κs = search rules
 
-same_length : tie.Need-same-length
+same_length : tie.Need-shape_of-page
 same_length c = search rules
 
 returns : tie.Need-returns
@@ -32,10 +29,10 @@ returns c =
     let at₂ = at₃.before.before.before.before in
     let at₁ = at₂.before.before.before.before in
     let w = at₁.args.w in
-    let t = at₃.struct_told.given in
-    let p = at₂.put.ensures in
-    let q = at₄.put-point.ensures in
-    let r = at₅.put-point2.ensures in
+    let t = at₃.struct_told-1.given in
+    let p = at₂.put-a.ensures in
+    let q = at₄.put_point-b.ensures in
+    let r = at₅.put_point.ensures in
     let left = back w32 w.left t.0.1 in
     let bottom = back w32 w.bottom t.1.0.1 in
     let right = back w32 w.right t.1.1.0.1 in
@@ -46,7 +43,6 @@ pub put_strip_spec : {M : Type 1} → statement M
 put_strip_spec =
     tie.close
     (tie.spec
-    slice-aggregate-put
     put-requires
     put-point-requires
     put-point-requires-2
