@@ -13,7 +13,6 @@ use Rattle.whole.specs.Choice.{if◌then◌else◌}
 use Rattle.words.specs.Digits.{word_value}
 use Rattle.words.specs.Words.{words, arguments, onto, integers, and_integer, as_integer, numeral, has_minus}
 use Rattle.words.specs.declared.Integer.{Integer}
-use Rattle.words.specs.declared.Integer.TheVariants as Integer
 use Rattle.arguments.specs.Arguments.{numbers_in}
 
 -- the bytes of words, with a space before each

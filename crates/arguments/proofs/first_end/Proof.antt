@@ -6,15 +6,15 @@ use Rattle.arguments.proofs.Numbers.{none_there, first_there}
 use Rattle.arguments.proofs.first_end.Statement.{statement}
 use Rattle.arguments.proofs.first_end.Tie as tie
 
-returns : tie.Need-returns
-returns c = (search rules, none_there c.before.before.args.rest.now (search rules))
+returns : tie.Need-returns-then-rest-eq0
+returns c = (search rules, none_there c.args.rest.now (search rules))
 
 find-requires : tie.Need-find-requires
 find-requires c κs = search rules
 
-returns-2 : tie.Need-returns-2
+returns-2 : tie.Need-returns
 returns-2 c =
-    let text = c.before.before.before.args.rest.now in
+    let text = c.args.rest.now in
     (c.find.ensures.1, c.find.ensures.0 ∙ first_there text (λ e. omega arith))
 
 pub first_end_spec : {M : Type 1} → statement M
