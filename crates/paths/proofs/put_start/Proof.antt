@@ -6,19 +6,16 @@ use borrow.Author.Rules.{rules}
 use Rattle.paths.proofs.put_start.Statement.{statement}
 use Rattle.paths.proofs.put_start.Tie as tie
 
-put-requires : tie.Need-put-requires
+put-requires : tie.Need-put-a-requires
 put-requires c κs = search rules
 
-put-thousandths-requires : tie.Need-put-thousandths-requires
+put-thousandths-requires : tie.Need-put_thousandths-b-requires
 put-thousandths-requires c κs = search rules
 
-slice-aggregate-put : tie.Need-slice-aggregate-put
-slice-aggregate-put c = search rules
-
-put-requires-2 : tie.Need-put-requires-2
+put-requires-2 : tie.Need-put-requires
 put-requires-2 c κs = search rules
 
-same_length : tie.Need-same-length
+same_length : tie.Need-shape_of-page
 same_length c = search rules
 
 returns : tie.Need-returns
@@ -27,9 +24,9 @@ returns c =
     let at₃ = c.before.before in
     let at₂ = at₃.before.before.before.before.before in
     let at₁ = at₂.before.before.before.before in
-    let p = at₁.put.ensures in
-    let q = at₂.put-thousandths.ensures in
-    let r = at₃.put2.ensures in
+    let p = at₁.put-a.ensures in
+    let q = at₂.put_thousandths-b.ensures in
+    let r = at₃.put.ensures in
     (put_then (put_then p q.0) r, omega (arith, p.ends, q.1, r.ends))
 
 pub put_start_spec : {M : Type 1} → statement M
@@ -38,7 +35,6 @@ put_start_spec =
     (tie.spec
     put-requires
     put-thousandths-requires
-    slice-aggregate-put
     put-requires-2
     same_length
     returns)
