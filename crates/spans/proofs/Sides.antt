@@ -22,6 +22,7 @@ use Rattle.spans.specs.Sides.{Condition, Inward, Outward, Fixes, FirstOf, here, 
 -- ---- the first of a list, and of another whose members satisfy Q where those of the list satisfy P
 pub first_each : {A B : Type 0} {R : A → B → Type 0} {P : A → Type 0} {Q : B → Type 0} {xs : List A} {ys : List B} {k : ℕ} → Each R xs ys
     → ((x : A) (y : B) → R x y → P x → Q y) → ((x : A) (y : B) → R x y → Q y → P x) → FirstOf P xs k → FirstOf Q ys k
+first_each {A = A} {B = B} {R = R} {P = P} {Q = Q} {k = k} Rattle.rings.specs.Lists.none to from x = elim x [ ]
 first_each (◌and◌ r rs) to from (here p) = here (to _ _ r p)
 first_each (◌and◌ r rs) to from (later n f) = later (λ q. n (from _ _ r q)) (first_each rs to from f)
 
@@ -91,6 +92,7 @@ module _ {f g : Fraction} (h : pos 0 <ℤ f.den) (l : LowestOf f.num f.den g) wh
   }
     where
       first_same : (cs : List Condition) {k : ℕ} → FirstOf (Fixes Towards f) cs k → FirstOf (Fixes Towards g) cs k
+      first_same [] x = elim x [ ]
       first_same (c ∷ cs) (here p) = here (fixes_lowest p)
       first_same (c ∷ cs) (later n r) = later (λ q. n (lowest_fixes q)) (first_same cs r)
 

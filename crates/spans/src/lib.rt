@@ -50,6 +50,16 @@ pub fn whole() -> SidedSpan
     )
 }
 
+// The same fraction once more: a `Fraction` is moved where it is passed.
+fn same(f: &Fraction) -> Fraction
+    ensures { result ≡ f.now }
+{
+    Fraction {
+        num: f.num,
+        den: f.den,
+    }
+}
+
 // What of s has p t <= q, the condition of the side `side`. A side that meets an end where another fixed it leaves the other's name.
 pub fn cut(p: i64, q: i64, side: u8, s: SidedSpan) -> SidedSpan
     requires within { Within largest p }
@@ -65,7 +75,7 @@ pub fn cut(p: i64, q: i64, side: u8, s: SidedSpan) -> SidedSpan
         if p < 0 {
             // it comes in at q/p
             let t = Fraction { num: -q, den: -p };
-            if fraction::less(first, t) {
+            if fraction::less(same(&first), same(&t)) {
                 return sided(t, last, side, s.side1);
             }
             return sided(first, last, s.side0, s.side1);
@@ -81,7 +91,7 @@ pub fn cut(p: i64, q: i64, side: u8, s: SidedSpan) -> SidedSpan
     if q < p {
         // it leaves at q/p
         let t = Fraction { num: q, den: p };
-        if fraction::less(t, last) {
+        if fraction::less(same(&t), same(&last)) {
             return sided(first, t, s.side0, side);
         }
     }
