@@ -21,10 +21,17 @@ kit() {
     fi
 }
 
-# load_by KIT: sets `loader` to the words that run a program as rt does: with the kit's loader and C library, and its emulator where the processor
-# is another.
+# tools KIT: the folder of the kit's compiler, linker, loader and C library; a kit for several processors has one for each.
+tools() {
+    local own=$1/on/$(uname -m)/toolchain
+    [ -d "$own" ] || own=$1/toolchain
+    printf '%s\n' "$own"
+}
+
+# load_by KIT: sets `loader` to the words that run a program with the kit's loader and C library, and its emulator where the processor is another.
 load_by() {
-    local tools=$1/on/$(uname -m)/toolchain
+    local tools
+    tools=$(tools "$1")
     loader=("$tools/lib/ld-linux-x86-64.so.2" --library-path "$tools/lib")
     [ ! -x "$tools/bin/qemu-x86_64" ] || loader=("$tools/bin/qemu-x86_64" "${loader[@]}")
 }

@@ -13,7 +13,7 @@ sums() {
 # crates_below ROOT NAME..: the crates to be proved for these, each once.
 crates_below() {
     awk -v asked="${*:2}" '
-        /^[a-z]/ { split($0, part, ":"); own[part[1]] = part[2] }
+        /^[a-z]/ { split($0, part, ":"); sub(/ .*/, "", part[1]); own[part[1]] = part[2] }
         function take(crate, names, k, n) {
             if (!(crate in own) || crate in taken) return
             taken[crate] = 1
@@ -39,24 +39,33 @@ expected() {
     fi
 }
 
-# progress CRATES EDITS FIRST: from what rt says, a line for each crate as it is proved and for each wrong program as it is tried, which of how many
-# and its seconds; before them the line FIRST, if there is one. The rest is passed over. (awk would wait for a block of input.)
+# progress CRATES EDITS FIRST: from what rt says, a line for each crate as it is proved and for each wrong program as it is tried, which of how many;
+# for the crates that are proved one after another, the seconds too. Before them the line FIRST, if there is one. The rest is passed over. (awk would
+# wait for a block of input.)
 progress() {
-    local crates=$1 edits=$2 first=$3 line found=0 kept=0 tried=0
+    local crates=$1 edits=$2 first=$3 line crate= found=0 kept=0 tried=0 began=$SECONDS
+    told() {
+        [ -z "$first" ] || echo "$first"
+        [ "$kept" -eq 0 ] || echo "  $found of $crates: proved already"
+        found=$((found + 1)) kept=0 first=
+        echo "  $found of $crates: $1"
+    }
     while IFS= read -r line; do
-        if [[ $line =~ ^rt:\ [a-z_]+\ proved\ \(unchanged ]]; then
+        if [[ $line =~ ^crate\ ([a-z_]+):\ modules ]]; then
+            crate=${BASH_REMATCH[1]}
+        elif [[ $line =~ ^logic=(proved|not-proved) && -n $crate ]]; then
+            line=$crate
+            [ "${BASH_REMATCH[1]}" = proved ] || line+=" NOT PROVED"
+            told "$line, $((SECONDS - began)) s"
+            crate= began=$SECONDS
+        elif [[ $line =~ ^rt:\ [a-z_]+\ is\ kept:\  ]]; then
             found=$((found + 1)) kept=1
-        elif [[ $line =~ ^rt:\ ([a-z_]+)\ (proved|NOT\ PROVED)\ \((.*[^0-9])?([0-9]+)\ s\) ]]; then
-            [ -z "$first" ] || echo "$first"
-            [ "$kept" -eq 0 ] || echo "  $found of $crates: proved already"
-            found=$((found + 1)) kept=0 first=
-            line="${BASH_REMATCH[1]} ${BASH_REMATCH[2]}, ${BASH_REMATCH[4]} s"
-            echo "  $found of $crates: ${line/ proved,/,}"
-        elif [[ $line =~ ^rt:\ must-fail\ ([A-Za-z_0-9/]+):\ (.*) ]]; then
+        elif [[ $line =~ ^rt:\ ([a-z_]+)\ (proved|NOT\ PROVED) ]]; then
+            line="${BASH_REMATCH[1]} ${BASH_REMATCH[2]}"
+            told "${line% proved}"
+        elif [[ $line =~ ^rt:\ must-fail\ ([A-Za-z_0-9/]+)\.edit:\ (.*) ]]; then
             tried=$((tried + 1))
-            line="${BASH_REMATCH[1]} ${BASH_REMATCH[2]%%[,:(]*}"
-            [[ ! ${BASH_REMATCH[2]} =~ ([0-9]+)\ s\)$ ]] || line+=", ${BASH_REMATCH[1]} s"
-            echo "  wrong program $tried of $edits: $line"
+            echo "  wrong program $tried of $edits: ${BASH_REMATCH[1]} ${BASH_REMATCH[2]%%[,:(]*}"
         fi
     done
 }
@@ -64,7 +73,23 @@ progress() {
 # proved ROOT NAME: a program is proved, and is what its sources make.
 proved() {
     local root=$1 name=$2
-    built "$root" "$name" "$root/target/bin/$name" rt check "$name"
+    built "$root" "$name" "$root/target/bin/$name" program_made "$name"
+}
+
+# program_made NAME: proves and builds the program in its crate's folder, and puts it into target/bin. rt builds a program only to run it, so it is run
+# once on no input; what rt says stands on standard error, and whether there is a program says whether it was proved.
+program_made() {
+    local made=crates/$1/out/$1
+    rm -f "$made"
+    (cd "crates/$1" && rt run </dev/null 2>&1 >/dev/null)
+    [ -x "$made" ] && mkdir -p target/bin && cp "$made" "target/bin/$1.new" && mv "target/bin/$1.new" "target/bin/$1"
+}
+
+# archive_made NAME: the same for a static library, which stands in target/staticlib.
+archive_made() {
+    local made=crates/$1/out/lib$1.a
+    rm -f "$made"
+    (cd "crates/$1" && rt lib) && mkdir -p target/staticlib && cp "$made" target/staticlib/
 }
 
 # is_made ROOT FILE STAMP: the file is what was made from just these sources.
@@ -96,8 +121,7 @@ built() {
         exec 9>&-
         return 0
     fi
-    # rt goes by its own stamp, and would not make again what somebody removed or changed.
-    changed "$file" "$stamp" && rm -f "$file" "$root/target/stamp/$name"
+    changed "$file" "$stamp" && rm -f "$file"
     total=$(crates_below "$root" "$name" | wc -l)
     known=$(expected "$root" "$name")
     known="$name is proved and built first, with all that it stands on: $total crates${known:+, $known}"
@@ -113,7 +137,7 @@ built() {
         return 1
     fi
     # Only a proof from nothing says how long the next takes.
-    grep -q '^rt: .* proved (unchanged' "$stamp.log" || echo "$(($(date +%s) - began))" >"$stamp.seconds"
+    [ "$(grep -c '^crate [a-z_]*: modules' "$stamp.log")" -lt "$total" ] || echo "$(($(date +%s) - began))" >"$stamp.seconds"
     sums "$root" "$file" >"$stamp"
     exec 9>&-
 }
