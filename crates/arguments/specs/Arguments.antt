@@ -3,7 +3,7 @@
 --   Numbers text out n   the text's numbers are the first n of out; n is 0 where the text is something else, or has
 --                        more than out has places for
 --   first_end text        where the first argument ends, at the next space; 0 where there is none
---   first_word text       the first argument, without the byte before it;  behindFirst text: the text behind it
+--   first_word text       the first argument, without the byte before it;  behind_first text: the text behind it
 --   first_window zs       the window of the first four numbers of a list
 --   PairIs text w s      the text's numbers are the four of the window w and the four of the stroke s
 --   ReadPair text p      p is the window and the stroke of the text, or says that it is no such text

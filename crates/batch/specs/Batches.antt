@@ -5,7 +5,7 @@
 --   rows touches k answers   the rows of answers counted from k, one after the other
 --   RowsGiven touches w zs xs   xs are the rows of the strokes of the list zs, each with the answer of the single call
 --   RowsOf w zs xs    the same where touches are not asked for
---   batchRefusal w zs what both calls refuse: 2, 3, 5, then 6
+--   batch_refusal w zs what both calls refuse: 2, 3, 5, then 6
 --   RowsCall touches w zs a before after   what a call that gives these rows promises: its answer, and its output before and after
 --   Batch w zs a before after              what `batch::batch` promises: strokes that only touch are left out
 --   BatchWithTouches w zs a before after   what `batch::batch_with_touches` promises: all kept strokes are given

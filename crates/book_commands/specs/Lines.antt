@@ -1,5 +1,5 @@
 -- What the replies to enter, release and strips say.
---   booking_fields a      N P SLOT;  releaseFields a: N P
+--   booking_fields a      N P SLOT;  release_fields a: N P
 --   most_table            the most numbers of a table
 --   AsksTable text table more    the text is M, the M numbers of the table, and then the numbers more; M is at most
 --                        `most_table`

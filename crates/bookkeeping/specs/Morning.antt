@@ -1,6 +1,6 @@
 -- A morning of the two renters with the strip book, as an example.
 --   strip_of l b r t       the strip from l to r and from b to t
---   sixCalls a b c d e out f out'   six calls, and their answers: renter 0 books a strip, renter 1 one that touches it and one that shares area with
+--   six_calls a b c d e out f out'   six calls, and their answers: renter 0 books a strip, renter 1 one that touches it and one that shares area with
 --                         both, then renter 0 releases his, and renter 1 books a smaller one in its place and lists his strips
 --   MorningAnswers a b c d e out f out'   the answers, and the listing's output
 --   Morning               whoever makes these calls on the empty book, with room for the listing, gets these answers

@@ -14,7 +14,7 @@
 --   SlotNotInUseExactly   on a book, a release answers 18 exactly when there is none
 --   NoRoomExactly         on a book, a listing answers 8 exactly when the output has less than five numbers for each of the renter's strips, and then
 --                         says how many that is
---   place_answered e       the place in an event's answer;  restAnswered e: its slot or its count; 0 of a release, which answers no more
+--   place_answered e       the place in an event's answer;  rest_answered e: its slot or its count; 0 of a release, which answers no more
 --   SaysNoMore            the place is 0 unless the number is 2 or 8, and the rest is 0 where a call is refused; so 16 does not tell whose strip it is
 --   lent_before, lent_after e   what the output of an event's listing held before and after; of other calls nothing
 --   RefusedKeeps          a call that answers a refusal, whichever it is, leaves the table and the output as they were. Of a listing, to which the

@@ -8,14 +8,14 @@
 --   has z es              an entry has the number z
 --   struck_out z es        es without the entry of the number z; just es, where there is none
 --   entries_listed es      of each entry its number, then its strip's four numbers
---   Paper                 the two leaves;  blankPaper: with nothing on them
+--   Paper                 the two leaves;  blank_paper: with nothing on them
 --   leaf renter p         the renter's own leaf; an empty list, where there is no such renter
 --   on_leaf renter es p    the paper with es on the renter's leaf; just p, where there is no such renter
 --   refusal_to_book renter w p   why the strip w is not entered: 19, 2, 3, 17 where the renter has 32, 16 where one on either leaf shares area with w
 --   answer_booking renter w p   what one who books w is told: the first missing number of the renter's leaf, or the refusal
 --   after_booking renter w p    the paper afterwards
 --   refusal_to_release renter z p   why nothing is struck out: 19, then 18 where no entry of the renter's leaf has the number z
---   answer_release renter z p   what one who releases z is told;  afterRelease renter z p: the paper afterwards
+--   answer_release renter z p   what one who releases z is told;  after_release renter z p: the paper afterwards
 use Rattle.std.specs.Prelude.{Bool, List, [], ◌∷◌, ◌++◌, map, ℕ, suc, ◌≤◌, eqb, ltb, ℤ, pos, length}
 use Rattle.whole.specs.Choice.{if◌then◌else◌}
 use Rattle.grid.specs.Refusals.{first, none, refuse, window_refusal}

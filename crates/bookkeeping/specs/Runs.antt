@@ -8,7 +8,7 @@
 --   empty_book                the table of an empty book: 320 zeros
 --   FromEmpty events book    the book is what the events leave of the empty book
 --   entries_from k ss         the slots in use among ss as entries, the first of ss having the number k
---   entries_of renter zs      the slots in use of a renter's half as entries;  paperOf zs: of both halves
+--   entries_of renter zs      the slots in use of a renter's half as entries;  paper_of zs: of both halves
 use Rattle.std.specs.Prelude.{◌≡◌, List, [], ◌∷◌, ℕ, suc, ℤ, pos, replicate}
 use Rattle.whole.specs.Choice.{if◌then◌else◌}
 use Rattle.grid.specs.Calls.{Call}

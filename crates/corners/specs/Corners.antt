@@ -1,6 +1,6 @@
 -- Corner windows: what the Cyrus-Beck call promises.
 --   most_window_corners      a corner window has 3 to 16 corners
---   cyrusBeckRefusal zs s  what the call refuses: 3 for length and count, 2, 3 for convexity, then 6
+--   cyrus_beck_refusal zs s  what the call refuses: 3 for length and count, 2, 3 for convexity, then 6
 --   point_at s n d          the stroke's point at n/d of its way
 --   KeepsIn cs s n d       n/d is a fraction from 0 to 1, and the stroke's point there lies left of or on every edge
 --   blank_answer r          refused by r, or missed where r is none: not kept, fractions 0/1, no sides

@@ -2,7 +2,7 @@
 --   start s, finish s     where a stroke starts, and where it ends
 --   edge_p a b s, edge_q a b s   the p and the q of an edge: the stroke's point at t is left of or on the edge from a to b where p·t ≤ q. q is the
 --                         determinant of the edge and the stroke's start, positive where that is left of the edge; at the stroke's end it is q − p
---   edgeCondition cs s k  the condition of the edge from the corner k to the next, which after the last is the first
+--   edge_condition cs s k  the condition of the edge from the corner k to the next, which after the last is the first
 --   first_conditions cs s n   the conditions of the edges from the first n corners, in their order
 --   edge_conditions cs s   those of all edges, each at the place of its first corner, which is its number
 --   EdgeCut a b s k r r'  what `cut_by_edge` promises: r' is what of the span r lies left of or on the edge from a to b, which has the number k

@@ -1,5 +1,5 @@
 -- The lines that the edges of a ring in memory lie on, each by its name, its tag.
---   strokeFrom ax ay bx by  the stroke from (ax, ay) to (bx, by)
+--   stroke_from ax ay bx by  the stroke from (ax, ay) to (bx, by)
 --   line_of e            the line from the start of a stroke to its end
 --   edge_of zs k         of the outline zs, the edge from the corner k to the next
 --   side_stroke w k      a stroke on the line of the window's side k, of length 1

@@ -5,7 +5,7 @@
 --   window_at bs      the window of the head, in millimetres
 --   head_size         21, the place of the first record
 --   head_fault bs     the place of the first fault before the numbers of the window: 0 the count or the size of the file, 4 the version, 5 a cut window;
---                    headSize, if there is none
+--                    head_size, if there is none
 --   record_at bs at   what stands at `at`: a step and the place after its record; `Bad`, a cut record or an unknown first byte; `End`, no byte
 use Rattle.std.specs.Prelude.{not, ◌||◌, List, ℕ, ◌+◌, ◌*◌, eqb, leb, ltb, Float, length, get_or}
 use Rattle.std.specs.Float.{binary32}

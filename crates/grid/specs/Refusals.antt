@@ -1,11 +1,11 @@
 -- The numbers that a caller may get back, and the refusals that several calls share.
---   windowOff .. badDrawing   the numbers of the table of refusals
+--   window_off .. bad_drawing   the numbers of the table of refusals
 --   refuse n k     refusal n at place k;  none: nothing is refused
 --   first rs       of the refusals rs the first that applies. A call lists its refusals in the order in which they are tested, which is by
 --                  rising number but for the rules' exceptions
---   offTable n zs  n at the first number of zs that is off the table, if one is
+--   off_table n zs  n at the first number of zs that is off the table, if one is
 --   no_area w       3 where left >= right or bottom >= top
---   badStrokes zs  5 where a list is not a multiple of four numbers or has more than 4,096 strokes
+--   bad_strokes zs  5 where a list is not a multiple of four numbers or has more than 4,096 strokes
 --   window_refusal, stroke_refusal, strokes_refusal   what a call refuses in a window, a stroke, a list of strokes
 --   room_refusal need room   8 with the numbers needed, where an output of `room` numbers is too short
 use Rattle.std.specs.Prelude.{◌&&◌, List, [], ◌∷◌, ℕ, ◌*◌, ◌%◌, eqb, leb, ltb, ℤ, length}

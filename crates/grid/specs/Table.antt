@@ -5,8 +5,8 @@
 --   first_off zs   the index of the first number off the table; how many there are, if none is
 --   sides w       the four numbers of a window: left, bottom, right, top
 --   ends s        the four numbers of a stroke: x1, y1, x2, y2
---   strokeAt zs p  the stroke whose first number stands at the place p of a list
---   strokesOf zs  the strokes of a list, four numbers each
+--   stroke_at zs p  the stroke whose first number stands at the place p of a list
+--   strokes_of zs  the strokes of a list, four numbers each
 --   WindowOnTable w, StrokeOnTable s, StrokesOnTable zs   what no call refuses: numbers on the table, a window with area, a list of at most 4,096 strokes
 use Rattle.std.specs.Prelude.{◌≡◌, Bool, ◌&&◌, List, [], ◌∷◌, ℕ, suc, ◌+◌, ◌%◌, ◌<◌, ◌≤◌, ℤ, pos, neg_ℤ, length, get_or, ◌<ℤ◌}
 use Rattle.std.specs.Int.Signed.{le_z}

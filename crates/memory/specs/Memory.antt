@@ -6,7 +6,7 @@
 --   places i k        the places from i up to k
 --   ring_at m p        the ring at the places p of the memory m
 --   largest_number     1,610,416,134 = 16,383 · 32,766 + 32,766², above every X and Y
---   Small p           the W of p is from 1 to 32,766, and its X and Y are not above largestNumber
+--   Small p           the W of p is from 1 to 32,766, and its X and Y are not above largest_number
 use Rattle.std.specs.Prelude.{List, [], ◌∷◌, ℕ, zero, suc, ◌+◌, ◌-◌, ◌*◌, ℤ, pos, get_or, ◌≤ℤ◌, ◌<ℤ◌}
 use Rattle.whole.specs.Within.{Within}
 use Rattle.rings.specs.Points.{Point}

@@ -3,7 +3,7 @@
 --   Tagged            a corner with its tag
 --   tagged p t        the corner p, tagged t
 --   corner_in m i      the corner at place i of the memory m, with its tag
---   cornersFrom m i n n corners from place i on
+--   corners_from m i n n corners from place i on
 --   corners_at m p     those at the places p
 --   points_of cs       the corners without their tags
 --   put_at m n p t     the memory m with the point p, tagged t, at place n

@@ -1,5 +1,5 @@
 -- What the replies to mm2, mm4 and back say.
---   point_fields a    N P x y;  windowFields a: N P l b r t;  backFields a: N P H
+--   point_fields a    N P x y;  window_fields a: N P l b r t;  back_fields a: N P H
 --   single_at text    the f32 that the first nine bytes of the text are, a space and eight digits
 --   Singles text xs  the text is the f32s xs, each a word with a space before it
 --   AsksPoint text p, AsksWindow text w   the text is the numbers of the point, or of the window

@@ -1,7 +1,7 @@
 -- An outline against a rectangle: what the call refuses, the ring that it gives, and the passes by which it is found.
 --   last_order              the side orders are 0 to 23
 --   bad_order o             4 where the side order is above 23
---   outlineRefusal w o zs  what the call refuses: 2, 3, 4, 5, 6, then 7
+--   outline_refusal w o zs  what the call refuses: 2, 3, 4, 5, 6, then 7
 --   Common w zs p          p lies in the outline zs and in the closed window w
 --   OutlineRing w zs xs    xs are the numbers of the ring of exactly the points in common, counterclockwise, started at the
 --                          lowest corner, of those the leftmost

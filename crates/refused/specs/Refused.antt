@@ -1,6 +1,6 @@
 -- The picture of a refusal.
 --   refused_title n p    its size, which has room for the longest sentence, and the title: the number n, the place p, and what n means
---   refusedPicture n p  the same in two lines
+--   refused_picture n p  the same in two lines
 use Rattle.std.specs.Prelude.{List, ◌++◌, ℕ}
 use Rattle.text.specs.Pages.{ascii, refusal}
 use Rattle.refusals.specs.Words.{sentence, refusal_words}

@@ -5,7 +5,7 @@
 --   with_window fs w            fs and the four numbers of a window
 --   answer_fields a             N P W of a call that gives numbers
 --   field_of form size          the field that a form and a size are: 1 is a minus, 2 are bits, all else is plain
---   firstFields n forms sizes  the first n fields of these forms and sizes
+--   first_fields n forms sizes  the first n fields of these forms and sizes
 --   said r                     what the reply r says: its fields
 --   Says r n fs room           the reply r says fs, which are n fields, and behind them come so many numbers of the
 --                              lent output

@@ -1,5 +1,5 @@
 -- What the workers over a table promise.
---   slot_in zs p        the slot whose mark stands at the place p of a table;  stripIn zs p: its strip
+--   slot_in zs p        the slot whose mark stands at the place p of a table;  strip_in zs p: its strip
 --   slots_from p zs     the slots from the place p on
 --   each_good ss        the marks of the slots ss and their strips in use are good, whether or not they share area
 --   Gathered ss n rack   the slots ss are good each by itself, and their n strips are on the rack

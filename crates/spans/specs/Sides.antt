@@ -7,11 +7,11 @@
 --   Fixes Towards f c    the stroke is on the line of c at f, and crosses it there Inward or Outward, as Towards says
 --   FirstOf P cs k       of the members of cs of which P holds, the first has the number k
 --   no_side               255, a number that no side has: the end is the stroke's own, or nothing is kept
---   SideNamed own P cs k   k is noSide where `own` holds, else the least number of a side of which P holds
+--   SideNamed own P cs k   k is no_side where `own` holds, else the least number of a side of which P holds
 --   StartSide cs f k     k names the side that fixed the start f of what is kept: one that the stroke crosses inward; where f is 0 the stroke's own start
 --                        remains
 --   EndSide cs f k       k names the side that fixed its end f: one that the stroke crosses outward; where f is 1 the stroke's own end remains
---   OwnEnds n kept t0 t1 i j   an answer that names the sides i and j for t0 and t1 has noSide for i exactly where t0 is 0/1, as it is where nothing is
+--   OwnEnds n kept t0 t1 i j   an answer that names the sides i and j for t0 and t1 has no_side for i exactly where t0 is 0/1, as it is where nothing is
 --                        kept, and for j exactly where t1 is 1/1 or nothing is kept; every other number is one of n sides
 use Rattle.std.specs.Prelude.{◌≡◌, Bool, false, List, ◌∷◌, ◌⊎◌, ◌↔◌, ℕ, suc, ◌<◌, ℤ, pos, ◌*ℤ◌, ◌≤ℤ◌, ◌<ℤ◌}
 use Rattle.fraction.specs.declared.Fraction.{Fraction}

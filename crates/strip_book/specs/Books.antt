@@ -8,7 +8,7 @@
 --   slot_refusal renter z zs   18 where the slot z of the renter's half is not in use, or there is none of that number
 --   booking_refusal renter w zs   what booking refuses: 19, 23, 2, 3, 17, then 16
 --   release_refusal renter z zs   what releasing refuses: 19, 23, then 18
---   refused_booking r       the answer of a booking that refuses by r;  bookedIn k: of one that enters the strip in the renter's slot k
+--   refused_booking r       the answer of a booking that refuses by r;  booked_in k: of one that enters the strip in the renter's slot k
 --   release_answer r        the answer of a release: it refuses by r, or is done where r refuses nothing
 --   Booked renter w a before after   the lowest free slot of the renter's half is answered, and then holds a mark of 1 and the strip w; the rest is
 --                          as it was

@@ -2,7 +2,7 @@
 --   with_part fs kept t0 t1   the fields fs and K n0 d0 n1 d1
 --   with_sides fs side0 side1   the fields fs and Z0 Z1
 --   part_fields a       N P K n0 d0 n1 d1 ax ay bx by
---   stroke_fields a     partFields and Z0 Z1;  countedFields a: partFields and S Z0 Z1;  cornerFields a: N P K n0 d0 n1
+--   stroke_fields a     part_fields and Z0 Z1;  counted_fields a: part_fields and S Z0 Z1;  corner_fields a: N P K n0 d0 n1
 --                      d1 Z0 Z1. N is the refusal, P its place, K 1 for kept, S the count of shortenings, Z0 and Z1 the
 --                      sides
 --   PairArguments      what lb, cs and xp ask of: a window and a stroke;  CornerArguments, cb: the numbers of a window's

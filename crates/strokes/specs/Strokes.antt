@@ -1,11 +1,11 @@
 -- What a stroke call on a rectangle promises, whatever rule it runs.
 --   KeepsCoordinate lo hi a b n d   the coordinate at the fraction n/d of the way from a to b is from lo to hi
 --   Keeps w s n d          n/d is a fraction from 0 to 1, and the stroke's point there lies in the closed window
---   strokeCallRefusal w s  what the call refuses: 2, 3, then 6
+--   stroke_call_refusal w s  what the call refuses: 2, 3, then 6
 --   blank r                refused by r, or missed where r is none: not kept, fractions 0/1, points 0, no sides
 --   PointAt s f x y        (x, y) is the stroke's point at the fraction f, each coordinate rounded to the grid
 --   Clipped w s a          a is right for a window and a stroke in which nothing is refused
---   Clipping w s a         what `strokes::liang_barsky` promises: a is right, refusals included
+--   Clipping w s a         what `strokes::liang_barsky` promises, and `cross_product::cross_product` too: a is right, refusals included
 use Rattle.std.specs.Prelude.{◌≡◌, true, false, [], ◌∷◌, ℤ, pos, ◌*ℤ◌, ◌≤ℤ◌}
 use Rattle.fraction.specs.declared.Fraction.{Fraction}
 use Rattle.fraction.specs.Rounding.{along, Rounded}

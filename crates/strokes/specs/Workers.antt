@@ -16,10 +16,10 @@
 --   Overlap k x y        neither is so: some fraction is on both ways (k = 0), more than one is (k = 1)
 --   OnWay f              f is a fraction from 0 to 1, with a denominator no larger than the longest way
 --   side_met a b i j      the side that the way from a to b meets coming in, by its number: i where it rises, j where it falls
---   StartBy s x y t k    t is the later start of the two ways, and k names the side that is met there, that of x where both are met at once; noSide
+--   StartBy s x y t k    t is the later start of the two ways, and k names the side that is met there, that of x where both are met at once; no_side
 --                        where both start with the stroke
 --   FinishBy s x y t k   t is the earlier end of the two ways, and k names the side that is met there looking back, that of x where both are met at
---                        once; noSide where both end with the stroke
+--                        once; no_side where both end with the stroke
 --   StartOf, FinishOf s x y e   e is the later start, or the earlier end, of the two ways, with the rounded point and its side
 --   EndAt s f k e        e is the stroke's point at the fraction f, rounded, fixed by the side of number k
 --   kept_answer a b t u   the answer for a stroke that is kept from the point of a to that of b, with their sides and the fractions t and u

@@ -5,7 +5,7 @@
 --   natural n    the decimal digits of a number below 2 ^ 64, with no zero before them
 --   integer z    the same with a sign: a minus where z is negative
 --   refusal n p  the words of a refusal: its number and its place
---   bigEndian n  the four bytes of a number below 2 ^ 32, the highest first
+--   big_endian n  the four bytes of a number below 2 ^ 32, the highest first
 use Rattle.std.specs.Prelude.{◌≡◌, List, [], ◌∷◌, ◌++◌, ℕ, zero, suc, ◌+◌, ◌/◌, ◌%◌, ◌^◌, ◌≤◌, ltb, ℤ, pos, negsuc, length, take, drop}
 use Prim.Native.Char.{code}
 use Prim.Native.String as Text

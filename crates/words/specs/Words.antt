@@ -10,7 +10,7 @@
 --   onto b ws         the words ws, with the byte b in front of the first
 --   words l           l, cut at each space
 --   arguments l       the words of l after its first byte; none where it is empty
---   and x o           the list o, where there is one, with x in front;  andInteger n o: the same, where n is a number
+--   and x o           the list o, where there is one, with x in front;  and_integer n o: the same, where n is a number
 --   integers ws       the numbers that the words ws are, where each is one that an i32 holds
 --   pairs w           the bytes that w is, as pairs of hexadecimal digits
 --   bytes w           the same for a word, which is not empty; a minus alone stands for no bytes

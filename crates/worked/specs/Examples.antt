@@ -8,7 +8,7 @@
 --   StrokeHolds, OutlineHolds   what Holds says of a stroke, and of an outline
 --   ten           the window of all but Q and R;  zeros n: a list of n zeros
 --   from_to p q    the stroke from p to q
---   coordinates ps   the numbers of the points ps;  ringNumbers cs: those of a ring's corners, four a corner
+--   coordinates ps   the numbers of the points ps;  ring_numbers cs: those of a ring's corners, four a corner
 --   expected e    the outline call's answer where e is the verdict, but for the counts of the passes, and its output:
 --                 32 numbers, zeros before the call
 --   with_passes ns a   the outline call's answer that is a but for the counts, which are ns
@@ -19,7 +19,7 @@
 --   n over d      the fraction n/d
 --   corner x y    a ring's corner with whole coordinates
 --   kept t u p q n k   both stroke calls' answer: kept from t to u, with the rounded points p and q, after n shortenings; k
---                 are the two sides, noSide for an end that is the stroke's own
+--                 are the two sides, no_side for an end that is the stroke's own
 --   missed_after n    both stroke calls' answer: missed, after n shortenings
 --   kept_in t u k     the Cyrus-Beck call's answer: kept from t to u, with the sides k
 use Rattle.std.specs.Prelude.{true, List, [], ◌∷◌, ℕ, ◌≤◌, ℤ, pos, neg_ℤ, replicate}
