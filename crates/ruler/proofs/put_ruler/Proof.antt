@@ -6,28 +6,22 @@ use borrow.Author.Rules.{rules}
 use Rattle.ruler.proofs.put_ruler.Statement.{statement}
 use Rattle.ruler.proofs.put_ruler.Tie as tie
 
-bar-length-requires : tie.Need-bar-length-requires
+bar-length-requires : tie.Need-bar_length-long-requires
 bar-length-requires c κs = search rules
 
-put-bar-requires : tie.Need-put-bar-requires
+put-bar-requires : tie.Need-put_bar-a-requires
 put-bar-requires c κs = search rules
 
-slice-aggregate-put-labelled : tie.Need-slice-aggregate-put-labelled
-slice-aggregate-put-labelled c = search rules
-
-put-labelled-requires : tie.Need-put-labelled-requires
+put-labelled-requires : tie.Need-put_labelled-b-requires
 put-labelled-requires c κs = search rules
 
-slice-aggregate-put : tie.Need-slice-aggregate-put
-slice-aggregate-put c = search rules
-
-put-requires : tie.Need-put-requires
+put-requires : tie.Need-put-c-requires
 put-requires c κs = search rules
 
-put-words-requires : tie.Need-put-words-requires
+put-words-requires : tie.Need-put_words-requires
 put-words-requires c κs = search rules
 
-same_length : tie.Need-same-length
+same_length : tie.Need-shape_of-page
 same_length c = search rules
 
 returns : tie.Need-returns
@@ -38,11 +32,11 @@ returns c =
     let at₃ = at₄.before.before.before.before.before in
     let at₂ = at₃.before.before.before.before.before in
     let at₁ = at₂.before.before in
-    let p = at₂.put-bar.ensures in
-    let q = at₃.put-labelled.ensures in
-    let r = at₄.put.ensures in
-    let s = at₅.put-words.ensures in
-    (rw (← at₁.bar-length.ensures) (put_then (put_then (put_then p.0 q.0) r) s.0), omega (arith, p.1, q.1, r.ends, s.1))
+    let p = at₂.put_bar-a.ensures in
+    let q = at₃.put_labelled-b.ensures in
+    let r = at₄.put-c.ensures in
+    let s = at₅.put_words.ensures in
+    (rw (← at₁.bar_length-long.ensures) (put_then (put_then (put_then p.0 q.0) r) s.0), omega (arith, p.1, q.1, r.ends, s.1))
 
 pub put_ruler_spec : {M : Type 1} → statement M
 put_ruler_spec =
@@ -50,9 +44,7 @@ put_ruler_spec =
     (tie.spec
     bar-length-requires
     put-bar-requires
-    slice-aggregate-put-labelled
     put-labelled-requires
-    slice-aggregate-put
     put-requires
     put-words-requires
     same_length
