@@ -10,7 +10,7 @@ use native.Mathlib.Nat.{mul-div_cancel, le-div_iff_mul-le, div-lt_iff_lt-mul}
 use native.Mathlib.Omega.{arith}
 use lib.Dec.{lit<, lit≤}
 use lib.Pow.{pow-add, pow_pos, pow_mono, shl_lt, shl-shr}
-use lib.Ieee.{Float, fin, binary32, up, down, size, span, climb, units, round, to_bits}
+use lib.Ieee.{Float, nan, inf, fin, binary32, up, down, size, span, climb, units, round, to_bits}
 use lib.Ieee.Digits.{size-lt, size-le}
 use lib.Ieee.Fits.{down_pos, round_is}
 use lib.Ieee.Exact.{HasValue, units_val, round_exact}
@@ -23,6 +23,8 @@ pattern s w = cond s 2147483648 0 + (size w - 24) * 8388608 + w / 2 ^ (size w - 
 
 bits_of : (x : Float) (s : Bool) (a c : ℕ) → 0 < c → HasValue x s a c → to_bits binary32 x ≡ pattern s (a * 2 ^ 149 / c)
 unfolding to_bits pattern
+bits_of nan s a c C v = elim v [ ]
+bits_of (inf _) s a c C v = elim v [ ]
 bits_of (fin t m e) s a c C v =
     ap₂ pattern v.0
     (div_same (m * up e * 2 ^ 149) (down e) (a * 2 ^ 149) c (down_pos e) C

@@ -10,7 +10,7 @@ ghost use Rattle.decimal.specs.Decimals.{is_digit, AllDigits, with_digits, bits_
 ghost use Rattle.decimal.specs.Workers.{ReadsPlain};
 
 // What a word is read as: the bits of an f32, or nothing.
-#[derive(Drop)]
+#[derive(Clone, Copy)]
 pub enum Reading {
     Number(u32),
     Nothing,

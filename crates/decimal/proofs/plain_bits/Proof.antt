@@ -11,25 +11,25 @@ use borrow.Author.Rules.{rules}
 use Rattle.decimal.proofs.plain_bits.Statement.{statement}
 use Rattle.decimal.proofs.plain_bits.Tie as tie
 
-returns : tie.Need-returns
+returns : tie.Need-returns-then-n-eq0
 unfolding bits_of
-returns c = (sym (ap (λ n. bits_of false n c.before.args.places) c.if1.true ∙ zero_bits false _ (one-le-pow c.before.args.places 10 (lit< tt))), lit< tt)
+returns c = (sym (ap (λ n. bits_of false n c.before.args.places) c.if-n-eq0.true ∙ zero_bits false _ (one-le-pow c.before.args.places 10 (lit< tt))), lit< tt)
 
-ten-to-requires : tie.Need-ten-to-requires
+ten-to-requires : tie.Need-ten_to-requires
 ten-to-requires c κs = search rules
 
-nearest-bits-requires : tie.Need-nearest-bits-requires
+nearest-bits-requires : tie.Need-nearest_bits-requires
 nearest-bits-requires c κs = let k = c.before.before.args.places in
     omega (arith, one-le-pow k 10 (lit< tt), pow-le-pow_right {n = 10} (lit< tt) {i = k} {j = 9} c.before.before.requires.1)
 
-cast-result : tie.Need-overflow-cast-result
+cast-result : tie.Need-overflow_cast-result
 cast-result c = search rules
 
-returns-2 : tie.Need-returns-2
+returns-2 : tie.Need-returns
 unfolding bits_of
 returns-2 c = (
   c.nearest_bits.ensures.0
-      ∙ ap (λ d. to_bits binary32 (round binary32 false c.before.before.before.args.n d)) c.before.ten-to.ensures,
+      ∙ ap (λ d. to_bits binary32 (round binary32 false c.before.before.before.args.n d)) c.before.ten_to.ensures,
   c.nearest_bits.ensures.1,
 )
 
