@@ -48,20 +48,20 @@ given c = tag c.requires.1.0.corners.few c.requires.1.1.1.1
 read : (c : tie.Start) → Tag (window_of c.args.numbers.now) c.args.outline.now c.args.tag (nat_abs (to_z w32 (of_z w32 c.args.tag)))
 read c = subst (λ (z : ℤ). Tag (window_of c.args.numbers.now) c.args.outline.now c.args.tag (nat_abs z)) (sym (to_z-of_z c.ranges.tag)) (given c)
 
-cast-k : tie.Need-overflow-cast-k
+cast-k : tie.Need-overflow_cast-k
 cast-k c = subst (λ (z : ℤ). T (non_neg z) × Fits w64 (nat_abs z)) (sym (to_z-of_z c.ranges.tag ∙ (given c).is)) (tt, record { fits = omega (arith, (given c).few) })
 
-edge-crossing-requires : tie.Need-edge-crossing-requires
-edge-crossing-requires c κs = (c.before.requires.1.0, (c.before.requires.1.1.0, (read c.before).corner c.if1.true))
+edge-crossing-requires : tie.Need-edge_crossing-requires
+edge-crossing-requires c κs = (c.before.requires.1.0, (c.before.requires.1.1.0, (read c.before).corner c.if-k-lt64.true))
 
-returns : tie.Need-returns
-returns c = let s = c.before.before in record { stroke = _; named = (read s).own c.before.if1.true; meets = c.edge-crossing.ensures }
+returns : tie.Need-returns-then-k-lt64
+returns c = let s = c.before.before in record { stroke = _; named = (read s).own c.before.if-k-lt64.true; meets = c.edge_crossing.ensures }
 
-side-crossing-requires : tie.Need-side-crossing-requires
+side-crossing-requires : tie.Need-side_crossing-requires
 side-crossing-requires c κs = let s = c.before in (s.requires.0, (s.requires.1.1.0, omega (arith, (read s).few)))
 
-returns-2 : tie.Need-returns-2
-returns-2 c = let s = c.before.before in record { stroke = _; named = (read s).side c.before.if1.false; meets = c.side-crossing.ensures }
+returns-2 : tie.Need-returns
+returns-2 c = let s = c.before.before in record { stroke = _; named = (read s).side c.before.if-k-lt64.false; meets = c.side_crossing.ensures }
 
 pub crossing_spec : {M : Type 1} → statement M
 crossing_spec = tie.close (tie.spec cast-k edge-crossing-requires returns side-crossing-requires returns-2)

@@ -45,31 +45,31 @@ Met c x y den = Meets (left_side c.args.c) (stroke_from c.args.ax c.args.ay c.ar
 small : (c : tie.Start) → Bounds sizes (env c)
 small c = bounds _ _ _ _ _ c.requires.0 c.requires.1
 
-sub-run : tie.Need-overflow-sub-run
+sub-run : tie.Need-overflow_sub-run
 sub-run c = need sizes (env c) (small c) run tt
 
-mul-y : tie.Need-overflow-mul-y
+mul-y : tie.Need-overflow_mul-y
 mul-y c = need sizes (env c) (small c) rise tt
 
-sub-y : tie.Need-overflow-sub-y
+sub-y : tie.Need-overflow_sub-y
 sub-y c = need sizes (env c) (small c) way tt
 
-sub-y-2 : tie.Need-overflow-sub-y-2
+sub-y-2 : tie.Need-overflow_sub-y-2
 sub-y-2 c = need sizes (env c) (small c) fall tt
 
-mul-y-2 : tie.Need-overflow-mul-y-2
+mul-y-2 : tie.Need-overflow_mul-y-2
 mul-y-2 c = need sizes (env c) (small c) (mul w32 way fall) tt
 
-add-y : tie.Need-overflow-add-y
+add-y : tie.Need-overflow_add-y
 add-y c = need sizes (env c) (small c) height tt
 
-sub-den : tie.Need-overflow-sub-den
+sub-den : tie.Need-overflow_sub-den
 sub-den c = need sizes (env c.before) (small c.before) (minus run) tt
 
-mul-t14 : tie.Need-overflow-mul-t14
+mul-t14 : tie.Need-overflow_mul-result
 mul-t14 c = need sizes (env c.before) (small c.before) (across (minus run)) tt
 
-sub-t15 : tie.Need-overflow-sub-t15
+sub-t15 : tie.Need-overflow_sub-result
 sub-t15 c = need sizes (env c.before) (small c.before) (minus height) tt
 
 -- what is so of the numbers meant is so of those that the machine has
@@ -78,19 +78,19 @@ read : (c : tie.Start) (k l d : Code) → T (ok sizes k) → T (ok sizes l) → 
 read c k l d p q r m =
     transport (λ i. Met c (sym (value sizes (env c) (small c) k p) i) (sym (value sizes (env c) (small c) l q) i) (sym (value sizes (env c) (small c) d r) i)) m
 
-returns : tie.Need-returns
+returns : tie.Need-returns-then-run-lt0
 returns c =
     let s = c.before in
     read s (across (minus run)) (minus height) (minus run) tt tt tt
-    (meets_back _ _ _ _ _ s.requires.0 s.requires.1 (lt_yes (value sizes (env s) (small s) run tt) refl c.if1.true))
+    (meets_back _ _ _ _ _ s.requires.0 s.requires.1 (lt_yes (value sizes (env s) (small s) run tt) refl c.if-run-lt0.true))
 
-mul-t9 : tie.Need-overflow-mul-t9
+mul-t9 : tie.Need-overflow_mul-result-2
 mul-t9 c = need sizes (env c.before) (small c.before) (across run) tt
 
-returns-2 : tie.Need-returns-2
+returns-2 : tie.Need-returns
 returns-2 c =
     let s = c.before in
-    read s (across run) height run tt tt tt (meets_forward _ _ _ _ _ s.requires.0 s.requires.1 (lt_no (value sizes (env s) (small s) run tt) refl c.if1.false))
+    read s (across run) height run tt tt tt (meets_forward _ _ _ _ _ s.requires.0 s.requires.1 (lt_no (value sizes (env s) (small s) run tt) refl c.if-run-lt0.false))
 
 pub meet_spec : {M : Type 1} → statement M
 meet_spec =

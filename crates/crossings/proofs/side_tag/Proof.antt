@@ -17,10 +17,10 @@ sum s = let side = s.requires in ap (λ (z : ℤ). pos 64 +ℤ z) (to_z_pos w32 
 sum_fits : (s : tie.Start) → SFits w32 (pos 64 +ℤ to_z w32 s.args.side)
 sum_fits s = let side = s.requires in subst (SFits w32) (sym (sum s)) (record { sfits = omega arith })
 
-cast-result : tie.Need-overflow-cast-result
+cast-result : tie.Need-overflow_cast-result
 cast-result c = search rules
 
-add-result : tie.Need-overflow-add-result
+add-result : tie.Need-overflow_add-result
 add-result c = let side = c.requires in rw (to_z_pos w32 {n = c.args.side} (omega arith)) (record { sfits = omega arith })
 
 returns : tie.Need-returns
