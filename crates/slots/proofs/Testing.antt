@@ -20,7 +20,6 @@ use Rattle.slots.specs.Slots.{Slot, slots_of, strips_in, no_two_share, slots_goo
 use Rattle.slots.specs.Workers.{slot_in, slots_from, each_good, Gathered, OnRack, Finds}
 use Rattle.slots.specs.Workers as workers
 use Rattle.slots.specs.declared.Tested.{Tested}
-use Rattle.slots.specs.declared.Tested.TheVariants as Tested
 use Rattle.slots.proofs.Places.{slots_more}
 use Rattle.slots.proofs.Apart.{all_apart, not_apart}
 use Rattle.slots.proofs.Good.{free_strips, free_good, bad_mark, used_strips, bad_strip, good_use, bad_behind, bad_later}

@@ -12,7 +12,6 @@ use Rattle.grid.specs.declared.Window.{Window}
 use Rattle.racks.specs.Members.{all}
 use Rattle.racks.specs.Racks.{Carries}
 use Rattle.slots.specs.declared.Tested.{Tested}
-use Rattle.slots.specs.declared.Tested.TheVariants as Tested
 use Rattle.slots.specs.Slots.{Slot, slots_of, strips_in, good_mark, good_strip, slots_good, is_book}
 
 abbrev pub strip_in : List ℤ → ℕ → Window

@@ -1,9 +1,11 @@
 -- `slots::gather_slot` meets its contract: the slots behind it are faulty, or by its mark the slot is free, or its strip is tested and put on the
 -- rack, and is good where the mark is 1. Assumes nothing.
 use mathlib.Core.Path.{◌≡◌, sym, ap, ◌∙◌, subst}
-use Prim.Native.Nat.{◌+◌, ◌≤◌}
+use mathlib.Core.List.{List}
+use Prim.Native.Nat.{ℕ, ◌+◌, ◌≤◌}
 use native.Mathlib.Omega.{arith}
 use borrow.Author.Rules.{rules}
+use lib.IntN.{ℤ}
 use lib.ListN.{length}
 use Rattle.grid.specs.declared.Refusal.{Refusal}
 use Rattle.grid.specs.Refusals.{window_refusal}
@@ -25,91 +27,79 @@ use Rattle.slots.proofs.gather_slot.Statement.{statement}
 use Rattle.slots.proofs.gather_slot.Tie as tie
 
 -- the slot is in the table
-among : (c : tie.Start) → c.args.p + 5 ≤ length c.args.book.now
-among c = omega (arith, c.requires.0, c.requires.1.0)
+among : (p : ℕ) (zs : List ℤ) → p + 5 ≤ 320 → length zs ≡ 320 → p + 5 ≤ length zs
+among p zs h e = omega arith
 
-enum-known-behind : tie.Need-enum-known-behind
+enum-known-behind : tie.Need-enum_known-behind
 enum-known-behind c = search rules
 
-enum_told : tie.Need-enum-told
+enum_told : tie.Need-enum_told-1
 enum_told c = search rules
 
-returns : tie.Need-returns
+returns : tie.Need-returns-in_default
 returns c =
-    let a = c.before.before in
-    workers.faulty (fails_behind a.args.book.now a.args.p (among a) (found_faulty c.enum_told.given.1 a.requires.1.1))
+    let h = among c.args.p c.args.book.now c.requires.0 c.requires.1.0 in
+    workers.faulty (fails_behind c.args.book.now c.args.p h (found_faulty c.in_default.is c.requires.1.1))
 
--- the strips behind it are on the rack
-behind : (c : tie.After-behind) → let a = c.before.before in
-    Gathered (slots_from (a.args.p + 5) a.args.book.now) c.behind.given.0.0 a.args.rack.now
-behind c = found_good _ c.behind.given.1 c.before.before.requires.1.1
-
-mul-if1 : tie.Need-overflow-mul-if1
+mul-if1 : tie.Need-offset_bounds-book-p
 mul-if1 c = search rules
 
-shared-slice-copy-out-if1 : tie.Need-shared-slice-copy-out-if1
-shared-slice-copy-out-if1 c = omega (arith, among c.before.before.before)
+shared-slice-copy-out-if1 : tie.Need-bounds-book-p
+shared-slice-copy-out-if1 c = let h = among c.args.p c.args.book.now c.requires.0 c.requires.1.0 in omega arith
 
-returns-2 : tie.Need-returns-2
+returns-2 : tie.Need-returns-then-book-p-eq0
 returns-2 c =
-    let b = c.before.before.before in
-    let a = b.before.before in
-    let free = mark_is a.args.book.now a.args.p (among a) c.before.if12.given 0 (omega arith) c.if1.true in
-    workers.good (passes_free a.args.book.now a.args.p (among a) free (behind b))
+    let h = among c.args.p c.args.book.now c.requires.0 c.requires.1.0 in
+    let b = found_good _ c.in-Good.is c.requires.1.1 in
+    let free = mark_is c.args.book.now c.args.p h c.t10-1.given 0 (omega arith) c.if-book-p-eq0.true in
+    workers.good (passes_free c.args.book.now c.args.p h free b)
 
-strip-at-requires : tie.Need-strip-at-requires
-strip-at-requires c κs = among c.before.before.before.before.before
+strip-at-requires : tie.Need-strip_at-w-requires
+strip-at-requires c κs = let h = among c.args.p c.args.book.now c.requires.0 c.requires.1.0 in h
 
-window-refusal-requires : tie.Need-window-refusal-requires
+window-refusal-requires : tie.Need-window_refusal-refusal-requires
 window-refusal-requires c κs = search rules
 
-returns-3 : tie.Need-returns-3
+returns-3 : tie.Need-returns-then-refusal-ne0
 returns-3 c =
-    let r = c.before.before in
-    let e = r.before.before in
-    let a = e.before.before.before.before.before in
-    workers.faulty (fails_strip a.args.book.now a.args.p (among a) r.before.strip_at.ensures e.if1.false
-    (subst (λ (q : Refusal). q.number ≡ 0 → ⊥) r.window-refusal.ensures c.if2.true))
+    let h = among c.args.p c.args.book.now c.requires.0 c.requires.1.0 in
+    workers.faulty (fails_strip c.args.book.now c.args.p h c.strip_at-w.ensures c.if-book-p-eq0.false
+    (subst (λ (q : Refusal). q.number ≡ 0 → ⊥) c.window_refusal-refusal.ensures c.if-refusal-ne0.true))
 
 -- the strip that was read passes as a window
-fine : (c : tie.Else2) → (window_refusal c.before.before.before.strip_at.result).number ≡ 0
-fine c = ap (λ (q : Refusal). q.number) (sym c.before.before.window-refusal.ensures) ∙ c.if2.false
+fine : (c : tie.Else-refusal-ne0) → (window_refusal c.strip_at-w.result).number ≡ 0
+fine c = ap (λ (q : Refusal). q.number) (sym c.window_refusal-refusal.ensures) ∙ c.if-refusal-ne0.false
 
 put-requires : tie.Need-put-requires
 put-requires c κs =
-    let b = c.before.before.before.before.before.before.before.before in
-    let a = b.before.before in
-    let few = strips_behind a.args.book.now (a.args.p + 5) a.requires.1.0 in
-    (omega (arith, few, a.requires.0, (behind b).count), window_on_table _ (fine c.before))
+    let few = strips_behind c.args.book.now (c.args.p + 5) c.requires.1.0 in
+    let b = found_good _ c.in-Good.is c.requires.1.1 in
+    (omega (arith, few, c.requires.0, b.count), window_on_table _ (fine c.before))
 
-mul-if3 : tie.Need-overflow-mul-if3
+mul-if3 : tie.Need-offset_bounds-book-p-2
 mul-if3 c = search rules
 
-shared-slice-copy-out-if3 : tie.Need-shared-slice-copy-out-if3
-shared-slice-copy-out-if3 c =
-    omega (arith, among c.before.before.before.before.before.before.before.before.before.before.before)
+shared-slice-copy-out-if3 : tie.Need-bounds-book-p-2
+shared-slice-copy-out-if3 c = let h = among c.args.p c.args.book.now c.requires.0 c.requires.1.0 in omega arith
 
-returns-4 : tie.Need-returns-4
+returns-4 : tie.Need-returns-then-book-p-ne1
 returns-4 c =
-    let e = c.before.before.before.before.before.before.before.before in
-    let a = e.before.before.before.before.before in
-    workers.faulty (fails_mark a.args.book.now a.args.p (among a) e.if1.false c.if3.true)
+    let h = among c.args.p c.args.book.now c.requires.0 c.requires.1.0 in
+    workers.faulty (fails_mark c.args.book.now c.args.p h c.if-book-p-eq0.false c.if-book-p-ne1.true)
 
-add-t8 : tie.Need-overflow-add-t8
+add-t8 : tie.Need-overflow_add-result
 add-t8 c =
-    let b = c.before.before.before.before.before.before.before.before.before.before.before in
-    let few = strips_behind b.before.before.args.book.now (b.before.before.args.p + 5) b.before.before.requires.1.0 in
-    omega (arith, few, (behind b).count)
+    let b = found_good _ c.in-Good.is c.requires.1.1 in
+    let few = strips_behind c.args.book.now (c.args.p + 5) c.requires.1.0 in
+    omega (arith, few, b.count)
 
-returns-5 : tie.Need-returns-5
+returns-5 : tie.Need-returns
 returns-5 c =
-    let e = c.before.before.before.before in
-    let r = e.before.before.before in
-    let b = r.before.before.before.before in
-    let a = b.before.before in
-    let used = mark_is a.args.book.now a.args.p (among a) c.before.if32.given 1 (omega arith) c.if3.false in
-    workers.good (passes_used a.args.book.now a.args.p (among a) r.strip_at.ensures used (fine e)
-    (behind b) (c.before.before.put.ensures _ (behind b).count (behind b).holds))
+    let h = among c.args.p c.args.book.now c.requires.0 c.requires.1.0 in
+    let b = found_good _ c.in-Good.is c.requires.1.1 in
+    let used = mark_is c.args.book.now c.args.p h c.t10-2-1.given 1 (omega arith) c.if-book-p-ne1.false in
+    workers.good (passes_used c.args.book.now c.args.p h c.strip_at-w.ensures used (fine c.before.before.before.before)
+    b (c.put.ensures _ b.count b.holds))
 
 pub gather_slot_spec : {M : Type 1} → statement M
 gather_slot_spec =

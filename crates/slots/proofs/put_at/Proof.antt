@@ -9,58 +9,58 @@ use Rattle.whole.proofs.Comparisons.{back}
 use Rattle.slots.proofs.put_at.Statement.{statement}
 use Rattle.slots.proofs.put_at.Tie as tie
 
-cast-book : tie.Need-overflow-cast-book
+cast-book : tie.Need-overflow_cast-book
 cast-book c = search rules
 
-mul-t10 : tie.Need-overflow-mul-t10
+mul-t10 : tie.Need-offset_bounds-book-p
 mul-t10 c = search rules
 
-slice-set-from-book : tie.Need-slice-set-from-book
+slice-set-from-book : tie.Need-bounds-book-p
 slice-set-from-book c = search rules
 
-add_left : tie.Need-overflow-add-left
+add_left : tie.Need-overflow_add-left
 add_left c = search rules
 
-mul_left : tie.Need-overflow-mul-left
+mul_left : tie.Need-offset_bounds-book-p-2
 mul_left c = search rules
 
-slice-set-from-left : tie.Need-slice-set-from-left
+slice-set-from-left : tie.Need-bounds-book-p-2
 slice-set-from-left c = simp length-set (omega arith)
 
-add-bottom : tie.Need-overflow-add-bottom
+add-bottom : tie.Need-overflow_add-bottom
 add-bottom c = search rules
 
-mul-bottom : tie.Need-overflow-mul-bottom
+mul-bottom : tie.Need-offset_bounds-book-p-3
 mul-bottom c = search rules
 
-slice-set-from-bottom : tie.Need-slice-set-from-bottom
+slice-set-from-bottom : tie.Need-bounds-book-p-3
 slice-set-from-bottom c = simp length-set (omega arith)
 
-add_right : tie.Need-overflow-add-right
+add_right : tie.Need-overflow_add-right
 add_right c = search rules
 
-mul_right : tie.Need-overflow-mul-right
+mul_right : tie.Need-offset_bounds-book-p-4
 mul_right c = search rules
 
-slice-set-from-right : tie.Need-slice-set-from-right
+slice-set-from-right : tie.Need-bounds-book-p-4
 slice-set-from-right c = simp length-set (omega arith)
 
-add-top : tie.Need-overflow-add-top
+add-top : tie.Need-overflow_add-top
 add-top c = search rules
 
-mul-top : tie.Need-overflow-mul-top
+mul-top : tie.Need-offset_bounds-book-p-5
 mul-top c = search rules
 
-slice-set-from-top : tie.Need-slice-set-from-top
+slice-set-from-top : tie.Need-bounds-book-p-5
 slice-set-from-top c = simp length-set (omega arith)
 
-same_length : tie.Need-same-length
+same_length : tie.Need-shape_of-book
 same_length c = search rules
 
 returns : tie.Need-returns
 returns c =
     let a = c.before.before.before.before in
-    let g = c.struct-told4.given in
+    let g = c.struct_told-4-1.given in
     simp (
       to_z_pos w32 {n = a.args.mark} (omega arith),
       back w32 a.args.w.left g.0.1,
