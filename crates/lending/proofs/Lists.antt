@@ -12,7 +12,6 @@ use Rattle.grid.specs.Table.{sides}
 use Rattle.words.specs.Digits.{word_value}
 use Rattle.words.specs.Words.{numeral, has_minus, unsigned}
 use Rattle.words.specs.declared.Natural.{Natural}
-use Rattle.words.specs.declared.Natural.TheVariants as Natural
 use Rattle.words.proofs.Numerals.{unsigned_is}
 use Rattle.arguments.specs.Arguments.{first_end, behind_first, first_word, first_window, Numbers}
 use Rattle.lending.specs.Lent.{most_room, Lends, as_room, AsksRoom, ListArguments, AsksList, ReadList}

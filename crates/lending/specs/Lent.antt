@@ -14,7 +14,6 @@ use Rattle.grid.specs.Table.{sides}
 use Rattle.grid.specs.declared.Window.{Window}
 use Rattle.words.specs.Words.{numeral, unsigned}
 use Rattle.words.specs.declared.Natural.{Natural}
-use Rattle.words.specs.declared.Natural.TheVariants as Natural
 use Rattle.arguments.specs.Arguments.{numbers_in, first_word, behind_first, first_window}
 use Rattle.lending.specs.declared.Listed.{Listed}
 
