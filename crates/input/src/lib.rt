@@ -103,14 +103,14 @@ pub fn take_line(chunk: &Chunk, line: &mut Line, source: Source) -> Source
 
 // Reads the next chunk when all of the last is taken. Where the input ends, a line without a newline is whole, unless it is nothing; where a read
 // fails, there is no line.
-pub fn read_on(chunk: &mut Chunk, source: Source) -> Source
+pub fn read_on(rt: &HostRuntime, chunk: &mut Chunk, source: Source) -> Source
     requires { InReach source }
     ensures { InReach result }
 {
     if !source.open {
         return closed();
     }
-    let taken = streams::read_some(chunk);
+    let taken = streams::read_some(rt, chunk);
     if taken.failed {
         return closed();
     }
@@ -127,7 +127,7 @@ pub fn read_on(chunk: &mut Chunk, source: Source) -> Source
 
 // Goes on to the next whole line; there is none any more where the input has ended or a read failed. A proved loop has to end, so it counts its turns,
 // to a number that no run reaches.
-pub fn next_line(chunk: &mut Chunk, line: &mut Line, source: Source) -> Source
+pub fn next_line(rt: &HostRuntime, chunk: &mut Chunk, line: &mut Line, source: Source) -> Source
     requires { InReach source }
     ensures { InReach result }
 {
@@ -138,7 +138,7 @@ pub fn next_line(chunk: &mut Chunk, line: &mut Line, source: Source) -> Source
         if source.whole {
             return source;
         }
-        source = read_on(chunk, source);
+        source = read_on(rt, chunk, source);
         if source.whole || !source.open {
             return source;
         }
