@@ -14,10 +14,10 @@ pub const MARK: usize = 65536;
 pub type Page = [u8; 557536];
 
 // Writes out the first `used` bytes of the page, and says whether that could be done.
-pub fn write_out(page: &[u8], used: usize) -> bool
+pub fn write_out(rt: &HostRuntime, page: &[u8], used: usize) -> bool
     requires { used ≤ length page.now }
 {
-    streams::write(&page[0..used])
+    streams::write(rt, &page[0..used])
 }
 
 // Puts the eight hexadecimal digits of an f32's bits.

@@ -1,6 +1,6 @@
 -- A number below 2 ^ 32 has at most eight hexadecimal digits, and is filled up to eight.
 use mathlib.Core.Path.{◌≡◌, ap, ◌∙◌, subst}
-use Prim.Native.Nat.{◌%◌, ◌≤◌, ◌<◌, ◌^◌}
+use Prim.Native.Nat.{◌%◌, ◌≤◌, ◌^◌}
 use native.Mathlib.Nat.{mod-lt}
 use native.Mathlib.Omega.{arith}
 use lib.Dec.{lit<, lit≤}
@@ -12,26 +12,26 @@ use borrow.Author.Rules.{rules}
 use Rattle.output.proofs.put_bits.Statement.{statement}
 use Rattle.output.proofs.put_bits.Tie as tie
 
-hex-requires : tie.Need-hex-requires
+hex-requires : tie.Need-hex-count-requires
 hex-requires c κs = search rules
 
-array-share-prefix-digits : tie.Need-array-share-prefix-digits
+array-share-prefix-digits : tie.Need-slice_bounds-digits-end
 array-share-prefix-digits c = search rules
 
-slice-aggregate-put : tie.Need-slice-aggregate-put
+slice-aggregate-put : tie.Need-slice_bounds-put-end
 slice-aggregate-put c = search rules
 
-eight : (c : tie.After-hex) → c.hex.result ≡ 8
+eight : (c : tie.After-hex-count) → c.hex-count.result ≡ 8
 eight c =
     let below = mod-lt c.before.before.before.args.bits (lit< tt) in
-    let most : c.hex.result ≤ 8 = enough 16 8 8 (lit< tt) (lit≤ tt) below c.hex.ensures.1.0 in
-    let least : 8 ≤ c.hex.result = c.hex.ensures.1.0.0 in
+    let most : c.hex-count.result ≤ 8 = enough 16 8 8 (lit< tt) (lit≤ tt) below c.hex-count.ensures.1.0 in
+    let least : 8 ≤ c.hex-count.result = c.hex-count.ensures.1.0.0 in
     omega arith
 
 put-requires : tie.Need-put-requires
-put-requires c κs = omega (arith, eight c.before.before, c.before.before.hex.ensures.0.1)
+put-requires c κs = omega (arith, eight c.before.before, c.before.before.hex-count.ensures.0.1)
 
-same_length : tie.Need-same-length
+same_length : tie.Need-shape_of-page
 same_length c = search rules
 
 returns : tie.Need-returns
@@ -40,8 +40,8 @@ returns c =
     let d = c.before.before.before.before.before in
     let n = d.before.before.before.args.bits % 2 ^ 32 in
     let p = c.before.before.put.ensures in (
-      subst (Put _ _ _ _) (d.hex.ensures.1.1 ∙ ap (λ k. Io.last_digits 16 k n) (eight d)) p,
-      omega (arith, eight d, d.hex.ensures.0.1, p.ends),
+      subst (Put _ _ _ _) (d.hex-count.ensures.1.1.0 ∙ ap (λ k. Io.last_digits 16 k n) (eight d)) p,
+      omega (arith, eight d, d.hex-count.ensures.0.1, p.ends),
     )
 
 pub put_bits_spec : {M : Type 1} → statement M
