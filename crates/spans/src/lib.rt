@@ -13,14 +13,14 @@ use fraction::Fraction;
 pub const NO_SIDE: u8 = 255;
 
 // The fractions from the first to the last; none, where the first is the greater.
-#[derive(Drop)]
+#[derive(Clone, Copy)]
 pub struct Span {
     pub first: Fraction,
     pub last: Fraction,
 }
 
 // A span, and the sides that fixed its first and its last fraction, by their numbers.
-#[derive(Drop)]
+#[derive(Clone, Copy)]
 pub struct SidedSpan {
     pub span: Span,
     pub side0: u8,
@@ -50,16 +50,6 @@ pub fn whole() -> SidedSpan
     )
 }
 
-// The same fraction once more: a `Fraction` is moved where it is passed.
-fn same(f: &Fraction) -> Fraction
-    ensures { result ≡ f.now }
-{
-    Fraction {
-        num: f.num,
-        den: f.den,
-    }
-}
-
 // What of s has p t <= q, the condition of the side `side`. A side that meets an end where another fixed it leaves the other's name.
 pub fn cut(p: i64, q: i64, side: u8, s: SidedSpan) -> SidedSpan
     requires within { Within largest p }
@@ -75,7 +65,7 @@ pub fn cut(p: i64, q: i64, side: u8, s: SidedSpan) -> SidedSpan
         if p < 0 {
             // it comes in at q/p
             let t = Fraction { num: -q, den: -p };
-            if fraction::less(same(&first), same(&t)) {
+            if fraction::less(first, t) {
                 return sided(t, last, side, s.side1);
             }
             return sided(first, last, s.side0, s.side1);
@@ -91,7 +81,7 @@ pub fn cut(p: i64, q: i64, side: u8, s: SidedSpan) -> SidedSpan
     if q < p {
         // it leaves at q/p
         let t = Fraction { num: q, den: p };
-        if fraction::less(same(&t), same(&last)) {
+        if fraction::less(t, last) {
             return sided(first, t, s.side0, side);
         }
     }

@@ -1,5 +1,5 @@
 -- `spans::cut` meets its contract: each way through it is one law of Cutting, with the sides. Assumes nothing.
-use mathlib.Core.Path.{◌≡◌, refl, sym, ap, subst, subst₂, ◌∙◌}
+use mathlib.Core.Path.{◌≡◌, refl, sym, ap, subst, ◌∙◌}
 use mathlib.Core.Bool.{true, false}
 use mathlib.Core.List.{List, [], ◌∷◌}
 use Prim.Native.Nat.{ℕ}
@@ -56,7 +56,7 @@ less-requires c =
     let z = c.requires.sized in
     let wp = c.requires.within in
     let wq = c.requires.within_2 in
-    subst₂ Comparable (sym c.same.ensures) (sym (c.same-then-p-lt0.ensures ∙ comes_in c.args.p c.args.q wp wq))
+    subst (Comparable c.args.s.span.first) (sym (comes_in c.args.p c.args.q wp wq))
     (comparable z.n0 z.d0 (minus_within wq) (minus_within wp))
 
 pub returns-then-less : goal.returns-then-less
@@ -89,7 +89,7 @@ less-requires-then-q-p c =
     let z = c.requires.sized in
     let wp = c.requires.within in
     let wq = c.requires.within_2 in
-    subst₂ Comparable (sym (c.same-then-q-p.ensures ∙ goes_out c.args.p c.args.q wp wq)) (sym c.same-then-q-p-2.ensures)
+    subst (λ (g : Fraction). Comparable g c.args.s.span.last) (sym (goes_out c.args.p c.args.q wp wq))
     (comparable wq wp z.n1 z.d1)
 
 pub returns-then-less-2 : goal.returns-then-less-2
