@@ -5,21 +5,21 @@ use Rattle.grid.specs.Sides.{left, right, bottom, top}
 use Rattle.reach.proofs.apart.Statement.{statement}
 use Rattle.reach.proofs.apart.Tie as tie
 
-returns : tie.Need-returns
+returns : tie.Need-returns-then-b-w
 returns c e =
-    (left, le_yes (back w32 _ c.before.before.before.struct_told.given.1.1.0.1) (back w32 _ c.before.struct-told2.given.0.1) c.if1.true)
+    (left, le_yes (back w32 _ c.struct_told-1.given.1.1.0.1) (back w32 _ c.struct_told-2-1.given.0.1) c.if-b-w.true)
 
-returns-2 : tie.Need-returns-2
+returns-2 : tie.Need-returns-then-w-b
 returns-2 c e =
-    (right, le_yes (back w32 _ c.before.before.before.struct-told3.given.1.1.0.1) (back w32 _ c.before.struct-told4.given.0.1) c.if2.true)
+    (right, le_yes (back w32 _ c.struct_told-3-1.given.1.1.0.1) (back w32 _ c.struct_told-4-1.given.0.1) c.if-w-b.true)
 
-returns-3 : tie.Need-returns-3
+returns-3 : tie.Need-returns-then-b-w-2
 returns-3 c e =
-    (bottom, le_yes (back w32 _ c.before.before.before.struct-told5.given.1.1.1.0.1) (back w32 _ c.before.struct-told6.given.1.0.1) c.if3.true)
+    (bottom, le_yes (back w32 _ c.struct_told-5-1.given.1.1.1.0.1) (back w32 _ c.struct_told-6-1.given.1.0.1) c.if-b-w-2.true)
 
-returns-4 : tie.Need-returns-4
+returns-4 : tie.Need-returns
 returns-4 c e =
-    (top, le_yes (back w32 _ c.before.before.struct-told7.given.1.1.1.0.1) (back w32 _ c.struct-told8.given.1.0.1) e)
+    (top, le_yes (back w32 _ c.struct_told-7-1.given.1.1.1.0.1) (back w32 _ c.struct_told-8-1.given.1.0.1) e)
 
 pub apart_spec : {M : Type 1} → statement M
 apart_spec = tie.close (tie.spec returns returns-2 returns-3 returns-4)
