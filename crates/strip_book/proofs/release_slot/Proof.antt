@@ -25,153 +25,151 @@ use Rattle.strip_book.proofs.Refusing.{book_long, refuses_releaser, refuses_rele
 use Rattle.strip_book.proofs.release_slot.Statement.{statement}
 use Rattle.strip_book.proofs.release_slot.Tie as tie
 
-is-renter-requires : tie.Need-is-renter-requires
+is-renter-requires : tie.Need-is_renter-requires
 is-renter-requires c κs = search rules
 
 -- whether there is such a renter
-asked : (c : tie.After-is-renter) → c.is-renter.result ≡ is_renter c.before.args.renter
-asked c = c.is-renter.ensures ∙ ap is_renter (to_z-of_z c.before.ranges.renter)
+asked : (c : tie.After-is_renter) → c.is_renter.result ≡ is_renter c.before.args.renter
+asked c = c.is_renter.ensures ∙ ap is_renter (to_z-of_z c.before.ranges.renter)
 
-release-answer-requires : tie.Need-release-answer-requires
+release-answer-requires : tie.Need-release_answer-requires
 release-answer-requires c κs = search rules
 
-returns : tie.Need-returns
+returns : tie.Need-returns-then-not-is_renter
 returns c =
     let b = c.before in
     let a = b.before.before in
-    rw c.release-answer.ensures
+    rw c.release_answer.ensures
     (lent_refused
-    (refuses_releaser a.args.renter a.args.slot a.args.book.now (sym (asked b.before) ∙ not-true _ b.if1.true))
+    (refuses_releaser a.args.renter a.args.slot a.args.book.now (sym (asked b.before) ∙ not-true _ b.if-not-is_renter.true-raw))
     (λ e. omega arith))
 
 -- ---- there is such a renter
-known : (c : tie.Else1) → is_renter c.before.before.args.renter ≡ true
-known c = sym (asked c.before) ∙ not-false _ c.if1.false
+known : (c : tie.Else-not-is_renter) → is_renter c.before.before.args.renter ≡ true
+known c = sym (asked c.before) ∙ not-false _ c.if-not-is_renter.false-raw
 
-test-book-requires : tie.Need-test-book-requires
+test-book-requires : tie.Need-test_book-tested-requires
 test-book-requires c κs = vacant_holds
 
-enum-known-tested : tie.Need-enum-known-tested
+enum-known-tested : tie.Need-enum_known-tested
 enum-known-tested c = search rules
 
-enum_told : tie.Need-enum-told
+enum_told : tie.Need-enum_told-1
 enum_told c = search rules
 
-release-answer-requires-2 : tie.Need-release-answer-requires-2
+release-answer-requires-2 : tie.Need-release_answer-requires-in_default
 release-answer-requires-2 c κs = search rules
 
-same_length : tie.Need-same-length
+same_length : tie.Need-shape_of-book-in_default
 same_length c = search rules
 
-returns-2 : tie.Need-returns-2
+returns-2 : tie.Need-returns-in_default
 returns-2 c =
-    let b = c.before.before.before in
-    let e = b.before.before.before in
-    let a = e.before.before in
-    rw c.release-answer2.ensures
+    let e = c.before.before.before.before in
+    rw c.release_answer-in_default.ensures
     (lent_refused
-    (refuses_release a.args.renter a.args.slot a.args.book.now (known e) (found_faulty c.before.enum_told.given.1 b.test-book.ensures))
+    (refuses_release c.args.renter c.args.slot c.args.book.now (known e) (found_faulty c.in_default.is c.test_book-tested.ensures))
     (λ e. omega arith))
 
 -- ---- it is a book
-abbrev start : tie.After-known-told → tie.Start
-start c = c.before.before.before.before.before.before.before.before
+abbrev start : tie.In-Good → tie.Start
+start c = c.before.before.before.before.before
 
-abbrev book : tie.After-known-told → List ℤ
+abbrev book : tie.In-Good → List ℤ
 book c = (start c).args.book.now
 
-abbrev renter : tie.After-known-told → ℤ
+abbrev renter : tie.In-Good → ℤ
 renter c = (start c).args.renter
 
-abbrev slot : tie.After-known-told → ℤ
+abbrev slot : tie.In-Good → ℤ
 slot c = (start c).args.slot
 
-sound : (c : tie.After-known-told) → is_book (book c) ≡ true
-sound c = (found_good _ c.before.tested.given.1 c.before.before.before.test-book.ensures).0
+sound : (c : tie.In-Good) → is_book (book c) ≡ true
+sound c = (found_good _ c.in-Good.is c.test_book-tested.ensures).0
 
-there : (c : tie.After-known-told) → is_renter (renter c) ≡ true
-there c = known c.before.before.before.before.before.before
+there : (c : tie.In-Good) → is_renter (renter c) ≡ true
+there c = known c.before.before.before
 
-long : (c : tie.After-known-told) → length (book c) ≡ 320
+long : (c : tie.In-Good) → length (book c) ≡ 320
 long c = book_long (book c) (sound c)
 
-fits : (c : tie.After-known-told) → SFits w32 (slot c)
+fits : (c : tie.In-Good) → SFits w32 (slot c)
 fits c = (start c).ranges.slot
 
 -- the renter as he is named in a call
-named : (c : tie.After-known-told) → to_z w32 (of_z w32 (renter c)) ≡ renter c
+named : (c : tie.In-Good) → to_z w32 (of_z w32 (renter c)) ≡ renter c
 named c = to_z-of_z (start c).ranges.renter
 
 -- whether the slot is in use
-told : (c : tie.After-used-at) → let k = c.before.before in c.used-at.result ≡ used_at (half (renter k) (book k)) (slot k)
+told : (c : tie.After-used_at) → let k = c.before in c.used_at.result ≡ used_at (half (renter k) (book k)) (slot k)
 told c =
-    let k = c.before.before in
-    c.used-at.ensures
+    let k = c.before in
+    c.used_at.ensures
     ∙ ap (λ (z : ℤ). used_at (half z (book k)) (to_z w32 (of_z w32 (slot k)))) (named k)
     ∙ ap (used_at (half (renter k) (book k))) (to_z-of_z (fits k))
 
-used-at-requires : tie.Need-used-at-requires
-used-at-requires c κs = let k = c.before in (ap is_renter (named k) ∙ there k, long k)
+used-at-requires : tie.Need-used_at-requires
+used-at-requires c κs = let k = c in (ap is_renter (named k) ∙ there k, long k)
 
-release-answer-requires-3 : tie.Need-release-answer-requires-3
+release-answer-requires-3 : tie.Need-release_answer-requires-then-not-used_at
 release-answer-requires-3 c κs = search rules
 
-same-length-2 : tie.Need-same-length-2
+same-length-2 : tie.Need-shape_of-book-then-not-used_at
 same-length-2 c = search rules
 
-returns-3 : tie.Need-returns-3
+returns-3 : tie.Need-returns-then-not-used_at
 returns-3 c =
     let u = c.before.before in
-    let k = u.before.before in
-    rw c.release-answer3.ensures
-    (lent_refused (refuses_slot (renter k) (slot k) (book k) (there k) (sound k) (sym (told u) ∙ not-true _ c.before.if2.true)) (λ e. omega arith))
+    let k = u.before in
+    rw c.release_answer-then-not-used_at.ensures
+    (lent_refused (refuses_slot (renter k) (slot k) (book k) (there k) (sound k) (sym (told u) ∙ not-true _ c.before.if-not-used_at.true-raw)) (λ e. omega arith))
 
 -- ---- and the slot is in use
-used : (c : tie.Else2) → let k = c.before.before.before in used_at (half (renter k) (book k)) (slot k) ≡ true
-used c = sym (told c.before) ∙ not-false _ c.if2.false
+used : (c : tie.Else-not-used_at) → let k = c.before.before in used_at (half (renter k) (book k)) (slot k) ≡ true
+used c = sym (told c.before) ∙ not-false _ c.if-not-used_at.false-raw
 
-among : (c : tie.Else2) → let k = c.before.before.before in (pos 0 ≤ℤ slot k) × (nat_abs (slot k) < 32)
+among : (c : tie.Else-not-used_at) → let k = c.before.before in (pos 0 ≤ℤ slot k) × (nat_abs (slot k) < 32)
 among c =
-    let k = c.before.before.before in
+    let k = c.before.before in
     used_there (half (renter k) (book k)) (slot k) (half_long (renter k) (there k) (book k) (long k)) (used c)
 
-first-slot-requires : tie.Need-first-slot-requires
-first-slot-requires c κs = let k = c.before.before.before in ap is_renter (named k) ∙ there k
+first-slot-requires : tie.Need-first_slot-requires
+first-slot-requires c κs = let k = c.before.before in ap is_renter (named k) ∙ there k
 
 -- the slot of the table
-begins : (c : tie.After-first-slot) → c.first_slot.result ≡ first_slot (renter c.before.before.before.before)
-begins c = c.first_slot.ensures ∙ ap first_slot (named c.before.before.before.before)
+begins : (c : tie.After-first_slot) → c.first_slot.result ≡ first_slot (renter c.before.before.before)
+begins c = c.first_slot.ensures ∙ ap first_slot (named c.before.before.before)
 
-below : (c : tie.After-first-slot) → c.first_slot.result + nat_abs (slot c.before.before.before.before) < 64
+below : (c : tie.After-first_slot) → c.first_slot.result + nat_abs (slot c.before.before.before) < 64
 below c =
-    let k = c.before.before.before.before in
+    let k = c.before.before.before in
     omega (arith, begins c, at_most_one (renter k) (there k), (among c.before).1)
 
-cast-k : tie.Need-overflow-cast-k
-cast-k c = cast_unsigned w32 (fits c.before.before.before.before) (among c.before).0 w64 (omega (arith, (among c.before).1))
+cast-k : tie.Need-overflow_cast-k
+cast-k c = cast_unsigned w32 (fits c.before.before.before) (among c.before).0 w64 (omega (arith, (among c.before).1))
 
-add-k : tie.Need-overflow-add-k
-add-k c = omega (arith, below c, ap nat_abs (to_z-of_z (fits c.before.before.before.before)))
+add-k : tie.Need-overflow_add-k
+add-k c = omega (arith, below c, ap nat_abs (to_z-of_z (fits c.before.before.before)))
 
 put-requires : tie.Need-put-requires
 put-requires c κs =
-    let k = c.before.before.before.before.before in
+    let k = c.before.before.before.before in
     omega (arith, below c.before, long k, ap nat_abs (to_z-of_z (fits k)))
 
-release-answer-requires-4 : tie.Need-release-answer-requires-4
+release-answer-requires-4 : tie.Need-release_answer-requires-2
 release-answer-requires-4 c κs = search rules
 
-same-length-3 : tie.Need-same-length-3
+same-length-3 : tie.Need-shape_of-book
 same-length-3 c = search rules
 
-returns-4 : tie.Need-returns-4
+returns-4 : tie.Need-returns
 returns-4 c =
     let f = c.before.before.before.before in
     let e = f.before in
-    let k = e.before.before.before in
+    let k = e.before.before in
     let place : f.first_slot.result + nat_abs (to_z w32 (of_z w32 (slot k))) ≡ first_slot (renter k) + nat_abs (slot k) =
     omega (arith, begins f, ap nat_abs (to_z-of_z (fits k))) in
-    rw c.release-answer4.ensures
+    rw c.release_answer-2.ensures
     (lent_done (releases (renter k) (slot k) (book k) (there k) (sound k) (used e))
     (record {
       answer = refl;

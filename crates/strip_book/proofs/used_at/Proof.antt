@@ -2,7 +2,7 @@
 use mathlib.Core.Path.{◌≡◌, sym, ap, ◌∙◌}
 use Prim.Native.Nat.{ℕ, ◌+◌, ◌<◌}
 use native.Mathlib.Omega.{arith}
-use lib.IntN.{ℤ, pos, nat_abs}
+use lib.IntN.{pos, nat_abs}
 use lib.Signed.{◌≤ℤ◌}
 use mir.Syntax.{w32, w64}
 use mir.Val.{to_z, of_z}
@@ -15,46 +15,46 @@ use Rattle.strip_book.proofs.Refusing.{none_below, none_above, used_is, small}
 use Rattle.strip_book.proofs.used_at.Statement.{statement}
 use Rattle.strip_book.proofs.used_at.Tie as tie
 
-returns : tie.Need-returns
+returns : tie.Need-returns-then-slot-lt0
 returns c =
     let a = c.before in
-    sym (none_below (half a.args.renter a.args.book.now) a.args.slot (lt_taken w32 a.ranges.slot (sfits_lit {z = pos 0} tt) c.if1.true))
+    sym (none_below (half a.args.renter a.args.book.now) a.args.slot (lt_taken w32 a.ranges.slot (sfits_lit {z = pos 0} tt) c.if-slot-lt0.true))
 
-returns-2 : tie.Need-returns-2
+returns-2 : tie.Need-returns-then-slot-gt31
 returns-2 c =
     let a = c.before.before in
     sym (none_above (half a.args.renter a.args.book.now) a.args.slot (half_long a.args.renter a.requires.0 a.args.book.now a.requires.1)
-    (lt_taken w32 (sfits_lit {z = pos 31} tt) a.ranges.slot c.if2.true))
+    (lt_taken w32 (sfits_lit {z = pos 31} tt) a.ranges.slot c.if-slot-gt31.true))
 
-from_zero : (c : tie.Else2) → pos 0 ≤ℤ c.before.before.args.slot
-from_zero c = lt_left w32 c.before.before.ranges.slot (sfits_lit {z = pos 0} tt) c.before.if1.false
+from_zero : (c : tie.Else-slot-gt31) → pos 0 ≤ℤ c.before.before.args.slot
+from_zero c = lt_left w32 c.before.before.ranges.slot (sfits_lit {z = pos 0} tt) c.before.if-slot-lt0.false
 
-below : (c : tie.Else2) → nat_abs c.before.before.args.slot < 32
-below c = let a = c.before.before in small a.args.slot (from_zero c) (lt_left w32 (sfits_lit {z = pos 31} tt) a.ranges.slot c.if2.false)
+below : (c : tie.Else-slot-gt31) → nat_abs c.before.before.args.slot < 32
+below c = let a = c.before.before in small a.args.slot (from_zero c) (lt_left w32 (sfits_lit {z = pos 31} tt) a.ranges.slot c.if-slot-gt31.false)
 
-first-slot-requires : tie.Need-first-slot-requires
+first-slot-requires : tie.Need-first_slot-requires
 first-slot-requires c κs = let a = c.before.before in ap is_renter (to_z-of_z a.ranges.renter) ∙ a.requires.0
 
 -- where his half begins
-begins : (c : tie.After-first-slot) → c.first_slot.result ≡ first_slot c.before.before.before.args.renter
+begins : (c : tie.After-first_slot) → c.first_slot.result ≡ first_slot c.before.before.before.args.renter
 begins c = c.first_slot.ensures ∙ ap first_slot (to_z-of_z c.before.before.before.ranges.renter)
 
-cast-in-use : tie.Need-overflow-cast-in-use
+cast-in-use : tie.Need-overflow_cast-slot
 cast-in-use c = cast_unsigned w32 c.before.before.before.ranges.slot (from_zero c.before) w64 (omega (arith, below c.before))
 
 -- the slot of the table
-among : (c : tie.After-first-slot) → let a = c.before.before.before in c.first_slot.result + nat_abs a.args.slot < 64
+among : (c : tie.After-first_slot) → let a = c.before.before.before in c.first_slot.result + nat_abs a.args.slot < 64
 among c = let a = c.before.before.before in omega (arith, begins c, at_most_one a.args.renter a.requires.0, below c.before)
 
-add-in-use : tie.Need-overflow-add-in-use
+add-in-use : tie.Need-overflow_add-first_slot
 add-in-use c = omega (arith, among c, ap nat_abs (to_z-of_z c.before.before.before.ranges.slot))
 
-in-use-requires : tie.Need-in-use-requires
+in-use-requires : tie.Need-in_use-requires
 in-use-requires c κs =
     let a = c.before.before.before in
     (omega (arith, among c, ap nat_abs (to_z-of_z a.ranges.slot)), a.requires.1)
 
-returns-3 : tie.Need-returns-3
+returns-3 : tie.Need-returns
 returns-3 c =
     let f = c.before in
     let e = f.before in
