@@ -8,19 +8,19 @@ use borrow.Author.Rules.{rules}
 use Rattle.layers.proofs.put_round.Statement.{statement}
 use Rattle.layers.proofs.put_round.Tie as tie
 
-put-point-requires : tie.Need-put-point-requires
+put-point-requires : tie.Need-put_point-a-requires
 put-point-requires c κs = search rules
 
-put-number-requires : tie.Need-put-number-requires
+put-number-requires : tie.Need-put_number-b-requires
 put-number-requires c κs = search rules
 
-put-number-requires-2 : tie.Need-put-number-requires-2
+put-number-requires-2 : tie.Need-put_number-c-requires
 put-number-requires-2 c κs = search rules
 
-put-number-requires-3 : tie.Need-put-number-requires-3
+put-number-requires-3 : tie.Need-put_number-requires
 put-number-requires-3 c κs = search rules
 
-same_length : tie.Need-same-length
+same_length : tie.Need-shape_of-page
 same_length c = search rules
 
 returns : tie.Need-returns
@@ -33,11 +33,11 @@ returns c =
     let at₂ = at₃.before.before in
     let at₁ = at₂.before.before.before in
     let w = at₁.args.w in
-    let t = at₂.struct_told.given in
-    let p = at₃.put-point.ensures in
-    let q = at₄.put-number.ensures in
-    let r = at₅.put-number2.ensures in
-    let s = at₆.put-number3.ensures in
+    let t = at₂.struct_told-1.given in
+    let p = at₃.put_point-a.ensures in
+    let q = at₄.put_number-b.ensures in
+    let r = at₅.put_number-c.ensures in
+    let s = at₆.put_number.ensures in
     let left = back w32 w.left t.0.1 in
     let bottom = back w32 w.bottom t.1.0.1 in
     let right = back w32 w.right t.1.1.0.1 in

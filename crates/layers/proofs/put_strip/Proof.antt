@@ -6,28 +6,19 @@ use borrow.Author.Rules.{rules}
 use Rattle.layers.proofs.put_strip.Statement.{statement}
 use Rattle.layers.proofs.put_strip.Tie as tie
 
-slice-aggregate-put-start : tie.Need-slice-aggregate-put-start
-slice-aggregate-put-start c = search rules
-
-put-start-requires : tie.Need-put-start-requires
+put-start-requires : tie.Need-put_start-a-requires
 put-start-requires c κs = search rules
 
-slice-aggregate-put : tie.Need-slice-aggregate-put
-slice-aggregate-put c = search rules
-
-put-requires : tie.Need-put-requires
+put-requires : tie.Need-put-b-requires
 put-requires c κs = search rules
 
-put-round-requires : tie.Need-put-round-requires
+put-round-requires : tie.Need-put_round-c-requires
 put-round-requires c κs = search rules
 
-slice-aggregate-put-2 : tie.Need-slice-aggregate-put-2
-slice-aggregate-put-2 c = search rules
-
-put-requires-2 : tie.Need-put-requires-2
+put-requires-2 : tie.Need-put-requires
 put-requires-2 c κs = search rules
 
-same_length : tie.Need-same-length
+same_length : tie.Need-shape_of-page
 same_length c = search rules
 
 returns : tie.Need-returns
@@ -37,22 +28,19 @@ returns c =
     let at₃ = at₄.before.before.before.before.before in
     let at₂ = at₃.before.before.before.before in
     let at₁ = at₂.before.before.before.before.before in
-    let p = at₁.put-start.ensures in
-    let q = at₂.put.ensures in
-    let r = at₃.put-round.ensures in
-    let s = at₄.put2.ensures in
+    let p = at₁.put_start-a.ensures in
+    let q = at₂.put-b.ensures in
+    let r = at₃.put_round-c.ensures in
+    let s = at₄.put.ensures in
     (put_then (put_then (put_then p.0 q) r.0) s, omega (arith, p.1, q.ends, r.1, s.ends))
 
 pub put_strip_spec : {M : Type 1} → statement M
 put_strip_spec =
     tie.close
     (tie.spec
-    slice-aggregate-put-start
     put-start-requires
-    slice-aggregate-put
     put-requires
     put-round-requires
-    slice-aggregate-put-2
     put-requires-2
     same_length
     returns)
