@@ -146,8 +146,8 @@ module _ {w : Window} {zs : List ℤ} where
   trail_small arrives = ∅
   trail_small (leads p l k) = p ◂ trail_small k
 
-  trail_walk : {u z y : Tagged} {cs : List Tagged} → Trail w zs z (u ∷ cs) → z.point ≡ y.point → Walk (Linked w zs) u cs y
-  trail_walk {u} (leads p l arrives) e = last (subst (Lies w zs u.tag u.point) e l)
+  trail_walk : {z u y : Tagged} {cs : List Tagged} → Trail w zs z (u ∷ cs) → z.point ≡ y.point → Walk (Linked w zs) u cs y
+  trail_walk {u = u} (leads p l arrives) e = last (subst (Lies w zs u.tag u.point) e l)
   trail_walk (leads p l (leads p' l' k)) e = step l (trail_walk (leads p' l' k) e)
 
   trail_ring : {z : Tagged} {cs : List Tagged} → Trail w zs z cs → z.point ≡ (next_of cs z).point → Edges (Linked w zs) cs
@@ -188,38 +188,38 @@ module _ (w : Window) {zs : List ℤ} (s : Side) (g : OutlineOnTable zs) where
   along_side {p} {q} i j = record { stroke = side_stroke w s; named = side s; from = side_on w s p i; to = side_on w s q j }
 
   -- a run inside, with the next corner outside
-  goes_out : {z e u : Tagged} {r t cs ls : List Tagged} → Small z.point → Trail w zs z (u ∷ (r ++ cs)) → All (InC (side_line w s)) (u ∷ r)
+  goes_out : (r : List Tagged) {z e u : Tagged} {t cs ls : List Tagged} → Small z.point → Trail w zs z (u ∷ (r ++ cs)) → All (InC (side_line w s)) (u ∷ r)
       → OutC (side_line w s) (next_of cs z) → Goes w zs s u r t
       → On (side_line w s) (next_of ls e).point → Piece w zs s z e cs ls → Piece w zs s z e (u ∷ (r ++ cs)) (t ++ ls)
   unfolding points_of
-  goes_out sz (leads p l k) (i ◂ a) o (on_line j) f b = record {
+  goes_out [] sz (leads p l k) (i ◂ a) o (on_line j) f b = record {
     left = some (pass_more (stays i) (uncrossed (not_across (λ x y. omega zarith) (λ x y. omega zarith))) b.left);
     trail = leads p (along_side j f) b.trail;
   }
-  goes_out sz (leads p l k) (i ◂ a) o (crosses j m) f b =
+  goes_out [] sz (leads p l k) (i ◂ a) o (crosses j m) f b =
       let x = found s g l m p.positive (next_proper k sz) (leaves j o) in
       record {
         left = some (pass_more (stays i) (crossed (leaves j o) x.crossing) b.left);
         trail = leads p (record { stroke = l.stroke; named = l.named; from = l.from; to = x.on_stroke })
             (leads x.small (along_side x.crossing.on f) b.trail);
       }
-  goes_out {e = e} {u} {ls = ls} sz (leads p l k) (i ◂ (j ◂ a)) o (more q) f b =
-      let y = goes_out sz k (j ◂ a) o q f b in
+  goes_out (v ∷ r) {e = e} {u = u} {ls = ls} sz (leads p l k) (i ◂ (j ◂ a)) o (more q) f b =
+      let y = goes_out r sz k (j ◂ a) o q f b in
       record { left = some (pass_more (stays i) (uncut i j) y.left); trail = leads p (subst (Lies w zs u.tag u.point) (goes_first ls e q) l) y.trail }
 
   -- a run outside, with the next corner inside
-  comes_in : {z e n : Tagged} {ns cs c ls : List Tagged} → Small z.point → Trail w zs z (n ∷ (ns ++ cs)) → All (OutC (side_line w s)) (n ∷ ns)
+  comes_in : (ns : List Tagged) {z e n : Tagged} {cs c ls : List Tagged} → Small z.point → Trail w zs z (n ∷ (ns ++ cs)) → All (OutC (side_line w s)) (n ∷ ns)
       → Comes w zs s (final n ns) (next_of cs z).point c
       → (next_of cs z).point ≡ (next_of ls e).point → Piece w zs s z e cs ls → Piece w zs s z e (n ∷ (ns ++ cs)) (c ++ ls)
   unfolding points_of
-  comes_in sz (leads p l k) (o ◂ ∅) (on_line j) f b = record { left = one_goes o (≡→≤ j) b.left; trail = b.trail }
-  comes_in sz (leads p l k) (o ◂ ∅) (crosses j m) f b =
+  comes_in [] sz (leads p l k) (o ◂ ∅) (on_line j) f b = record { left = one_goes o (≡→≤ j) b.left; trail = b.trail }
+  comes_in [] sz (leads p l k) (o ◂ ∅) (crosses j m) f b =
       let x = found s g l m p.positive (next_proper k sz) (enters o j) in
       record {
         left = some (pass_more (goes o) (crossed (enters o j) x.crossing) b.left);
         trail = leads x.small (record { stroke = l.stroke; named = l.named; from = x.on_stroke; to = subst (On (line_of l.stroke)) f l.to }) b.trail;
       }
-  comes_in sz (leads p l k) (o ◂ (i ◂ a)) q f b = let y = comes_in sz k (i ◂ a) q f b in record { left = one_goes o (<→≤ i) y.left; trail = y.trail }
+  comes_in (v ∷ ns) sz (leads p l k) (o ◂ (i ◂ a)) q f b = let y = comes_in ns sz k (i ◂ a) q f b in record { left = one_goes o (<→≤ i) y.left; trail = y.trail }
 
   -- ---- a ring that starts inside, and one that starts outside
   pub cut_middle : {u n : Tagged} {r ns b t c : List Tagged}
@@ -232,8 +232,8 @@ module _ (w : Window) {zs : List ℤ} (s : Side) (g : OutlineOnTable zs) where
       let first = ring_trail k.small k.lies in
       let second = trail_after (u ∷ r) first in
       let third = trail_after (n ∷ ns) second in
-      let rest = comes_in sz second o v refl (record { left = all_stay j (all_head i); trail = third }) in
-      piece_round (goes_out sz first i (all_head o) q (comes_first b u v refl) rest) (goes_first (c ++ b) u q)
+      let rest = comes_in ns sz second o v refl (record { left = all_stay j (all_head i); trail = third }) in
+      piece_round (goes_out r sz first i (all_head o) q (comes_first b u v refl) rest) (goes_first (c ++ b) u q)
 
   pub keep_middle : {n u : Tagged} {ns r o c t : List Tagged}
       → Traced w zs (n ∷ (ns ++ (u ∷ (r ++ o))))
@@ -246,10 +246,10 @@ module _ (w : Window) {zs : List ℤ} (s : Side) (g : OutlineOnTable zs) where
       let second = trail_after (n ∷ ns) first in
       let e = next_of (c ++ (t ++ [])) u in
       let rest =
-      goes_out {e = e} sz second i (next_all n b (all_head a)) q (comes_first (t ++ []) u v (goes_first [] u q))
+      goes_out r {e = e} sz second i (next_all n b (all_head a)) q (comes_first (t ++ []) u v (goes_first [] u q))
       (record { left = all_go b (all_head a); trail = arrives }) in
       subst (λ (t : List Tagged). CutBy (side_line w s) (points_of (n ∷ (ns ++ (u ∷ (r ++ o))))) (points_of (c ++ t)) × Traced w zs (c ++ t)) (append-nil t)
-      (piece_round (comes_in sz first a v (goes_first [] e q) rest) (again (c ++ (t ++ []))))
+      (piece_round (comes_in ns sz first a v (goes_first [] e q) rest) (again (c ++ (t ++ []))))
     where
       again : (cs : List Tagged) → (next_of cs u).point ≡ (next_of cs (next_of cs u)).point
       again [] = refl
