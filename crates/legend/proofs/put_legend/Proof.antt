@@ -6,13 +6,13 @@ use borrow.Author.Rules.{rules}
 use Rattle.legend.proofs.put_legend.Statement.{statement}
 use Rattle.legend.proofs.put_legend.Tie as tie
 
-put-line-requires : tie.Need-put-line-requires
+put-line-requires : tie.Need-put_line-a-requires
 put-line-requires c κs = search rules
 
-put-line-requires-2 : tie.Need-put-line-requires-2
+put-line-requires-2 : tie.Need-put_line-requires
 put-line-requires-2 c κs = search rules
 
-same_length : tie.Need-same-length
+same_length : tie.Need-shape_of-page
 same_length c = search rules
 
 returns : tie.Need-returns
@@ -20,8 +20,8 @@ unfolding legend
 returns c =
     let at₂ = c.before.before in
     let at₁ = at₂.before.before.before.before in
-    let p = at₁.put-line.ensures in
-    let q = at₂.put-line2.ensures in
+    let p = at₁.put_line-a.ensures in
+    let q = at₂.put_line.ensures in
     (put_then p.0 q.0, omega (arith, p.1, q.1))
 
 pub put_legend_spec : {M : Type 1} → statement M
