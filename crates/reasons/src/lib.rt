@@ -7,7 +7,7 @@ use arguments::{
 use words::{Integer, Natural, Single};
 
 // What an argument has to be: a number that an i32 holds, a number up to a limit, an f32 as eight hexadecimal digits, or the bytes of a file.
-#[derive(Drop)]
+#[derive(Clone, Copy)]
 pub enum Kind {
     Whole,
     UpTo(u32),
