@@ -1,6 +1,5 @@
 -- The way of one coordinate from a to b: plainly beyond lo or hi, plainly between them, and by the two conditions of its axis.
 use mathlib.Core.List.{[], ◌∷◌}
-use Prim.Native.Nat.{◌≤◌}
 use lib.IntN.{ℤ, pos, neg_ℤ, ◌-ℤ◌, ◌*ℤ◌}
 use lib.Signed.{◌≤ℤ◌, ◌<ℤ◌}
 use Rattle.whole.proofs.Certificates.{ge, clash, po, nn, le, ◌⊞◌, ◌⊠◌}

@@ -8,7 +8,6 @@ use native.Mathlib.Nat.{mul-le-mul, mul_comm, le_refl}
 use native.Mathlib.Omega.{arith}
 use lib.IntN.{ℤ, pos, negsuc, neg_ℤ, ◌-ℤ◌, ◌*ℤ◌}
 use lib.Signed.{◌≤ℤ◌, ◌<ℤ◌, lt_z}
-use Rattle.whole.specs.Choice.{if◌then◌else◌}
 use Rattle.whole.proofs.Certificates.{gt, clash, eqn, eq_by, po, lt, ◌⊞◌}
 use Rattle.whole.proofs.Comparisons.{by-test, lt_yes, lt_no}
 use Rattle.whole.proofs.Expressions.{var, con, ◌⊕◌, ◌⊖◌, ◌⊗◌, neg, x0, x1, x2, x3}

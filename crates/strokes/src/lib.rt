@@ -17,7 +17,7 @@ pub mod ways;
 // What a stroke call answers: a refusal's number and place, or whether the stroke is kept, from which fraction of its way to which,
 // the two points there, rounded to the grid, and the sides that fixed the two fractions, by their numbers, or `NO_SIDE`.
 #[repr(C)]
-#[derive(Drop)]
+#[derive(Clone, Copy)]
 pub struct StrokeAnswer {
     pub number: u8,
     pub place: usize,
@@ -33,7 +33,7 @@ pub struct StrokeAnswer {
 }
 
 // An end of what is kept: the fraction of the stroke's way, not in lowest terms, the point there, rounded to the grid, and the side that fixed it.
-#[derive(Drop)]
+#[derive(Clone, Copy)]
 pub struct End {
     pub t: Fraction,
     pub x: i32,

@@ -35,7 +35,7 @@ fn beyond(lo: i32, hi: i32, a: i32, b: i32) -> bool
 }
 
 // How a way of one coordinate, or a stroke, lies by its two ends alone: plainly inside, plainly outside, or neither.
-#[derive(Drop)]
+#[derive(Clone, Copy)]
 pub enum Plainly {
     Inside,
     Outside,

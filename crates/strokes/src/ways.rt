@@ -6,7 +6,7 @@ ghost use Rattle.strokes.specs.Workers.{MayReach, Ranged, Risen, Fallen, ProperW
 
 // The way of one coordinate: how long it is, from where to where it is between two sides, and the coordinates there.
 // A way that is all between them is 1 long, so that one of no length is no exception.
-#[derive(Drop)]
+#[derive(Clone, Copy)]
 pub struct Way {
     pub long: u32,
     pub start: u32,

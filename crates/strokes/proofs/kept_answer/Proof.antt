@@ -5,10 +5,10 @@ use Rattle.whole.proofs.Ranges.{within_up}
 use Rattle.strokes.proofs.kept_answer.Statement.{statement}
 use Rattle.strokes.proofs.kept_answer.Tie as tie
 
-lowest-part-requires : tie.Need-lowest-part-requires
+lowest-part-requires : tie.Need-lowest_part-t0-requires
 lowest-part-requires c κs = let k = c.before.before.requires.0 in (k.time, within_up (omega arith) k.small)
 
-lowest-part-requires-2 : tie.Need-lowest-part-requires-2
+lowest-part-requires-2 : tie.Need-lowest_part-t1-requires
 lowest-part-requires-2 c κs = let k = c.before.before.before.requires.1 in (k.time, within_up (omega arith) k.small)
 
 returns : tie.Need-returns

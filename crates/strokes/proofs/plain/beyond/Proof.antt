@@ -10,10 +10,10 @@ use Rattle.strokes.proofs.Coordinates.{not_below, not_above}
 use Rattle.strokes.proofs.plain.beyond.Statement.{statement}
 use Rattle.strokes.proofs.plain.beyond.Tie as tie
 
-returns : tie.Need-returns
+returns : tie.Need-returns-then-b-lo
 returns c =
     let f = c.before.ranges in
-    let l : c.before.args.b <ℤ c.before.args.lo = lt_yes (to_z-of_z f.b) (to_z-of_z f.lo) c.if1.true in (
+    let l : c.before.args.b <ℤ c.before.args.lo = lt_yes (to_z-of_z f.b) (to_z-of_z f.lo) c.if-b-lo.true in (
       λ e n d t k. not_below (lt_yes (to_z-of_z f.a) (to_z-of_z f.lo) e) l t k,
       λ e. let h = lt_no (to_z-of_z f.a) (to_z-of_z f.lo) e in record { up = λ g. absurd (omega zarith); down = λ g i j. absurd (omega zarith) },
     )
@@ -21,14 +21,14 @@ returns c =
 lesser-requires : tie.Need-lesser-requires
 lesser-requires c κs = tt
 
-returns-2 : tie.Need-returns-2
+returns-2 : tie.Need-returns
 returns-2 c =
     let f = c.before.before.ranges in
     let g = c.before.before.args in
-    let l : g.lo ≤ℤ g.b = lt_no (to_z-of_z f.b) (to_z-of_z f.lo) c.before.if1.false in
+    let l : g.lo ≤ℤ g.b = lt_no (to_z-of_z f.b) (to_z-of_z f.lo) c.before.if-b-lo.false in
     let a = to_z-of_z f.a in
     let b = to_z-of_z f.b in
-    let is = back w32 c.lesser.result c.lesser.type-inv in (
+    let is = back w32 c.lesser.result c.lesser.type_inv in (
       λ e n d t k.
           let h : g.hi <ℤ c.lesser.result = lt_yes (to_z-of_z f.hi) is e in
           let m = lesser_below c.lesser.ensures in

@@ -9,27 +9,27 @@ use Rattle.strokes.proofs.plain.inside.Tie as tie
 between-requires : tie.Need-between-requires
 between-requires c κs = search rules
 
-between-requires-2 : tie.Need-between-requires-2
+between-requires-2 : tie.Need-between-requires-then-between
 between-requires-2 c κs = search rules
 
-returns : tie.Need-returns
+returns : tie.Need-returns-then-between
 returns c =
-    let gw = c.before.before.before.before.before.before.before.before.before.before.struct_told.given in
-    let gs = c.before.before.before.before.before.before.before.before.struct-told3.given in (
+    let gw = c.before.before.before.before.before.before.before.before.before.before.struct_told-1.given in
+    let gs = c.before.before.before.before.before.before.before.before.struct_told-3-1.given in (
       λ e. record {
         x = four_plain EndsBetween gw.0.1 gw.1.1.0.1 gs.0.1 gs.1.1.0.1
-            (c.before.before.before.before.before.before.between.ensures.0 c.before.before.before.before.before.if1.true);
-        y = four_plain EndsBetween gw.1.0.1 gw.1.1.1.0.1 gs.1.0.1 gs.1.1.1.0.1 (c.between2.ensures.0 e);
+            (c.before.before.before.before.before.before.between.ensures.0 c.before.before.before.before.before.if-between.true);
+        y = four_plain EndsBetween gw.1.0.1 gw.1.1.1.0.1 gs.1.0.1 gs.1.1.1.0.1 (c.between-then-between.ensures.0 e);
       },
-      λ e k. four_plain (λ lo hi a b. EndsBetween lo hi a b → ⊥) gw.1.0.1 gw.1.1.1.0.1 gs.1.0.1 gs.1.1.1.0.1 (c.between2.ensures.1 e) k.y,
+      λ e k. four_plain (λ lo hi a b. EndsBetween lo hi a b → ⊥) gw.1.0.1 gw.1.1.1.0.1 gs.1.0.1 gs.1.1.1.0.1 (c.between-then-between.ensures.1 e) k.y,
     )
 
-returns-2 : tie.Need-returns-2
+returns-2 : tie.Need-returns
 returns-2 c =
-    let gw = c.before.before.before.before.before.struct_told.given in
-    let gs = c.before.before.before.struct-told3.given in (
+    let gw = c.before.before.before.before.before.struct_told-1.given in
+    let gs = c.before.before.before.struct_told-3-1.given in (
       λ e. absurd (ff_tt e),
-      λ e k. four_plain (λ lo hi a b. EndsBetween lo hi a b → ⊥) gw.0.1 gw.1.1.0.1 gs.0.1 gs.1.1.0.1 (c.before.between.ensures.1 c.if1.false) k.x,
+      λ e k. four_plain (λ lo hi a b. EndsBetween lo hi a b → ⊥) gw.0.1 gw.1.1.0.1 gs.0.1 gs.1.1.0.1 (c.before.between.ensures.1 c.if-between.false) k.x,
     )
 
 pub inside_spec : {M : Type 1} → statement M

@@ -18,64 +18,64 @@ by_y w s Outside e h = λ n d k. h n d k.time k.y
 by_y w s Neither e h = record { x = record { up = λ _. e.b_low; down = λ _ _ _. e.b_high }; y = h }
 
 -- where the stroke is by its x, and by its y, of the numbers in the window and the stroke
-module _ (c : tie.After-lies-along) where
+module _ (c : tie.After-lies_along) where
   abbrev w : Window
   w = c.before.before.before.before.before.args.w
 
   abbrev s : Stroke
   s = c.before.before.before.before.before.args.s
 
-  x_at : {p : Plainly} → c.lies_Along.result ≡ p → LiesAlong w.left w.right s.x1 s.x2 p
+  x_at : {p : Plainly} → c.lies_along.result ≡ p → LiesAlong w.left w.right s.x1 s.x2 p
   x_at {p} e =
-      let gw = c.before.before.before.before.struct_told.given in
-      let gs = c.before.before.struct-told3.given in
+      let gw = c.before.before.before.before.struct_told-1.given in
+      let gs = c.before.before.struct_told-3-1.given in
       four_plain (λ lo hi a b. LiesAlong lo hi a b p) gw.0.1 gw.1.1.0.1 gs.0.1 gs.1.1.0.1
-      (subst (LiesAlong _ _ _ _) e c.lies_Along.ensures)
+      (subst (LiesAlong _ _ _ _) e c.lies_along.ensures)
 
   y_at : (p : Plainly) → LiesAlong (read w.bottom) (read w.top) (read s.y1) (read s.y2) p
       → LiesAlong w.bottom w.top s.y1 s.y2 p
   y_at p h =
-      let gw = c.before.before.before.before.struct_told.given in
-      let gs = c.before.before.struct-told3.given in
+      let gw = c.before.before.before.before.struct_told-1.given in
+      let gs = c.before.before.struct_told-3-1.given in
       four_plain (λ lo hi a b. LiesAlong lo hi a b p) gw.1.0.1 gw.1.1.1.0.1 gs.1.0.1 gs.1.1.1.0.1 h
 
-lies-along-requires : tie.Need-lies-along-requires
+lies-along-requires : tie.Need-lies_along-requires
 lies-along-requires c κs = search rules
 
-enum_told : tie.Need-enum-told
+enum_told : tie.Need-enum_told-1
 enum_told c = search rules
 
-lies-along-requires-2 : tie.Need-lies-along-requires-2
+lies-along-requires-2 : tie.Need-lies_along-requires-in-Inside
 lies-along-requires-2 c κs = search rules
 
-enum-told-2 : tie.Need-enum-told-2
+enum-told-2 : tie.Need-enum_told-in-Outside
 enum-told-2 c = search rules
 
-enum-told-3 : tie.Need-enum-told-3
+enum-told-3 : tie.Need-enum_told-in-Neither
 enum-told-3 c = search rules
 
 beyond-requires : tie.Need-beyond-requires
 beyond-requires c κs = search rules
 
-returns : tie.Need-returns
+returns : tie.Need-returns-then-beyond
 returns c n d k =
-    let a = c.before.before.before.before.before.before.before.before in
-    y_at a Outside (c.before.beyond.ensures.0 c.if1.true) n d k.time k.y
-
-returns-2 : tie.Need-returns-2
-returns-2 c =
     let a = c.before.before.before.before.before.before.before in
-    let r = c.lies-along2.result in
-    by_y _ _ r (x_at a c.before.before.before.before.before.enum_told.given.1) (y_at a r c.lies-along2.ensures)
+    y_at a Outside (c.before.beyond.ensures.0 c.if-beyond.true) n d k.time k.y
 
-returns-3 : tie.Need-returns-3
-returns-3 c n d k = x_at c.before.before c.enum-told2.given.1 n d k.time k.x
+returns-2 : tie.Need-returns-in-Inside
+returns-2 c =
+    let a = c.before.before.before.before.before.before in
+    let r = c.lies_along-in-Inside.result in
+    by_y _ _ r (x_at a c.before.before.before.before.before.in-Inside.is) (y_at a r c.lies_along-in-Inside.ensures)
 
-returns-4 : tie.Need-returns-4
+returns-3 : tie.Need-returns-in-Outside
+returns-3 c n d k = x_at c.before c.in-Outside.is n d k.time k.x
+
+returns-4 : tie.Need-returns-else-beyond
 returns-4 c =
-    let a = c.before.before.before.before.before.before.before.before in record {
-      x = x_at a c.before.before.before.before.before.before.enum-told3.given.1;
-      y = y_at a Neither (c.before.beyond.ensures.1 c.if1.false);
+    let a = c.before.before.before.before.before.before.before in record {
+      x = x_at a c.before.before.before.before.before.before.in-Neither.is;
+      y = y_at a Neither (c.before.beyond.ensures.1 c.if-beyond.false);
     }
 
 pub lies_spec : {M : Type 1} → statement M

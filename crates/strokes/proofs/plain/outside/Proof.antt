@@ -15,27 +15,27 @@ Beyond lo hi a b = LiesAlong lo hi a b Outside
 beyond-requires : tie.Need-beyond-requires
 beyond-requires c κs = search rules
 
-returns : tie.Need-returns
+returns : tie.Need-returns-then-beyond
 returns c =
-    let gw = c.before.before.before.before.before.struct_told.given in
-    let gs = c.before.before.before.struct-told3.given in (
+    let gw = c.before.before.before.before.before.struct_told-1.given in
+    let gs = c.before.before.before.struct_told-3-1.given in (
       λ e n d k. four_plain Beyond gw.1.0.1 gw.1.1.1.0.1 gs.1.0.1 gs.1.1.1.0.1
-          (c.before.beyond.ensures.0 c.if1.true) n d k.time k.y,
+          (c.before.beyond.ensures.0 c.if-beyond.true) n d k.time k.y,
       λ e. absurd (tt_ff e),
     )
 
 beyond-requires-2 : tie.Need-beyond-requires-2
 beyond-requires-2 c κs = search rules
 
-returns-2 : tie.Need-returns-2
+returns-2 : tie.Need-returns
 returns-2 c =
-    let gw = c.before.before.before.before.before.before.before.before.before.before.struct_told.given in
-    let gs = c.before.before.before.before.before.before.before.before.struct-told3.given in (
-      λ e n d k. four_plain Beyond gw.0.1 gw.1.1.0.1 gs.0.1 gs.1.1.0.1 (c.beyond2.ensures.0 e) n d k.time k.x,
+    let gw = c.before.before.before.before.before.before.before.before.before.before.struct_told-1.given in
+    let gs = c.before.before.before.before.before.before.before.before.struct_told-3-1.given in (
+      λ e n d k. four_plain Beyond gw.0.1 gw.1.1.0.1 gs.0.1 gs.1.1.0.1 (c.beyond-2.ensures.0 e) n d k.time k.x,
       λ e. record {
-        x = four_plain MayReach gw.0.1 gw.1.1.0.1 gs.0.1 gs.1.1.0.1 (c.beyond2.ensures.1 e);
+        x = four_plain MayReach gw.0.1 gw.1.1.0.1 gs.0.1 gs.1.1.0.1 (c.beyond-2.ensures.1 e);
         y = four_plain MayReach gw.1.0.1 gw.1.1.1.0.1 gs.1.0.1 gs.1.1.1.0.1
-            (c.before.before.before.before.before.before.beyond.ensures.1 c.before.before.before.before.before.if1.false);
+            (c.before.before.before.before.before.before.beyond.ensures.1 c.before.before.before.before.before.if-beyond.false);
       },
     )
 

@@ -19,8 +19,8 @@ gap-requires-3 c κs = let f = c.before.before.ranges in let p = c.before.before
 returns : tie.Need-returns
 returns c = let f = c.before.before.before.ranges in record {
   long = gap_is f.b f.a c.before.before.gap.ensures;
-  start = gap_is f.at f.a c.before.gap2.ensures;
-  end = gap_is f.to f.a c.gap3.ensures;
+  start = gap_is f.at f.a c.before.gap-2.ensures;
+  end = gap_is f.to f.a c.gap-3.ensures;
   at = to_z-of_z f.at;
   to = to_z-of_z f.to;
 }

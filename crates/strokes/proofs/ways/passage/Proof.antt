@@ -13,13 +13,13 @@ use Rattle.strokes.proofs.ways.passage.Statement.{statement}
 use Rattle.strokes.proofs.ways.passage.Tie as tie
 
 -- up through both sides
-up_across_ranged : (c : tie.Then2) → let g = c.before.before.args in Ranged g.a g.lo g.hi g.b
+up_across_ranged : (c : tie.Then-hi-b) → let g = c.before.before.args in Ranged g.a g.lo g.hi g.b
 up_across_ranged c =
     let g = c.before.before.args in
     let f = c.before.before.ranges in
     let p = c.before.before.requires in
-    let t0 : g.a <ℤ g.lo = lt_taken w32 f.a f.lo c.before.if1.true in
-    let t1 : g.hi <ℤ g.b = lt_taken w32 f.hi f.b c.if2.true in
+    let t0 : g.a <ℤ g.lo = lt_taken w32 f.a f.lo c.before.if-a-lo.true in
+    let t1 : g.hi <ℤ g.b = lt_taken w32 f.hi f.b c.if-hi-b.true in
     let area = p.1.1.1.1.0 in
     let reach = p.1.1.1.1.1.up t0 in
     record { a_on = p.1.1.0; b_on = p.0; c_on = p.1.0; d_on = p.1.1.1.0; first = omega zarith; middle = omega zarith; last = omega zarith; some = omega zarith }
@@ -27,17 +27,17 @@ up_across_ranged c =
 rising-requires : tie.Need-rising-requires
 rising-requires c κs = ranged_read (up_across_ranged c)
 
-returns : tie.Need-returns
+returns : tie.Need-returns-then-hi-b
 returns c = let g = up_across_ranged c.before in up_across g (risen_plain g c.rising.ensures)
 
 -- up, and in
-up_into_ranged : (c : tie.Else2) → let g = c.before.before.args in Ranged g.a g.lo g.b g.b
+up_into_ranged : (c : tie.Else-hi-b) → let g = c.before.before.args in Ranged g.a g.lo g.b g.b
 up_into_ranged c =
     let g = c.before.before.args in
     let f = c.before.before.ranges in
     let p = c.before.before.requires in
-    let t0 : g.a <ℤ g.lo = lt_taken w32 f.a f.lo c.before.if1.true in
-    let t1 : g.b ≤ℤ g.hi = lt_left w32 f.hi f.b c.if2.false in
+    let t0 : g.a <ℤ g.lo = lt_taken w32 f.a f.lo c.before.if-a-lo.true in
+    let t1 : g.b ≤ℤ g.hi = lt_left w32 f.hi f.b c.if-hi-b.false in
     let area = p.1.1.1.1.0 in
     let reach = p.1.1.1.1.1.up t0 in
     record {
@@ -51,40 +51,40 @@ up_into_ranged c =
       some = omega zarith;
     }
 
-rising-requires-2 : tie.Need-rising-requires-2
+rising-requires-2 : tie.Need-rising-requires-then-a-lo
 rising-requires-2 c κs = ranged_read (up_into_ranged c)
 
-returns-2 : tie.Need-returns-2
+returns-2 : tie.Need-returns-then-a-lo
 returns-2 c = let g = up_into_ranged c.before in let f = c.before.before.before.ranges in
-    up_into g (lt_left w32 f.hi f.b c.before.if2.false) (risen_plain g c.rising2.ensures)
+    up_into g (lt_left w32 f.hi f.b c.before.if-hi-b.false) (risen_plain g c.rising-then-a-lo.ensures)
 
 -- down through both sides
-down_across_ranged : (c : tie.Then4) → let g = c.before.before.before.args in Ranged g.b g.lo g.hi g.a
+down_across_ranged : (c : tie.Then-b-lo) → let g = c.before.before.before.args in Ranged g.b g.lo g.hi g.a
 down_across_ranged c =
     let g = c.before.before.before.args in
     let f = c.before.before.before.ranges in
     let p = c.before.before.before.requires in
-    let t0 : g.lo ≤ℤ g.a = lt_left w32 f.a f.lo c.before.before.if1.false in
-    let t1 : g.hi <ℤ g.a = lt_taken w32 f.hi f.a c.before.if3.true in
-    let t2 : g.b <ℤ g.lo = lt_taken w32 f.b f.lo c.if4.true in
+    let t0 : g.lo ≤ℤ g.a = lt_left w32 f.a f.lo c.before.before.if-a-lo.false in
+    let t1 : g.hi <ℤ g.a = lt_taken w32 f.hi f.a c.before.if-hi-a.true in
+    let t2 : g.b <ℤ g.lo = lt_taken w32 f.b f.lo c.if-b-lo.true in
     let area = p.1.1.1.1.0 in
     record { a_on = p.1.1.1.0; b_on = p.0; c_on = p.1.0; d_on = p.1.1.0; first = omega zarith; middle = omega zarith; last = omega zarith; some = omega zarith }
 
 falling-requires : tie.Need-falling-requires
 falling-requires c κs = ranged_read (down_across_ranged c)
 
-returns-3 : tie.Need-returns-3
+returns-3 : tie.Need-returns-then-b-lo
 returns-3 c = let g = down_across_ranged c.before in down_across g (fallen_plain g c.falling.ensures)
 
 -- down, and in
-down_into_ranged : (c : tie.Else4) → let g = c.before.before.before.args in Ranged g.b g.b g.hi g.a
+down_into_ranged : (c : tie.Else-b-lo) → let g = c.before.before.before.args in Ranged g.b g.b g.hi g.a
 down_into_ranged c =
     let g = c.before.before.before.args in
     let f = c.before.before.before.ranges in
     let p = c.before.before.before.requires in
-    let t0 : g.lo ≤ℤ g.a = lt_left w32 f.a f.lo c.before.before.if1.false in
-    let t1 : g.hi <ℤ g.a = lt_taken w32 f.hi f.a c.before.if3.true in
-    let t2 : g.lo ≤ℤ g.b = lt_left w32 f.b f.lo c.if4.false in
+    let t0 : g.lo ≤ℤ g.a = lt_left w32 f.a f.lo c.before.before.if-a-lo.false in
+    let t1 : g.hi <ℤ g.a = lt_taken w32 f.hi f.a c.before.if-hi-a.true in
+    let t2 : g.lo ≤ℤ g.b = lt_left w32 f.b f.lo c.if-b-lo.false in
     let area = p.1.1.1.1.0 in
     let reach = p.1.1.1.1.1.down t0 t2 t1 in
     record {
@@ -98,22 +98,22 @@ down_into_ranged c =
       some = omega zarith;
     }
 
-falling-requires-2 : tie.Need-falling-requires-2
+falling-requires-2 : tie.Need-falling-requires-then-hi-a
 falling-requires-2 c κs = ranged_read (down_into_ranged c)
 
-returns-4 : tie.Need-returns-4
+returns-4 : tie.Need-returns-then-hi-a
 returns-4 c = let g = down_into_ranged c.before in let f = c.before.before.before.before.ranges in
-    down_into g (lt_left w32 f.b f.lo c.before.if4.false) (fallen_plain g c.falling2.ensures)
+    down_into g (lt_left w32 f.b f.lo c.before.if-b-lo.false) (fallen_plain g c.falling-then-hi-a.ensures)
 
 -- down, and out
-down_out_ranged : (c : tie.Then5) → let g = c.before.before.before.args in Ranged g.b g.lo g.a g.a
+down_out_ranged : (c : tie.Then-b-lo-2) → let g = c.before.before.before.args in Ranged g.b g.lo g.a g.a
 down_out_ranged c =
     let g = c.before.before.before.args in
     let f = c.before.before.before.ranges in
     let p = c.before.before.before.requires in
-    let t0 : g.lo ≤ℤ g.a = lt_left w32 f.a f.lo c.before.before.if1.false in
-    let t1 : g.a ≤ℤ g.hi = lt_left w32 f.hi f.a c.before.if3.false in
-    let t2 : g.b <ℤ g.lo = lt_taken w32 f.b f.lo c.if5.true in
+    let t0 : g.lo ≤ℤ g.a = lt_left w32 f.a f.lo c.before.before.if-a-lo.false in
+    let t1 : g.a ≤ℤ g.hi = lt_left w32 f.hi f.a c.before.if-hi-a.false in
+    let t2 : g.b <ℤ g.lo = lt_taken w32 f.b f.lo c.if-b-lo-2.true in
     let area = p.1.1.1.1.0 in
     record {
       a_on = p.1.1.1.0;
@@ -126,23 +126,23 @@ down_out_ranged c =
       some = omega zarith;
     }
 
-falling-requires-3 : tie.Need-falling-requires-3
+falling-requires-3 : tie.Need-falling-requires-then-b-lo-2
 falling-requires-3 c κs = ranged_read (down_out_ranged c)
 
-returns-5 : tie.Need-returns-5
+returns-5 : tie.Need-returns-then-b-lo-2
 returns-5 c = let g = down_out_ranged c.before in let f = c.before.before.before.before.ranges in
-    down_out g (lt_left w32 f.hi f.a c.before.before.if3.false) (fallen_plain g c.falling3.ensures)
+    down_out g (lt_left w32 f.hi f.a c.before.before.if-hi-a.false) (fallen_plain g c.falling-then-b-lo-2.ensures)
 
 -- up, and out
-up_out_ranged : (c : tie.Then6) → let g = c.before.before.before.before.args in Ranged g.a g.a g.hi g.b
+up_out_ranged : (c : tie.Then-hi-b-2) → let g = c.before.before.before.before.args in Ranged g.a g.a g.hi g.b
 up_out_ranged c =
     let g = c.before.before.before.before.args in
     let f = c.before.before.before.before.ranges in
     let p = c.before.before.before.before.requires in
-    let t0 : g.lo ≤ℤ g.a = lt_left w32 f.a f.lo c.before.before.before.if1.false in
-    let t1 : g.a ≤ℤ g.hi = lt_left w32 f.hi f.a c.before.before.if3.false in
-    let t2 : g.lo ≤ℤ g.b = lt_left w32 f.b f.lo c.before.if5.false in
-    let t3 : g.hi <ℤ g.b = lt_taken w32 f.hi f.b c.if6.true in
+    let t0 : g.lo ≤ℤ g.a = lt_left w32 f.a f.lo c.before.before.before.if-a-lo.false in
+    let t1 : g.a ≤ℤ g.hi = lt_left w32 f.hi f.a c.before.before.if-hi-a.false in
+    let t2 : g.lo ≤ℤ g.b = lt_left w32 f.b f.lo c.before.if-b-lo-2.false in
+    let t3 : g.hi <ℤ g.b = lt_taken w32 f.hi f.b c.if-hi-b-2.true in
     let area = p.1.1.1.1.0 in
     record {
       a_on = p.1.1.0;
@@ -155,24 +155,24 @@ up_out_ranged c =
       some = omega zarith;
     }
 
-rising-requires-3 : tie.Need-rising-requires-3
+rising-requires-3 : tie.Need-rising-requires-then-hi-b-2
 rising-requires-3 c κs = ranged_read (up_out_ranged c)
 
-returns-6 : tie.Need-returns-6
+returns-6 : tie.Need-returns-then-hi-b-2
 returns-6 c = let g = up_out_ranged c.before in let f = c.before.before.before.before.before.ranges in
-    up_out g (lt_left w32 f.a f.lo c.before.before.before.before.if1.false) (risen_plain g c.rising3.ensures)
+    up_out g (lt_left w32 f.a f.lo c.before.before.before.before.if-a-lo.false) (risen_plain g c.rising-then-hi-b-2.ensures)
 
 -- all of it between the sides
-returns-7 : tie.Need-returns-7
+returns-7 : tie.Need-returns
 returns-7 c =
     let g = c.before.before.before.before.args in
     let f = c.before.before.before.before.ranges in
     subst₂ (λ (x y : ℤ). WayOf g.lo g.hi g.a g.b (record { long = 1; start = 0; end = 1; at = x; to = y })) (sym (to_z-of_z f.a)) (sym (to_z-of_z f.b))
     (all_on_lem (record {
-      a_low = lt_left w32 f.a f.lo c.before.before.before.if1.false;
-      a_high = lt_left w32 f.hi f.a c.before.before.if3.false;
-      b_low = lt_left w32 f.b f.lo c.before.if5.false;
-      b_high = lt_left w32 f.hi f.b c.if6.false;
+      a_low = lt_left w32 f.a f.lo c.before.before.before.if-a-lo.false;
+      a_high = lt_left w32 f.hi f.a c.before.before.if-hi-a.false;
+      b_low = lt_left w32 f.b f.lo c.before.if-b-lo-2.false;
+      b_high = lt_left w32 f.hi f.b c.if-hi-b-2.false;
     }))
 
 pub passage_spec : {M : Type 1} → statement M

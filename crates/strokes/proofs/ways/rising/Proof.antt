@@ -19,8 +19,8 @@ gap-requires-3 c κs = let f = c.before.before.ranges in let p = c.before.before
 returns : tie.Need-returns
 returns c = let f = c.before.before.before.ranges in record {
   long = gap_is f.a f.b c.before.before.gap.ensures;
-  start = gap_is f.a f.at c.before.gap2.ensures;
-  end = gap_is f.a f.to c.gap3.ensures;
+  start = gap_is f.a f.at c.before.gap-2.ensures;
+  end = gap_is f.a f.to c.gap-3.ensures;
   at = to_z-of_z f.at;
   to = to_z-of_z f.to;
 }
