@@ -70,24 +70,24 @@ module _ (s : tie.Start) where
   first_out = s.requires.1.1.1.2.ends before_end
 
 -- ---- the run outside, up to b
-module _ (c : tie.After-end-of-run) where
+module _ (c : tie.After-end_of_run-b) where
   abbrev start : tie.Start
   start = c.before
 
   abbrev b : ℕ
-  b = c.end-of-run.result
+  b = c.end_of_run-b.result
 
   after_a : start.args.a < b
-  after_a = omega (arith, c.end-of-run.ensures.above)
+  after_a = omega (arith, c.end_of_run-b.ensures.above)
 
   to_end : b ≤ n start
-  to_end = c.end-of-run.ensures.below
+  to_end = c.end_of_run-b.ensures.below
 
   all_out : (i : ℕ) → start.args.a ≤ i → i < b → Out (h start) (point_in (g start) i)
-  all_out = run_with true (first_out start) c.end-of-run.ensures
+  all_out = run_with true (first_out start) c.end_of_run-b.ensures
 
   back_in : b < n start → In (h start) (point_in (g start) b)
-  back_in = c.end-of-run.ensures.ends
+  back_in = c.end_of_run-b.ensures.ends
 
   -- the corner after it
   abbrev next : ℕ
@@ -99,22 +99,22 @@ module _ (c : tie.After-end-of-run) where
       (λ e. (omega (arith, some start, before_end start), first_in start 0 (omega arith) (some start)))
       (λ e. let l : b < n start = ⊎_elim (λ q. absurd (eqb-false b (n start) e q)) (λ l. l) (eq-or-lt_of_le to_end) in (l, back_in l))
 
-add-end-of-run : tie.Need-overflow-add-end-of-run
+add-end-of-run : tie.Need-overflow_add-a
 add-end-of-run c = search rules
 
-end-of-run-requires : tie.Need-end-of-run-requires
+end-of-run-requires : tie.Need-end_of_run-b-requires
 end-of-run-requires c κs = (c.requires.1.0.1, (omega (arith, before_end c), omega arith))
 
-sub-lies-on : tie.Need-overflow-sub-lies-on
+sub-lies-on : tie.Need-overflow_sub-a
 sub-lies-on c = omega (arith, some c.before)
 
-lies-on-requires : tie.Need-lies-on-requires
+lies-on-requires : tie.Need-lies_on-here-requires
 lies-on-requires c κs = let s = c.before in (s.requires.1.0.1, omega (arith, some s, before_end s))
 
 after-requires : tie.Need-after-requires
 after-requires c κs = search rules
 
-lies-on-requires-2 : tie.Need-lies-on-requires-2
+lies-on-requires-2 : tie.Need-lies_on-there-requires
 lies-on-requires-2 c κs =
     let e = c.before.before in
     let s = start e in
@@ -125,29 +125,29 @@ load-requires c κs = let s = start c.before.before.before.before in (few s, ((o
 
 -- ---- the memories
 module _ (c : tie.After-load) where
-  abbrev there : tie.After-lies-on2
+  abbrev there : tie.After-lies_on-there
   there = c.before.before
 
-  abbrev here : tie.After-lies-on
+  abbrev here : tie.After-lies_on-here
   here = there.before.before
 
-  abbrev found : tie.After-end-of-run
+  abbrev found : tie.After-end_of_run-b
   found = here.before
 
   abbrev s₁ : tie.Start
   s₁ = start found
 
   abbrev m₁ : List ℤ
-  m₁ = c.load.new.1.1.1.0
+  m₁ = c.load.new.m
 
   size₁ : length m₁ ≡ length s₁.args.m.now
-  size₁ = c.load.auto.1.1.1.0
+  size₁ = c.load.auto.m
 
-  on_there : Decides there.lies-on2.result (On (h s₁) (point_in (g s₁) (next found)))
-  on_there = subst (λ (i : ℕ). Decides there.lies-on2.result (On (h s₁) (point_in (g s₁) i))) there.before.after.ensures there.lies-on2.ensures
+  on_there : Decides there.lies_on-there.result (On (h s₁) (point_in (g s₁) (next found)))
+  on_there = subst (λ (i : ℕ). Decides there.lies_on-there.result (On (h s₁) (point_in (g s₁) i))) there.before.after.ensures there.lies_on-there.ensures
 
-  on_here : Decides here.lies-on.result (On (h s₁) (point_in (g s₁) (s₁.args.a - 1)))
-  on_here = here.lies-on.ensures
+  on_here : Decides here.lies_on-here.result (On (h s₁) (point_in (g s₁) (s₁.args.a - 1)))
+  on_here = here.lies_on-here.ensures
 
   -- the last corner inside
   last_in : corner_in m₁ (s₁.args.a - 1) ≡ corner_in (g s₁) (s₁.args.a - 1)
@@ -161,16 +161,16 @@ module _ (c : tie.After-load) where
   leave_fits : 4 * (s₁.args.a - 1) + 8 ≤ length m₁
   leave_fits = omega (arith, size₁, fits s₁, some s₁, before_end s₁)
 
-sub-leave : tie.Need-overflow-sub-leave
+sub-leave : tie.Need-overflow_sub-a-2
 sub-leave c = omega (arith, some (s₁ c.before.before))
 
-sub-leave-2 : tie.Need-overflow-sub-leave-2
+sub-leave-2 : tie.Need-overflow_sub-a-3
 sub-leave-2 c = omega (arith, some (s₁ c.before.before))
 
-leave-requires : tie.Need-leave-requires
+leave-requires : tie.Need-leave-first-requires
 leave-requires c κs = let l = c.before.before in let s = s₁ l in (s.requires.0, (s.requires.1.0, (leave_fits l, below l)))
 
-module _ (c : tie.After-leave) where
+module _ (c : tie.After-leave-first) where
   abbrev loaded : tie.After-load
   loaded = c.before.before.before
 
@@ -178,40 +178,40 @@ module _ (c : tie.After-leave) where
   s₂ = s₁ loaded
 
   abbrev m₂ : List ℤ
-  m₂ = c.leave.new.1.1.1.0
+  m₂ = c.leave-first.new.m
 
   size₂ : length m₂ ≡ length s₂.args.m.now
-  size₂ = c.leave.auto.1.1.1.0 ∙ size₁ loaded
+  size₂ = c.leave-first.auto.m ∙ size₁ loaded
 
-  went : (w : Window) → h s₂ ≡ side_line w (k s₂) → Gone w (zs s₂) (k s₂) (m₁ loaded) (s₂.args.a - 1) m₂ c.leave.result
+  went : (w : Window) → h s₂ ≡ side_line w (k s₂) → Gone w (zs s₂) (k s₂) (m₁ loaded) (s₂.args.a - 1) m₂ c.leave-first.result
   went w q =
       let p = ap (λ (q : Tagged). q.point) (last_in loaded) in
       let tag = ap (λ (q : Tagged). q.tag) (last_in loaded) ∙ (loaded_of_lem (zs s₂)).tag (s₂.args.a - 1) (below loaded) in
-      gone_own (s₂.args.a - 1) q (below loaded) tag (leave_fits loaded) (subst (λ (q : Point). Decides (here loaded).lies-on.result (On (h s₂) q)) (sym p)
+      gone_own (s₂.args.a - 1) q (below loaded) tag (leave_fits loaded) (subst (λ (q : Point). Decides (here loaded).lies_on-here.result (On (h s₂) q)) (sym p)
       (on_here loaded))
-      (subst (In (h s₂)) (sym p) (first_in s₂ (s₂.args.a - 1) (omega arith) (omega (arith, some s₂)))) c.leave.ensures
+      (subst (In (h s₂)) (sym p) (first_in s₂ (s₂.args.a - 1) (omega arith) (omega (arith, some s₂)))) c.leave-first.ensures
 
-  first_low : c.leave.result ≤ s₂.args.a + 1
-  first_low = omega (arith, (went_few c.leave.ensures).1, some s₂)
+  first_low : c.leave-first.result ≤ s₂.args.a + 1
+  first_low = omega (arith, (went_few c.leave-first.ensures).1, some s₂)
 
-  enter_fits : 4 * c.leave.result + 4 ≤ length m₂
+  enter_fits : 4 * c.leave-first.result + 4 ≤ length m₂
   enter_fits = omega (arith, first_low, size₂, fits s₂, before_end s₂)
 
   last_out : b (found loaded) - 1 < n s₂
   last_out = omega (arith, after_a (found loaded), to_end (found loaded))
 
-sub-enter : tie.Need-overflow-sub-enter
+sub-enter : tie.Need-overflow_sub-b
 sub-enter c = omega (arith, after_a (found (loaded c.before)))
 
-enter-requires : tie.Need-enter-requires
+enter-requires : tie.Need-enter-second-requires
 enter-requires c κs =
     let l = c.before.before in
     let s = s₂ l in
     let f = found (loaded l) in
     (s.requires.0, (s.requires.1.0.1, (omega (arith, after_a f, to_end f), enter_fits l)))
 
-module _ (c : tie.After-enter) where
-  abbrev gone_out : tie.After-leave
+module _ (c : tie.After-enter-second) where
+  abbrev gone_out : tie.After-leave-first
   gone_out = c.before.before.before
 
   abbrev s₃ : tie.Start
@@ -221,18 +221,18 @@ module _ (c : tie.After-enter) where
   b₃ = b (found (loaded gone_out))
 
   abbrev m₃ : List ℤ
-  m₃ = c.enter.new.1.1.1.0
+  m₃ = c.enter-second.new.m
 
   size₃ : length m₃ ≡ length s₃.args.m.now
-  size₃ = c.enter.auto.1.1.1.0 ∙ size₂ gone_out
+  size₃ = c.enter-second.auto.m ∙ size₂ gone_out
 
   came : (w : Window) → h s₃ ≡ side_line w (k s₃)
-      → CameOwn w (zs s₃) (k s₃) (g s₃) (b₃ - 1) (point_in (g s₃) (next (found (loaded gone_out)))) (m₂ gone_out) gone_out.leave.result m₃ c.enter.result
-  came w q = came_own q (last_out gone_out) (enter_fits gone_out) (on_there (loaded gone_out)) (next_of_ring (found (loaded gone_out))).1 c.enter.ensures
+      → CameOwn w (zs s₃) (k s₃) (g s₃) (b₃ - 1) (point_in (g s₃) (next (found (loaded gone_out)))) (m₂ gone_out) gone_out.leave-first.result m₃ c.enter-second.result
+  came w q = came_own q (last_out gone_out) (enter_fits gone_out) (on_there (loaded gone_out)) (next_of_ring (found (loaded gone_out))).1 c.enter-second.ensures
 
   -- what is left has at most one corner more
-  all_fit : c.enter.result + (n s₃ - b₃) ≤ n s₃ + 1
-  all_fit = omega (arith, (entered_few c.enter.ensures).1, first_low gone_out, after_a (found (loaded gone_out)), to_end (found (loaded gone_out)))
+  all_fit : c.enter-second.result + (n s₃ - b₃) ≤ n s₃ + 1
+  all_fit = omega (arith, (entered_few c.enter-second.ensures).1, first_low gone_out, after_a (found (loaded gone_out)), to_end (found (loaded gone_out)))
 
 load-requires-2 : tie.Need-load-requires-2
 load-requires-2 c κs =
@@ -240,14 +240,14 @@ load-requires-2 c κs =
     let s = s₃ e in
     (few s, ((to_end (found (loaded (gone_out e))), omega arith), omega (arith, all_fit e, size₃ e, fits s)))
 
-sub-t12 : tie.Need-overflow-sub-t12
+sub-t12 : tie.Need-overflow_sub-result
 sub-t12 c = to_end (found (loaded (gone_out c.before.before.before.before)))
 
-add-t18 : tie.Need-overflow-add-t18
+add-t18 : tie.Need-overflow_add-result
 add-t18 c = let e = c.before.before.before.before in omega (arith, all_fit e, few (s₃ e))
 
-same_length : tie.Need-same-length
-same_length c = let e = c.before.before.before.before in c.before.load2.auto.1.1.1.0 ∙ size₃ e
+same_length : tie.Need-shape_of-m
+same_length c = let e = c.before.before.before.before in c.before.load-2.auto.m ∙ size₃ e
 
 returns : tie.Need-returns
 returns c w q =
@@ -257,8 +257,8 @@ returns c w q =
     let f = found d in
     let s = s₃ e in
     first_cut w (k s) s.requires.0 (g s) q (some s) (after_a f) (to_end f) (held s w) (first_in s) (all_out f) (back_in f) s.args.m.now (m₁ d) (m₂ l)
-    (m₃ e) c.before.load2.new.1.1.1.0 l.leave.result e.enter.result
-    d.load.ensures (went l w q) (came e w q) c.before.load2.ensures
+    (m₃ e) c.before.load-2.new.m l.leave-first.result e.enter-second.result
+    d.load.ensures (went l w q) (came e w q) c.before.load-2.ensures
 
 pub cut_out_spec : {M : Type 1} → statement M
 cut_out_spec =

@@ -14,34 +14,34 @@ use Rattle.first_pass.specs.First.{EnteredOwn, on_line, crosses}
 use Rattle.first_pass.proofs.enter.Statement.{statement}
 use Rattle.first_pass.proofs.enter.Tie as tie
 
-returns : tie.Need-returns
-returns c = on_line c.if1.true
+returns : tie.Need-returns-then-there
+returns c = on_line c.if-there.true
 
-edge-crossing-requires : tie.Need-edge-crossing-requires
+edge-crossing-requires : tie.Need-edge_crossing-requires
 edge-crossing-requires c κs = let s = c.before.before in (s.requires.0, (s.requires.1.0, s.requires.1.1.0))
 
-cast-put : tie.Need-overflow-cast-put
+cast-put : tie.Need-overflow_cast-k
 cast-put c = let s = c.before.before.before in omega (arith, s.requires.1.1.0, s.requires.0.corners.few)
 
 put-requires : tie.Need-put-requires
 put-requires c κs = search rules
 
-add-result : tie.Need-overflow-add-result
+add-result : tie.Need-overflow_add-result
 add-result c = search rules
 
-same_length : tie.Need-same-length
+same_length : tie.Need-shape_of-m
 same_length c = search rules
 
-returns-2 : tie.Need-returns-2
+returns-2 : tie.Need-returns
 returns-2 c =
     let e = c.before.before in
     let s = e.before.before.before in
     let m = s.args.m.now in
-    let p = point_of e.edge-crossing.result in
-    let wrote : c.before.put.new.0 ≡ put_at m s.args.at p (pos s.args.k) =
+    let p = point_of e.edge_crossing.result in
+    let wrote : c.before.put.new.m ≡ put_at m s.args.at p (pos s.args.k) =
     c.before.put.ensures ∙ ap (put_at m s.args.at p) (to_z_pos w32 {n = s.args.k} (omega (arith, s.requires.1.1.0, s.requires.0.corners.few))) in
     subst (λ (m' : List ℤ). EnteredOwn s.args.outline.now (limit_line s.args.l) s.args.there s.args.k m s.args.at m' (s.args.at + 1))
-    (sym wrote) (crosses e.before.before.if1.false e.edge-crossing.ensures)
+    (sym wrote) (crosses e.before.before.if-there.false e.edge_crossing.ensures)
 
 pub enter_spec : {M : Type 1} → statement M
 enter_spec = tie.close (tie.spec returns edge-crossing-requires cast-put put-requires add-result same_length returns-2)

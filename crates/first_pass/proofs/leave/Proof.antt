@@ -22,44 +22,44 @@ memory s = s.args.m.now
 abbrev Done : tie.Start → List ℤ → ℕ → Type 0
 Done s m k = Went (Meets (limit_line s.args.l) (edge_of s.args.outline.now s.args.k)) (side_at s.args.side) s.args.here (memory s) s.args.i m k
 
-turn-along-requires : tie.Need-turn-along-requires
+turn-along-requires : tie.Need-turn_along-requires
 turn-along-requires c κs = let s = c.before.before in (s.requires.1.0.0, s.requires.1.1.0)
 
-same_length : tie.Need-same-length
+same_length : tie.Need-shape_of-m-then-here
 same_length c = search rules
 
-returns : tie.Need-returns
+returns : tie.Need-returns-then-here
 returns c =
     let s = c.before.before.before.before in
     let e = c.before.turn_along.ensures in
-    transport (λ i. Done s (sym e.1 i) (sym e.0 i)) (on_line c.before.before.before.if1.true)
+    transport (λ i. Done s (sym e.1 i) (sym e.0 i)) (on_line c.before.before.before.if-here.true)
 
-add-put : tie.Need-overflow-add-put
+add-put : tie.Need-overflow_add-i
 add-put c = search rules
 
-edge-crossing-requires : tie.Need-edge-crossing-requires
+edge-crossing-requires : tie.Need-edge_crossing-requires
 edge-crossing-requires c κs = let s = c.before.before in (s.requires.0, (s.requires.1.0.1, s.requires.1.1.1))
 
-side-tag-requires : tie.Need-side-tag-requires
+side-tag-requires : tie.Need-side_tag-requires
 side-tag-requires c κs = c.before.before.before.requires.1.0.0
 
 put-requires : tie.Need-put-requires
 put-requires c κs = search rules
 
-add-result : tie.Need-overflow-add-result
+add-result : tie.Need-overflow_add-result
 add-result c = search rules
 
-same-length-2 : tie.Need-same-length-2
+same-length-2 : tie.Need-shape_of-m
 same-length-2 c = search rules
 
-returns-2 : tie.Need-returns-2
+returns-2 : tie.Need-returns
 returns-2 c =
     let x = c.before.before.before in
     let s = x.before.before.before in
-    let p = point_of x.edge-crossing.result in
-    let wrote : c.before.put.new.0 ≡ put_at (memory s) (s.args.i + 1) p (side_tag (side_at s.args.side)) =
-    c.before.put.ensures ∙ ap (put_at (memory s) (s.args.i + 1) p) (back w32 _ c.before.before.side-tag.type_inv ∙ c.before.before.side-tag.ensures) in
-    subst (λ (m : List ℤ). Done s m (s.args.i + 2)) (sym wrote) (crosses x.before.before.if1.false x.edge-crossing.ensures)
+    let p = point_of x.edge_crossing.result in
+    let wrote : c.before.put.new.m ≡ put_at (memory s) (s.args.i + 1) p (side_tag (side_at s.args.side)) =
+    c.before.put.ensures ∙ ap (put_at (memory s) (s.args.i + 1) p) (back w32 _ c.before.before.side_tag.type_inv ∙ c.before.before.side_tag.ensures) in
+    subst (λ (m : List ℤ). Done s m (s.args.i + 2)) (sym wrote) (crosses x.before.before.if-here.false x.edge_crossing.ensures)
 
 pub leave_spec : {M : Type 1} → statement M
 leave_spec =

@@ -17,29 +17,29 @@ use Rattle.remains.proofs.Loaded.{loaded_held}
 use Rattle.first_pass.proofs.pass.Statement.{statement}
 use Rattle.first_pass.proofs.pass.Tie as tie
 
-end-of-run-requires : tie.Need-end-of-run-requires
+end-of-run-requires : tie.Need-end_of_run-a-requires
 end-of-run-requires c κs = (c.requires.1.0.1, (omega arith, omega arith))
 
 load-requires : tie.Need-load-requires
 load-requires c κs = let s = c.before.before.before in (s.requires.0.corners.few, ((omega arith, omega arith), omega (arith, s.requires.1.1)))
 
-same_length : tie.Need-same-length
-same_length c = c.before.load.auto.1.1.1.0
+same_length : tie.Need-shape_of-m-then-a-n
+same_length c = c.before.load.auto.m
 
-returns : tie.Need-returns
+returns : tie.Need-returns-then-a-n
 returns c w q =
     let r = c.before.before.before.before in
     let s = r.before in
     let zs = s.args.outline.now in
     first_all w (side_at s.args.side) s.requires.0 (loaded_of zs) q (loaded_held s.requires.0 (loaded_of_lem zs) w)
-    (λ i a b. r.end-of-run.ensures.run i a (omega (arith, c.before.before.before.if1.true))) s.args.m.now c.before.load.new.1.1.1.0
+    (λ i a b. r.end_of_run-a.ensures.run i a (omega (arith, c.before.before.before.if-a-n.true))) s.args.m.now c.before.load.new.m
     c.before.load.ensures
 
 -- some corner lies outside
-before_end : (c : tie.Else1) → c.before.end-of-run.result < length c.before.before.args.outline.now / 2
-before_end c = ⊎_elim (λ q. absurd (c.if1.false q)) (λ l. l) (eq-or-lt_of_le c.before.end-of-run.ensures.below)
+before_end : (c : tie.Else-a-n) → c.before.end_of_run-a.result < length c.before.before.args.outline.now / 2
+before_end c = ⊎_elim (λ q. absurd (c.if-a-n.false q)) (λ l. l) (eq-or-lt_of_le c.before.end_of_run-a.ensures.below)
 
-keep-run-requires : tie.Need-keep-run-requires
+keep-run-requires : tie.Need-keep_run-requires
 keep-run-requires c κs =
     let e = c.before.before in
     let s = e.before.before in (
@@ -49,29 +49,29 @@ keep-run-requires c κs =
         (
           s.requires.1.1,
           subst (λ (i : ℕ). Out (limit_line s.args.l) (point_in (loaded_of s.args.outline.now) i))
-              c.before.if2.true (e.before.end-of-run.ensures.ends (before_end e)),
+              c.before.if-a-eq0.true (e.before.end_of_run-a.ensures.ends (before_end e)),
         ),
       ),
     )
 
-same-length-2 : tie.Need-same-length-2
+same-length-2 : tie.Need-shape_of-m-then-a-eq0
 same-length-2 c = search rules
 
-returns-2 : tie.Need-returns-2
+returns-2 : tie.Need-returns-then-a-eq0
 returns-2 c = search rules
 
-cut-out-requires : tie.Need-cut-out-requires
+cut-out-requires : tie.Need-cut_out-requires
 cut-out-requires c κs =
     let e = c.before.before in
     let r = e.before in
     let s = r.before in
-    let some : 0 < r.end-of-run.result = ⊎_elim (λ q. absurd (c.before.if2.false (sym q))) (λ l. l) (eq-or-lt_of_le r.end-of-run.ensures.above) in
-    (s.requires.0, (s.requires.1.0, (s.requires.1.1, (some, before_end e, r.end-of-run.ensures))))
+    let some : 0 < r.end_of_run-a.result = ⊎_elim (λ q. absurd (c.before.if-a-eq0.false (sym q))) (λ l. l) (eq-or-lt_of_le r.end_of_run-a.ensures.above) in
+    (s.requires.0, (s.requires.1.0, (s.requires.1.1, (some, before_end e, r.end_of_run-a.ensures))))
 
-same-length-3 : tie.Need-same-length-3
+same-length-3 : tie.Need-shape_of-m
 same-length-3 c = search rules
 
-returns-3 : tie.Need-returns-3
+returns-3 : tie.Need-returns
 returns-3 c = search rules
 
 pub pass_spec : {M : Type 1} → statement M
