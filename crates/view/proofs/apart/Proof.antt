@@ -32,13 +32,13 @@ bounds c = (ranged c.ranges.a, (ranged c.ranges.b, tt))
 abbrev less : Code
 less = sub w64 (cast w64 (raw 1)) (cast w64 (raw 0))
 
-cast-size : tie.Need-overflow-cast-size
+cast-size : tie.Need-overflow_cast-b
 cast-size c = need β (env c) (bounds c) (cast w64 (raw 1)) tt
 
-cast-size-2 : tie.Need-overflow-cast-size-2
+cast-size-2 : tie.Need-overflow_cast-a
 cast-size-2 c = need β (env c) (bounds c) (cast w64 (raw 0)) tt
 
-sub-size : tie.Need-overflow-sub-size
+sub-size : tie.Need-overflow_sub-b
 sub-size c = need β (env c) (bounds c) less tt
 
 size-requires : tie.Need-size-requires

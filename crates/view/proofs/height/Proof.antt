@@ -13,7 +13,7 @@ returns : tie.Need-returns
 unfolding height
 returns c =
     let w = c.before.before.before.args.r in
-    simp (back w32 w.bottom c.before.before.struct_told.given.1.0.1, back w32 w.top c.before.struct-told2.given.1.1.1.0.1) at c.apart.ensures
+    simp (back w32 w.bottom c.before.before.struct_told-1.given.1.0.1, back w32 w.top c.before.struct_told-2-1.given.1.1.1.0.1) at c.apart.ensures
 
 pub height_spec : {M : Type 1} → statement M
 height_spec = tie.close (tie.spec apart-requires returns)
