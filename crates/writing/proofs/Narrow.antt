@@ -7,7 +7,7 @@ use mir.Facts.{to_z-of_z, sfits_widen}
 
 module _ {z : ℤ} (f : SFits w32 z) where
   read : to_z w64 (of_z w64 z) ≡ z
-  read = to_z-of_z (sfits_widen {w = w32} tt f)
+  read = to_z-of_z {w = w64} (sfits_widen {w = w32} tt f)
 
   pub narrow_fits : SFits w32 (to_z w64 (of_z w64 z))
   narrow_fits = subst (SFits w32) (sym read) f

@@ -25,10 +25,10 @@ module _ (s : tie.Start) where
   started = started_in s.args.m.now (omega (arith, s.requires.0))
 
   proper : let m = s.args.m.now in All Proper (ring_from m s.args.start (s.args.n - s.args.start) ++ ring_from m 0 s.args.start)
-  proper = subst (All Proper) started (turned_all (turned_at (ring_in s.args.m.now s.args.n) s.args.start) s.pre.1.1.0)
+  proper = subst (All Proper) started (turned_all (turned_at (ring_in s.args.m.now s.args.n) s.args.start) s.requires.1.1.0)
 
   begins : 4 * s.args.start ≤ length s.args.m.now
-  begins = omega (arith, s.pre.0, s.pre.1.0)
+  begins = omega (arith, s.requires.0, s.requires.1.0)
 
   part :
       let m = s.args.m.now in
@@ -37,25 +37,25 @@ module _ (s : tie.Start) where
       ring_in (take (length m - k) (drop k m)) n ≡ ring_from m s.args.start n
   part = ring_part s.args.m.now s.args.start (s.args.n - s.args.start) begins
 
-sub-rest : tie.Need-overflow-sub-rest
+sub-rest : tie.Need-overflow_sub-rest
 sub-rest c = search rules
 
-mul-write-corners : tie.Need-overflow-mul-write-corners
+mul-write-corners : tie.Need-overflow_mul-start
 mul-write-corners c = search rules
 
-mul-write-corners-2 : tie.Need-overflow-mul-write-corners-2
+mul-write-corners-2 : tie.Need-offset_bounds-m-start
 mul-write-corners-2 c = search rules
 
-sub-write-corners : tie.Need-overflow-sub-write-corners
+sub-write-corners : tie.Need-slice_bounds-write_corners-count
 sub-write-corners c = search rules
 
-part-write-corners-start : tie.Need-slice-bounds-write-corners-start
+part-write-corners-start : tie.Need-slice_bounds-write_corners-start
 part-write-corners-start c = search rules
 
-part-write-corners-end : tie.Need-slice-bounds-write-corners-end
+part-write-corners-end : tie.Need-slice_bounds-write_corners-end
 part-write-corners-end c = search rules
 
-write-corners-requires : tie.Need-write-corners-requires
+write-corners-requires : tie.Need-write_corners-requires
 write-corners-requires c κs =
     let s = c.before.before in (
       simp (length-take, length-drop) (omega (arith, s.requires.1.0)),
@@ -65,32 +65,32 @@ write-corners-requires c κs =
       ),
     )
 
-mul-write-corners-3 : tie.Need-overflow-mul-write-corners-3
+mul-write-corners-3 : tie.Need-overflow_mul-rest
 mul-write-corners-3 c = search rules
 
-mul-write-corners-4 : tie.Need-overflow-mul-write-corners-4
+mul-write-corners-4 : tie.Need-offset_bounds-out-rest
 mul-write-corners-4 c = search rules
 
-sub-write-corners-2 : tie.Need-overflow-sub-write-corners-2
+sub-write-corners-2 : tie.Need-slice_bounds-write_corners-count-2
 sub-write-corners-2 c = search rules
 
-part-write-corners-start-2 : tie.Need-slice-bounds-write-corners-start-2
+part-write-corners-start-2 : tie.Need-slice_bounds-write_corners-start-2
 part-write-corners-start-2 c = search rules
 
-part-write-corners-end-2 : tie.Need-slice-bounds-write-corners-end-2
+part-write-corners-end-2 : tie.Need-slice_bounds-write_corners-end-2
 part-write-corners-end-2 c = search rules
 
-write-corners-requires-2 : tie.Need-write-corners-requires-2
+write-corners-requires-2 : tie.Need-write_corners-requires-2
 write-corners-requires-2 c κs =
     let s = c.before.before.before.before.before in (
       begins s,
       (
         all_right (ring_from s.args.m.now s.args.start (s.args.n - s.args.start)) (proper s),
-        simp (length-take, length-drop) (omega (arith, s.requires.0, s.requires.1.1.1, c.before.before.write-corners.auto.1.1.0)),
+        simp (length-take, length-drop) (omega (arith, s.requires.0, s.requires.1.1.1, c.write_corners.auto.out)),
       ),
     )
 
-same_length : tie.Need-same-length
+same_length : tie.Need-shape_of-out
 same_length c = search rules
 
 returns : tie.Need-returns
@@ -101,8 +101,8 @@ returns c =
     let rest = s.args.n - s.args.start in
     wrote_same (sym (started s))
     (wrote_rest (4 * rest) (ap (λ k. 4 * k) (ring_length m s.args.start rest)) (omega (arith, ring_length m 0 s.args.start, s.requires.0, s.requires.1.1.1))
-    (wrote_same (part s) w.write-corners.ensures)
-    c.before.write-corners2.ensures)
+    (wrote_same (part s) w.write_corners.ensures)
+    c.write_corners-2.ensures)
 
 pub write_ring_spec : {M : Type 1} → statement M
 write_ring_spec =
