@@ -30,7 +30,8 @@ fn of_strokes() -> Vec<Vec<u8>> {
     ];
     let mut lines = Vec::new();
     for stroke in strokes {
-        lines.extend(strokes::by_every_rule(window, stroke));
+        lines.push(strokes::of("lb", window, stroke));
+        lines.push(strokes::of("cs", window, stroke));
         lines.push(corner_windows::of(&square, stroke));
     }
     // A, B, D, E and F are kept; B only touches.
@@ -77,7 +78,8 @@ fn of_sources() -> Vec<Vec<u8>> {
         ([0, 0, 4, 4], [5, 0, -4, -4]),
     ];
     for (window, stroke) in strokes {
-        lines.extend(strokes::by_every_rule(window, stroke));
+        lines.push(strokes::of("lb", window, stroke));
+        lines.push(strokes::of("cs", window, stroke));
     }
     lines
 }

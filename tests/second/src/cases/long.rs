@@ -142,13 +142,13 @@ fn long_lines(random: &mut Random) -> Vec<Vec<u8>> {
     let batch = batches::of(Touches::LeftOut, 5 * MOST_STROKES, WINDOW, &list);
     let few = [touching(random, 12), list[..48].to_vec()].concat();
     let touches = batches::of(Touches::Given, 120, WINDOW, &few);
-    let [lb, cs, xp] = strokes::by_every_rule(WINDOW, [-5, 5, 15, 5]);
+    let lb = strokes::of("lb", WINDOW, [-5, 5, 15, 5]);
+    let cs = strokes::of("cs", WINDOW, [-5, 5, 15, 5]);
     let book = Book::full().without([1, 31]);
     vec![
         padded(&batch, LONGEST_LINE),
         padded(&touches, 20_000),
         padded(&lb, 20_000),
-        padded(&xp, 20_000),
         padded(&book.enter(1, [8, 8, 9, 9]), 20_000),
         padded(&book.release(1, 30), 20_000),
         padded(&book.strips(155, 1), 20_000),

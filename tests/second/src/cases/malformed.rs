@@ -23,23 +23,17 @@ pub fn lines() -> Vec<Vec<u8>> {
         strange_bytes(),
     ];
     let mut lines = lists.concat();
-    let others = [touches(&lines), cross_products(&lines)];
-    lines.extend(others.concat());
+    lines.extend(touches(&lines));
     lines
 }
 
-/// The lines of one word with another, which has the same arguments.
-fn renamed(lines: &[Vec<u8>], word: &str, other: &str) -> Vec<Vec<u8>> {
-    lines
-        .iter()
-        .filter_map(|line| line.strip_prefix(word.as_bytes()))
-        .map(|arguments| [other.as_bytes(), arguments].concat())
-        .collect()
-}
-
-/// The lines of `batch` with the other word, and words that are nearly that one.
+/// The lines of `batch` with the other word, which has the same arguments, and words that are nearly that one.
 fn touches(lines: &[Vec<u8>]) -> Vec<Vec<u8>> {
-    let mut others = renamed(lines, "batch", "touches");
+    let mut others: Vec<Vec<u8>> = lines
+        .iter()
+        .filter_map(|line| line.strip_prefix(b"batch"))
+        .map(|arguments| [b"touches", arguments].concat())
+        .collect();
     others.extend(all(&[
         "touches",
         "touches ",
@@ -61,25 +55,6 @@ fn touches(lines: &[Vec<u8>]) -> Vec<Vec<u8>> {
         "touches 5 0 0 10 10 4 2147483648 2 3 4",
         "touches 5 0 0 2147483647 -2147483648 4 1 2 3 4",
         "touches 5 0 0 10 10 4 1 -2147483648 2147483647 4",
-    ]));
-    others
-}
-
-/// The lines of `lb` with the other word, and words that are nearly that one.
-fn cross_products(lines: &[Vec<u8>]) -> Vec<Vec<u8>> {
-    let mut others = renamed(lines, "lb", "xp");
-    others.extend(all(&[
-        "x 0 0 10 10 1 2 3 4",
-        "px 0 0 10 10 1 2 3 4",
-        "Xp 0 0 10 10 1 2 3 4",
-        "XP 0 0 10 10 1 2 3 4",
-        "x p 0 0 10 10 1 2 3 4",
-        "xp lb 0 0 10 10 1 2 3 4",
-        "lbxp 0 0 10 10 1 2 3 4",
-        "xp 0 0 10 10 1 2 3 2147483648",
-        "xp 0 0 10 -2147483649 1 2 3 4",
-        "xp -2147483648 0 2147483647 10 1 2 3 4",
-        "xp 0 0 10 10 1 -2147483648 2147483647 4",
     ]));
     others
 }

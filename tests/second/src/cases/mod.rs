@@ -19,7 +19,6 @@ pub mod command_forms;
 pub mod commands;
 pub mod corner_cuts;
 pub mod corner_windows;
-pub mod crossings;
 pub mod cuts;
 pub mod damage;
 mod damage_bytes;
@@ -85,7 +84,6 @@ fn fixed() -> Vec<Vec<u8>> {
         strokes::fixed(),
         halves::lines(),
         cuts::lines(),
-        crossings::lines(),
         corner_windows::fixed(),
         corner_cuts::lines(),
         batches::fixed(),
@@ -120,14 +118,14 @@ fn any(random: &mut Random) -> Vec<u8> {
 }
 
 fn well_formed(random: &mut Random) -> Vec<u8> {
-    match random.below(136) {
+    match random.below(124) {
         0..=13 => floats::line(random),
-        14..=57 => strokes::line(random),
-        58..=77 => corner_windows::line(random),
-        78..=88 => batches::line(random),
-        89..=106 => outlines::line(random),
-        107..=117 => drawings::line(random),
-        118..=125 => book_runs::line(random),
+        14..=45 => strokes::line(random),
+        46..=65 => corner_windows::line(random),
+        66..=76 => batches::line(random),
+        77..=94 => outlines::line(random),
+        95..=105 => drawings::line(random),
+        106..=113 => book_runs::line(random),
         _ => batches::touching(random),
     }
 }

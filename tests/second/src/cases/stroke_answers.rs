@@ -1,9 +1,9 @@
-//! Lines of a stroke with their answers, put together from what is known by hand of it: by every rule, and turned round.
+//! Lines of a stroke with their answers, put together from what is known by hand of it: by both rules, and turned round.
 
 use super::line::Answered;
 use super::list_answers::{self, by_both_names, rows, Known};
 use super::stroke_kinds::{mirrored, turned, Stroke};
-use super::strokes::{self, RULES};
+use super::strokes;
 use super::windows::Window;
 use crate::batch::Touches;
 
@@ -76,44 +76,36 @@ impl Kept {
         }
     }
 
-    fn answered(&self, window: Window) -> [Answered; 3] {
+    fn answered(&self, window: Window) -> [Answered; 2] {
         let head = [0, 0, 1];
         let numbers = [&head[..], &self.fractions, &self.points].concat();
-        by_every_rule(window, self.stroke, &numbers, self.sides, self.shortenings)
+        by_both_rules(window, self.stroke, &numbers, self.sides, self.shortenings)
     }
 }
 
-/// Each stroke both ways round, by every rule and all in one list.
+/// Each stroke both ways round, by both rules and all in one list.
 pub fn both_ways(window: Window, missed: &[Missed], kept: &[Kept]) -> Vec<Answered> {
-    let mut cases = alone(window, missed, kept);
-    cases.extend(in_a_list(window, missed, kept));
-    cases
-}
-
-/// The same without the list.
-pub fn alone(window: Window, missed: &[Missed], kept: &[Kept]) -> Vec<Answered> {
     let mut cases = Vec::new();
     for (stroke, [forth, back]) in missed {
         let numbers = [0, 0, 0, 0, 1, 0, 1, 0, 0, 0, 0];
         for (stroke, count) in [(*stroke, *forth), (turned(*stroke), *back)] {
-            cases.extend(by_every_rule(window, stroke, &numbers, [OWN; 2], count));
+            cases.extend(by_both_rules(window, stroke, &numbers, [OWN; 2], count));
         }
     }
     for kept in kept {
         cases.extend(kept.answered(window));
         cases.extend(kept.turned().answered(window));
     }
+    cases.extend(in_a_list(window, missed, kept));
     cases
 }
 
 /// Refused by 6: the places of the first number off the table, this way round and turned round.
-pub fn refused(window: Window, stroke: Stroke, [forth, back]: [i32; 2]) -> Vec<Answered> {
-    let ways = [(stroke, forth), (turned(stroke), back)];
-    let by_place = |(stroke, place): (Stroke, i32)| {
-        let numbers = [6, place, 0, 0, 1, 0, 1, 0, 0, 0, 0];
-        by_every_rule(window, stroke, &numbers, [OWN; 2], 0)
-    };
-    ways.into_iter().flat_map(by_place).collect()
+pub fn refused(window: Window, stroke: Stroke, [forth, back]: [i32; 2]) -> [Answered; 4] {
+    let numbers = |place: i32| [6, place, 0, 0, 1, 0, 1, 0, 0, 0, 0];
+    let [a, b] = by_both_rules(window, stroke, &numbers(forth), [OWN; 2], 0);
+    let [c, d] = by_both_rules(window, turned(stroke), &numbers(back), [OWN; 2], 0);
+    [a, b, c, d]
 }
 
 /// The list that has a refused stroke behind a good one: nothing is written.
@@ -121,22 +113,25 @@ pub fn refused_list(window: Window, good: Stroke, bad: Stroke, place: i32) -> [A
     list_answers::refused(2, window, &[good, bad].concat(), [6, 4 + place])
 }
 
-/// The same by each, but for the count of shortenings, which one of them alone has; the sides stand last, behind it.
-fn by_every_rule(
+/// The sides stand last, behind the count.
+fn by_both_rules(
     window: Window,
     stroke: Stroke,
     numbers: &[i32],
     sides: [i32; 2],
     count: i32,
-) -> [Answered; 3] {
+) -> [Answered; 2] {
     let (common, sides) = (text(numbers), text(&sides));
-    RULES.map(|rule| {
-        let answer = match rule {
-            "cs" => format!("{common} {count} {sides}"),
-            _ => format!("{common} {sides}"),
-        };
-        (strokes::of(rule, window, stroke), answer)
-    })
+    [
+        (
+            strokes::of("lb", window, stroke),
+            format!("{common} {sides}"),
+        ),
+        (
+            strokes::of("cs", window, stroke),
+            format!("{common} {count} {sides}"),
+        ),
+    ]
 }
 
 /// The missed come first, so that an index is not the count of rows before it. The room is one number too long where

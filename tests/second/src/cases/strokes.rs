@@ -1,4 +1,4 @@
-//! Strokes against rectangles: `lb`, `cs` and `xp`, which have the same arguments.
+//! Strokes against rectangles: `lb` and `cs`.
 
 use super::corner_windows;
 use super::line::Line;
@@ -8,9 +8,7 @@ use super::windows::{self, Window};
 use crate::call::{read, Call};
 use crate::random::Random;
 
-pub const RULES: [&str; 3] = ["lb", "cs", "xp"];
-
-/// Every refusal alone by every rule, and several at once by the rules in turn.
+/// Every refusal alone and several at once.
 pub fn fixed() -> Vec<Vec<u8>> {
     let windows: [Window; 12] = [
         [0, 0, 10, 10],
@@ -34,21 +32,17 @@ pub fn fixed() -> Vec<Vec<u8>> {
         [-5, 5, 15, i32::MAX],
         [0, 0, 16_384, -16_384],
     ];
-    let mut lines = Vec::new();
-    for (i, window) in windows.into_iter().enumerate() {
-        for (j, stroke) in strokes.into_iter().enumerate() {
-            if i == 0 || j == 0 {
-                lines.extend(by_every_rule(window, stroke));
-            } else {
-                lines.push(of(RULES[(i + j) % RULES.len()], window, stroke));
-            }
-        }
-    }
-    lines
+    let pairs = windows
+        .iter()
+        .flat_map(|window| strokes.iter().map(move |stroke| (window, stroke)));
+    pairs
+        .enumerate()
+        .map(|(k, (window, stroke))| of(["lb", "cs"][k % 2], *window, *stroke))
+        .collect()
 }
 
 pub fn line(random: &mut Random) -> Vec<u8> {
-    let rule = random.pick(&RULES);
+    let rule = random.pick(&["lb", "cs"]);
     let window = windows::window(random);
     let stroke = stroke(random, window);
     match random.below(12) {
@@ -62,29 +56,16 @@ pub fn line(random: &mut Random) -> Vec<u8> {
     }
 }
 
-/// The stroke of a line turned round, of a rectangle by any rule; none where the line is no call with a single stroke.
+/// The stroke of a line turned round, of a rectangle by either rule; none where the line is no call with a single stroke.
 pub fn turned_round(random: &mut Random, line: &[u8]) -> Option<Vec<u8>> {
-    if let Some((window, stroke)) = asked(line) {
-        return Some(of(random.pick(&RULES), window, turned(stroke)));
-    }
     match read(line)? {
+        Call::LiangBarsky(window, stroke) | Call::CohenSutherland(window, stroke) => {
+            let rule = random.pick(&["lb", "cs"]);
+            Some(of(rule, window, turned(stroke)))
+        }
         Call::CyrusBeck(window, stroke) => Some(corner_windows::of(&window, turned(stroke))),
         _ => None,
     }
-}
-
-/// The window and the stroke of a line of any rule; none where the line is no such call.
-pub fn asked(line: &[u8]) -> Option<(Window, Stroke)> {
-    match read(line)? {
-        Call::LiangBarsky(window, stroke)
-        | Call::CohenSutherland(window, stroke)
-        | Call::CrossProduct(window, stroke) => Some((window, stroke)),
-        _ => None,
-    }
-}
-
-pub fn by_every_rule(window: Window, stroke: Stroke) -> [Vec<u8>; 3] {
-    RULES.map(|rule| of(rule, window, stroke))
 }
 
 pub fn of(rule: &str, window: Window, stroke: Stroke) -> Vec<u8> {

@@ -95,9 +95,10 @@ fn held(seen: &mut Seen, line: &[u8], sides: &[[i128; 2]]) {
     seen.count("cut twice", n0 > 0 && n1 < d1);
 }
 
-/// By every rule.
+/// By both rules.
 fn rectangle(seen: &mut Seen, window: Window, stroke: Stroke) {
-    for line in strokes::by_every_rule(window, stroke) {
+    for rule in ["lb", "cs"] {
+        let line = strokes::of(rule, window, stroke);
         held(seen, &line, &sides_of(window, stroke));
     }
 }
@@ -181,7 +182,7 @@ fn random_strokes() {
 /// In a lot every rule meets each kind, and what it names is right.
 #[test]
 fn a_lot_has_every_kind() {
-    let mut by_rule = [(); 4].map(|_| Seen::default());
+    let mut by_rule = [(); 3].map(|_| Seen::default());
     for line in lot(5, 10_000) {
         match read(&line) {
             Some(Call::LiangBarsky(window, stroke)) => {
@@ -192,9 +193,6 @@ fn a_lot_has_every_kind() {
             }
             Some(Call::CyrusBeck(window, stroke)) => {
                 held(&mut by_rule[2], &line, &edges_of(&window, stroke));
-            }
-            Some(Call::CrossProduct(window, stroke)) => {
-                held(&mut by_rule[3], &line, &sides_of(window, stroke));
             }
             _ => {}
         }

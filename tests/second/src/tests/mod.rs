@@ -2,7 +2,6 @@
 
 mod agreement;
 mod books;
-mod cross_product;
 mod cuts;
 mod desk;
 mod disk_numbers;

@@ -10,13 +10,10 @@ impl Seen {
         *self.0.entry(kind).or_default() += usize::from(holds);
     }
 
-    pub fn of(&self, kind: &str) -> usize {
-        self.0.get(kind).copied().unwrap_or(0)
-    }
-
     pub fn at_least(&self, least: &[(&str, usize)]) {
         for (kind, least) in least {
-            assert!(self.of(kind) >= *least, "{kind}: {:?}", self.0);
+            let seen = self.0.get(kind).copied().unwrap_or(0);
+            assert!(seen >= *least, "{kind}: {:?}", self.0);
         }
     }
 }

@@ -128,13 +128,11 @@ const STROKES: [(&str, &str, &str, u8, &str, &str); 19] = [
 fn strokes_by_every_rule() {
     for (window, stroke, common, count, sides, edges) in STROKES {
         let lb = format!("lb {window} {stroke}");
-        let xp = format!("xp {window} {stroke}");
         let cs = format!("cs {window} {stroke}");
         let cb = format!("cb {} {stroke}", as_corners(window));
         let fractions: Vec<&str> = common.split(' ').take(7).collect();
         expect(&[
             (&lb, &format!("{common} {sides}")),
-            (&xp, &format!("{common} {sides}")),
             (&cs, &format!("{common} {count} {sides}")),
             (&cb, &format!("{} {edges}", fractions.join(" "))),
         ]);
