@@ -9,71 +9,76 @@ use replies::Reply;
 const MOST: u64 = 10;
 
 // The lines there are. A new command gets its line here, and in docs/DESK.md.
-fn list_lines() {
-    streams::tell(b"mm2 H H\n");
-    streams::tell(b"mm4 H H H H\n");
-    streams::tell(b"back g\n");
-    streams::tell(b"lb l b r t x1 y1 x2 y2\n");
-    streams::tell(b"cs l b r t x1 y1 x2 y2\n");
-    streams::tell(b"xp l b r t x1 y1 x2 y2\n");
-    streams::tell(b"cb M c1 .. cM x1 y1 x2 y2\n");
-    streams::tell(b"batch ROOM l b r t M s1 .. sM\n");
-    streams::tell(b"touches ROOM l b r t M s1 .. sM\n");
-    streams::tell(b"outline ORDER ROOM l b r t M c1 .. cM\n");
-    streams::tell(b"draw ROOM HEX\n");
-    streams::tell(b"enter M t1 .. tM R l b r t\n");
-    streams::tell(b"release M t1 .. tM R SLOT\n");
-    streams::tell(b"strips ROOM M t1 .. tM R\n");
+fn list_lines(rt: &HostRuntime) {
+    streams::tell(rt, b"mm2 H H\n");
+    streams::tell(rt, b"mm4 H H H H\n");
+    streams::tell(rt, b"back g\n");
+    streams::tell(rt, b"lb l b r t x1 y1 x2 y2\n");
+    streams::tell(rt, b"cs l b r t x1 y1 x2 y2\n");
+    streams::tell(rt, b"xp l b r t x1 y1 x2 y2\n");
+    streams::tell(rt, b"cb M c1 .. cM x1 y1 x2 y2\n");
+    streams::tell(rt, b"batch ROOM l b r t M s1 .. sM\n");
+    streams::tell(rt, b"touches ROOM l b r t M s1 .. sM\n");
+    streams::tell(rt, b"outline ORDER ROOM l b r t M c1 .. cM\n");
+    streams::tell(rt, b"draw ROOM HEX\n");
+    streams::tell(rt, b"enter M t1 .. tM R l b r t\n");
+    streams::tell(rt, b"release M t1 .. tM R SLOT\n");
+    streams::tell(rt, b"strips ROOM M t1 .. tM R\n");
     streams::tell(
+        rt,
         b"H: an f32 as the eight hexadecimal digits of its bits; HEX: a file's bytes as pairs of digits, - for none; ROOM: numbers lent as output\n",
     );
 }
 
 // Tells words, a number and a byte behind it.
-fn tell_number(words: &[u8], n: u64, last: u8) {
+fn tell_number(rt: &HostRuntime, words: &[u8], n: u64, last: u8) {
     let mut page = [0u8; 21];
     let end = text::put_count(&mut page, 0, n, last);
-    streams::tell(words);
-    streams::tell(&page[0..end]);
+    streams::tell(rt, words);
+    streams::tell(rt, &page[0..end]);
 }
 
 // Tells what an argument should have been.
-fn tell_kind(kind: Kind) {
+fn tell_kind(rt: &HostRuntime, kind: Kind) {
     match kind {
-        Kind::Whole => streams::tell(b"a whole number of 32 bits\n"),
-        Kind::UpTo(most) => tell_number(b"a number from 0 to ", most as u64, b'\n'),
-        Kind::Float => streams::tell(b"eight hexadecimal digits\n"),
-        Kind::Bytes => streams::tell(b"at most 70,000 pairs of hexadecimal digits, or a minus\n"),
+        Kind::Whole => streams::tell(rt, b"a whole number of 32 bits\n"),
+        Kind::UpTo(most) => tell_number(rt, b"a number from 0 to ", most as u64, b'\n'),
+        Kind::Float => streams::tell(rt, b"eight hexadecimal digits\n"),
+        Kind::Bytes => streams::tell(
+            rt,
+            b"at most 70,000 pairs of hexadecimal digits, or a minus\n",
+        ),
     }
 }
 
 // Tells why a line is no call.
-fn tell_reason(reason: Reason) {
+fn tell_reason(rt: &HostRuntime, reason: Reason) {
     match reason {
-        Reason::Long => streams::tell(b"longer than 400,000 bytes\n"),
+        Reason::Long => streams::tell(rt, b"longer than 400,000 bytes\n"),
         Reason::Unseen => streams::tell(
+            rt,
             b"a tab or a carriage return; words are parted by one space\n",
         ),
-        Reason::Word => streams::tell(b"unknown word; help lists the lines there are\n"),
-        Reason::Few => streams::tell(b"too few numbers\n"),
-        Reason::Many => streams::tell(b"too many numbers\n"),
+        Reason::Word => streams::tell(rt, b"unknown word; help lists the lines there are\n"),
+        Reason::Few => streams::tell(rt, b"too few numbers\n"),
+        Reason::Many => streams::tell(rt, b"too many numbers\n"),
         Reason::Blank(place) => {
-            tell_number(b"argument ", place as u64, b' ');
-            streams::tell(b"is empty: one space stands before each\n");
+            tell_number(rt, b"argument ", place as u64, b' ');
+            streams::tell(rt, b"is empty: one space stands before each\n");
         }
         Reason::Wrong(place, kind) => {
-            tell_number(b"argument ", place as u64, b' ');
-            streams::tell(b"is not ");
-            tell_kind(kind);
+            tell_number(rt, b"argument ", place as u64, b' ');
+            streams::tell(rt, b"is not ");
+            tell_kind(rt, kind);
         }
     }
 }
 
 // Tells a refusal; its number is below 256.
-fn tell_refusal(number: u64, place: u64) {
+fn tell_refusal(rt: &HostRuntime, number: u64, place: u64) {
     let mut page = [0u8; 160];
     let end = refusals::put_line(&mut page, 0, (number % 256) as u8, place as usize);
-    streams::tell(&page[0..end]);
+    streams::tell(rt, &page[0..end]);
 }
 
 // Whether something is to be told of a line, when `told` lines are told already.
@@ -90,21 +95,24 @@ pub fn due(line: &[u8], reply: Reply, told: u64) -> bool {
 }
 
 // Tells it, and says how many lines are told then; one more than the most stands for the notice that the others are not.
-pub fn tell(line: &[u8], number: u64, reply: Reply, told: u64) -> u64 {
+pub fn tell(rt: &HostRuntime, line: &[u8], number: u64, reply: Reply, told: u64) -> u64 {
     if arguments::word_number(line) == HELP {
-        list_lines();
+        list_lines(rt);
         return told;
     }
     if MOST <= told {
-        streams::tell(b"more lines are refused or no call; the first ten are told\n");
+        streams::tell(
+            rt,
+            b"more lines are refused or no call; the first ten are told\n",
+        );
         return MOST + 1;
     }
-    tell_number(b"line ", number, b':');
-    streams::tell(b" ");
+    tell_number(rt, b"line ", number, b':');
+    streams::tell(rt, b" ");
     if reply.count == 0 {
-        tell_reason(reasons::why(line));
+        tell_reason(rt, reasons::why(line));
     } else {
-        tell_refusal(reply.sizes[0], reply.sizes[1]);
+        tell_refusal(rt, reply.sizes[0], reply.sizes[1]);
     }
     told + 1
 }
