@@ -9,7 +9,7 @@ use intake::WindowMm;
 pub mod reader;
 
 // A step of the pen.
-#[derive(Drop)]
+#[derive(Clone, Copy)]
 pub enum Step {
     Move(f32, f32),
     Line(f32, f32),
@@ -17,7 +17,7 @@ pub enum Step {
 }
 
 // What stands at a place of the bytes.
-#[derive(Drop)]
+#[derive(Clone, Copy)]
 pub enum Found {
     // A step, and the place after its record.
     Record(Step, usize),

@@ -4,7 +4,7 @@ ghost use Rattle.format.specs.Format.{record_at};
 
 use crate::Found;
 
-#[derive(Drop)]
+#[derive(Clone, Copy)]
 pub struct Reader<'a> {
     pub src: &'a [u8],
     pub at: usize,
