@@ -21,13 +21,10 @@ use Rattle.format.specs.Format.{head_size, window_at, record_at}
 use Rattle.drawing.specs.Pen.{same, fresh, after, turn, turn_at, drawn_stroke}
 use Rattle.drawing.specs.Drawings.{Drawing, fault, drawn, in_front, onward, walk, meaning, numbers_of}
 use Rattle.format.specs.declared.Step.{Step}
-use Rattle.format.specs.declared.Step.TheVariants as Step
 use Rattle.format.specs.declared.Found.{Found}
-use Rattle.format.specs.declared.Found.TheVariants as Found
 use Rattle.drawing.specs.declared.pen.Point.{Point}
 use Rattle.drawing.specs.declared.pen.Pen.{Pen}
 use Rattle.drawing.specs.declared.pen.Turn.{Turn}
-use Rattle.drawing.specs.declared.pen.Turn.TheVariants as Turn
 use Rattle.drawing.proofs.Computed.{computed}
 use Rattle.drawing.proofs.Heads.{opened}
 use Rattle.drawing.proofs.Strokes.{four_each, kept}

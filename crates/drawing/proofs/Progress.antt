@@ -16,7 +16,6 @@ use Rattle.drawing.specs.Pen.{fresh, turn_at, drawn_stroke}
 use Rattle.drawing.specs.Drawings.{Drawing, fault, drawn, in_front, onward, meaning, numbers_of, numbers, Drawable}
 use Rattle.drawing.specs.declared.pen.Pen.{Pen}
 use Rattle.drawing.specs.declared.pen.Turn.{Turn}
-use Rattle.drawing.specs.declared.pen.Turn.TheVariants as Turn
 use Rattle.drawing.proofs.Computed.{computed, is_computed}
 use Rattle.drawing.proofs.Turns.{led}
 use Rattle.drawing.proofs.Walks.{rest, turned}

@@ -13,7 +13,6 @@ use Rattle.drawing.specs.Pen.{fresh, turn_at, drawn_stroke}
 use Rattle.drawing.specs.Drawings.{Drawing, fault, drawn, in_front, onward, walk, meaning, numbers_of}
 use Rattle.drawing.specs.declared.pen.Pen.{Pen}
 use Rattle.drawing.specs.declared.pen.Turn.{Turn}
-use Rattle.drawing.specs.declared.pen.Turn.TheVariants as Turn
 use Rattle.drawing.proofs.Turns.{Leaves, leaves}
 use Rattle.drawing.proofs.Heads.{opened}
 

@@ -12,12 +12,9 @@ use Rattle.format.specs.Format.{record_at}
 use Rattle.format.proofs.Records.{EndsWithin, record_ends}
 use Rattle.drawing.specs.Pen.{same, after, turn, turn_at}
 use Rattle.format.specs.declared.Step.{Step}
-use Rattle.format.specs.declared.Step.TheVariants as Step
 use Rattle.format.specs.declared.Found.{Found}
-use Rattle.format.specs.declared.Found.TheVariants as Found
 use Rattle.drawing.specs.declared.pen.Pen.{Pen}
 use Rattle.drawing.specs.declared.pen.Turn.{Turn}
-use Rattle.drawing.specs.declared.pen.Turn.TheVariants as Turn
 
 abbrev pub Leaves : ℕ → ℕ → Pen → Turn → Type 0
 Leaves n at pen Turn.End = Unit

@@ -16,7 +16,6 @@ use Rattle.drawing.specs.Drawings.{Drawing, fault, drawn, in_front, onward, walk
 use Rattle.drawing.specs.declared.DrawingAnswer.{DrawingAnswer}
 use Rattle.drawing.specs.declared.pen.Pen.{Pen}
 use Rattle.drawing.specs.declared.pen.Turn.{Turn}
-use Rattle.drawing.specs.declared.pen.Turn.TheVariants as Turn
 use Rattle.drawing.proofs.Turns.{Leaves, leaves, led}
 
 -- a turn leads forward, so two walks that agree further on agree here

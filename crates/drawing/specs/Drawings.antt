@@ -28,7 +28,6 @@ use Rattle.format.specs.Format.{head_size, head_fault, window_at}
 use Rattle.drawing.specs.Pen.{fresh, turn_at, drawn_stroke}
 use Rattle.drawing.specs.declared.pen.Pen.{Pen}
 use Rattle.drawing.specs.declared.pen.Turn.{Turn}
-use Rattle.drawing.specs.declared.pen.Turn.TheVariants as Turn
 use Rattle.drawing.specs.declared.DrawingAnswer.{DrawingAnswer}
 
 pub data Drawing : Type 0 where

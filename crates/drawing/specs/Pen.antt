@@ -17,13 +17,10 @@ use Rattle.intake.specs.declared.PointAnswer.{PointAnswer}
 use Rattle.drawing.specs.Intake.{Intake}
 use Rattle.format.specs.Format.{record_at}
 use Rattle.format.specs.declared.Step.{Step}
-use Rattle.format.specs.declared.Step.TheVariants as Step
 use Rattle.format.specs.declared.Found.{Found}
-use Rattle.format.specs.declared.Found.TheVariants as Found
 use Rattle.drawing.specs.declared.pen.Point.{Point}
 use Rattle.drawing.specs.declared.pen.Pen.{Pen}
 use Rattle.drawing.specs.declared.pen.Turn.{Turn}
-use Rattle.drawing.specs.declared.pen.Turn.TheVariants as Turn
 
 unfoldable pub equal : ℤ → ℤ → Bool
 equal a b = le_z a b && le_z b a

@@ -16,7 +16,7 @@ use pen::Turn;
 
 // A refusal's number and place, or the window of a drawing and how many strokes it has.
 #[repr(C)]
-#[derive(Drop)]
+#[derive(Clone, Copy)]
 pub struct DrawingAnswer {
     pub number: u8,
     pub place: usize,

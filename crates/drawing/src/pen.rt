@@ -10,14 +10,14 @@ use grid::Stroke;
 use intake::PointMm;
 
 // A point of the grid.
-#[derive(Drop)]
+#[derive(Clone, Copy)]
 pub struct Point {
     pub x: i32,
     pub y: i32,
 }
 
 // Whether there was a move, where the pen is, where its figure starts, and the strokes so far.
-#[derive(Drop)]
+#[derive(Clone, Copy)]
 pub struct Pen {
     pub moved: bool,
     pub here: Point,
@@ -26,7 +26,7 @@ pub struct Pen {
 }
 
 // What a record does.
-#[derive(Drop)]
+#[derive(Clone, Copy)]
 pub enum Turn {
     // There is no record.
     End,

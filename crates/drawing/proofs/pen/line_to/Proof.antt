@@ -13,59 +13,59 @@ use Rattle.drawing.proofs.pen.line_to.Statement.{statement}
 use Rattle.drawing.proofs.pen.line_to.Tie as tie
 
 -- there was a move
-begun : (c : tie.Else1) → c.before.before.args.pen.moved ≡ true
-begun c = not-false c.before.before.args.pen.moved c.if1.false
+begun : (c : tie.Else-not-pen) → c.before.before.args.pen.moved ≡ true
+begun c = not-false c.before.before.args.pen.moved c.if-not-pen.false
 
-returns : tie.Need-returns
+returns : tie.Need-returns-then-not-pen
 unfolding after
-returns c = by_computed (simp (not-true c.before.before.args.pen.moved c.if1.true))
+returns c = by_computed (simp (not-true c.before.before.args.pen.moved c.if-not-pen.true))
 
-point-to-grid-requires : tie.Need-point-to-grid-requires
+point-to-grid-requires : tie.Need-point_to_grid-a-requires
 point-to-grid-requires c κs = search rules
 
-add-t10 : tie.Need-overflow-add-t10
+add-t10 : tie.Need-overflow_add-result
 add-t10 c = search rules
 
-mul-t11 : tie.Need-overflow-mul-t11
-mul-t11 c = omega (arith, point_place c.before.before.before.point-to-grid.ensures)
+mul-t11 : tie.Need-overflow_mul-result
+mul-t11 c = omega (arith, point_place c.before.before.before.point_to_grid-a.ensures)
 
-add-t12 : tie.Need-overflow-add-t12
-add-t12 c = omega (arith, point_place c.before.before.before.point-to-grid.ensures, c.before.before.before.before.before.before.before.before.requires)
+add-t12 : tie.Need-overflow_add-result-then-a-ne0
+add-t12 c = omega (arith, point_place c.before.before.before.point_to_grid-a.ensures, c.before.before.before.before.before.before.before.before.requires)
 
-returns-2 : tie.Need-returns-2
+returns-2 : tie.Need-returns-then-a-ne0
 unfolding after
 returns-2 c =
     let d = c.before.before.before.before in
     by_computed (simp (
       begun d.before.before,
-      lt-ltb _ _ d.if2.true,
-      ← point_is c.before.before.before.point-to-grid.ensures,
-      ne_eqb _ _ c.before.if3.true,
+      lt-ltb _ _ d.if-pen-lt-MOST_STROKES.true,
+      ← point_is c.before.before.before.point_to_grid-a.ensures,
+      ne_eqb _ _ c.before.if-a-ne0.true,
     ))
 
-drawn-to-requires : tie.Need-drawn-to-requires
+drawn-to-requires : tie.Need-drawn_to-requires
 drawn-to-requires c κs = search rules
 
-returns-3 : tie.Need-returns-3
+returns-3 : tie.Need-returns-then-pen-lt-MOST_STROKES
 unfolding after
 returns-3 c =
     let d = c.before.before.before.before.before in
-    let a = c.before.before.before.before.point-to-grid in
-    let g = c.before.struct_told.given in
+    let a = c.before.before.before.before.point_to_grid-a in
+    let g = c.before.struct_told-1.given in
     by_computed
     (simp (
       begun d.before.before,
-      lt-ltb _ _ d.if2.true,
+      lt-ltb _ _ d.if-pen-lt-MOST_STROKES.true,
       ← point_is a.ensures,
-      eq-eqb _ _ c.before.before.if3.false,
-      c.drawn-to.ensures,
+      eq-eqb _ _ c.before.before.if-a-ne0.false,
+      c.drawn_to.ensures,
       back w32 a.result.x g.1.1.0.1,
       back w32 a.result.y g.1.1.1.0.1,
     ))
 
-returns-4 : tie.Need-returns-4
+returns-4 : tie.Need-returns
 unfolding after
-returns-4 c = by_computed (simp (begun c.before.before, le-ltb _ _ c.if2.false))
+returns-4 c = by_computed (simp (begun c.before.before, le-ltb _ _ c.if-pen-lt-MOST_STROKES.false))
 
 pub line_to_spec : {M : Type 1} → statement M
 line_to_spec =

@@ -10,28 +10,28 @@ use Rattle.drawing.proofs.Computed.{by_computed, point_place}
 use Rattle.drawing.proofs.pen.move_to.Statement.{statement}
 use Rattle.drawing.proofs.pen.move_to.Tie as tie
 
-point-to-grid-requires : tie.Need-point-to-grid-requires
+point-to-grid-requires : tie.Need-point_to_grid-a-requires
 point-to-grid-requires c κs = search rules
 
-add-t10 : tie.Need-overflow-add-t10
+add-t10 : tie.Need-overflow_add-result
 add-t10 c = search rules
 
-mul-t11 : tie.Need-overflow-mul-t11
-mul-t11 c = omega (arith, point_place c.before.before.before.point-to-grid.ensures)
+mul-t11 : tie.Need-overflow_mul-result
+mul-t11 c = omega (arith, point_place c.before.before.before.point_to_grid-a.ensures)
 
-add-t12 : tie.Need-overflow-add-t12
-add-t12 c = omega (arith, point_place c.before.before.before.point-to-grid.ensures)
+add-t12 : tie.Need-overflow_add-result-then-a-ne0
+add-t12 c = omega (arith, point_place c.before.before.before.point_to_grid-a.ensures)
 
-returns : tie.Need-returns
+returns : tie.Need-returns-then-a-ne0
 unfolding after
-returns c = by_computed (simp (← point_is c.before.before.before.point-to-grid.ensures, ne_eqb _ _ c.before.if1.true))
+returns c = by_computed (simp (← point_is c.before.before.before.point_to_grid-a.ensures, ne_eqb _ _ c.before.if-a-ne0.true))
 
-returns-2 : tie.Need-returns-2
+returns-2 : tie.Need-returns
 unfolding after
 returns-2 c =
-    let a = c.before.before.before.point-to-grid in
-    let g = c.struct_told.given in
-    by_computed (simp (← point_is a.ensures, eq-eqb _ _ c.before.if1.false, back w32 a.result.x g.1.1.0.1, back w32 a.result.y g.1.1.1.0.1))
+    let a = c.before.before.before.point_to_grid-a in
+    let g = c.struct_told-1.given in
+    by_computed (simp (← point_is a.ensures, eq-eqb _ _ c.before.if-a-ne0.false, back w32 a.result.x g.1.1.0.1, back w32 a.result.y g.1.1.1.0.1))
 
 pub move_to_spec : {M : Type 1} → statement M
 move_to_spec =
