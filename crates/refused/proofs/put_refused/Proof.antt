@@ -5,34 +5,25 @@ use borrow.Author.Rules.{rules}
 use Rattle.refused.proofs.put_refused.Statement.{statement}
 use Rattle.refused.proofs.put_refused.Tie as tie
 
-put-title-requires : tie.Need-put-title-requires
+put-title-requires : tie.Need-put_title-a-requires
 put-title-requires c κs = search rules
 
-slice-aggregate-put : tie.Need-slice-aggregate-put
-slice-aggregate-put c = search rules
-
-put-requires : tie.Need-put-requires
+put-requires : tie.Need-put-b-requires
 put-requires c κs = search rules
 
-put-refusal-requires : tie.Need-put-refusal-requires
+put-refusal-requires : tie.Need-put_refusal-c-requires
 put-refusal-requires c κs = search rules
 
-slice-aggregate-put-2 : tie.Need-slice-aggregate-put-2
-slice-aggregate-put-2 c = search rules
-
-put-requires-2 : tie.Need-put-requires-2
+put-requires-2 : tie.Need-put-d-requires
 put-requires-2 c κs = search rules
 
-put-meaning-requires : tie.Need-put-meaning-requires
+put-meaning-requires : tie.Need-put_meaning-e-requires
 put-meaning-requires c κs = search rules
 
-slice-aggregate-put-3 : tie.Need-slice-aggregate-put-3
-slice-aggregate-put-3 c = search rules
-
-put-requires-3 : tie.Need-put-requires-3
+put-requires-3 : tie.Need-put-requires
 put-requires-3 c κs = search rules
 
-same_length : tie.Need-same-length
+same_length : tie.Need-shape_of-page
 same_length c = search rules
 
 returns : tie.Need-returns
@@ -44,12 +35,12 @@ returns c =
     let at₃ = at₄.before.before.before.before.before in
     let at₂ = at₃.before.before.before.before in
     let at₁ = at₂.before.before.before.before.before in
-    let p = at₁.put-title.ensures in
-    let q = at₂.put.ensures in
-    let r = at₃.put-refusal.ensures in
-    let s = at₄.put2.ensures in
-    let t = at₅.put-meaning.ensures in
-    let u = at₆.put3.ensures in
+    let p = at₁.put_title-a.ensures in
+    let q = at₂.put-b.ensures in
+    let r = at₃.put_refusal-c.ensures in
+    let s = at₄.put-d.ensures in
+    let t = at₅.put_meaning-e.ensures in
+    let u = at₆.put.ensures in
     put_then (put_then (put_then (put_then (put_then p.0 q) r.0) s) t.0) u
 
 pub put_refused_spec : {M : Type 1} → statement M
@@ -57,13 +48,10 @@ put_refused_spec =
     tie.close
     (tie.spec
     put-title-requires
-    slice-aggregate-put
     put-requires
     put-refusal-requires
-    slice-aggregate-put-2
     put-requires-2
     put-meaning-requires
-    slice-aggregate-put-3
     put-requires-3
     same_length
     returns)
