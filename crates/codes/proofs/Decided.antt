@@ -6,7 +6,7 @@ use Prim.Native.Nat.{ℕ, ◌/◌, ◌%◌, ◌^◌, ◌<◌, ◌≤◌}
 use lib.Bits.{bit_and, bit_or}
 use lib.Count.{count_trailing_zeros}
 use lib.Dec.{T, eqb, leb, ltb, eqb→eq, eqb_refl, ltb→lt, le→leb, lt→ltb, not_T}
-use lib.IntN.{ℤ, pos}
+use lib.IntN.{pos}
 use lib.Signed.{◌≤ℤ◌, ◌<ℤ◌, lt_z, lt_z_yes, lt_z_no}
 use mir.Facts.{and_yes, yes_and}
 use Rattle.whole.specs.Choice.{if◌then◌else◌}

@@ -32,14 +32,14 @@ const ABOVE_BIT: u8 = 8;
 
 // How often the rule shortened the stroke, and a stroke call's answer, in this order, so that the sides come last here too.
 #[repr(C)]
-#[derive(Drop)]
+#[derive(Clone, Copy)]
 pub struct CountedAnswer {
     pub shortenings: u32,
     pub answer: StrokeAnswer,
 }
 
 // The part of a stroke from one fraction of its way to another, with the codes a and b of its two points, and the sides that these were shortened at last.
-#[derive(Drop)]
+#[derive(Clone, Copy)]
 struct Piece {
     start: Fraction,
     end: Fraction,

@@ -29,7 +29,7 @@ returns c =
     let s = a.requires.1.0 in
     let across = c.before.before.before.before.before.outside.ensures
     ∙ (λ i. outside_of (read_is w.left i) (read_is w.right i) (read_is s.x1 i) (read_is s.x2 i) a.args.t 1 2) in
-    let up = c.outside2.ensures ∙ (λ i. outside_of (read_is w.bottom i) (read_is w.top i) (read_is s.y1 i) (read_is s.y2 i) a.args.t 4 8) in
+    let up = c.outside-2.ensures ∙ (λ i. outside_of (read_is w.bottom i) (read_is w.top i) (read_is s.y1 i) (read_is s.y2 i) a.args.t 4 8) in
     λ i. bit_or (across i) (up i)
 
 pub code_spec : {M : Type 1} → statement M

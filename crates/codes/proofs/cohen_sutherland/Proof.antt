@@ -21,45 +21,45 @@ abbrev counted : Refusal → CountedAnswer
 counted r = record { answer = blank r; shortenings = 0 }
 
 -- what the tests of the two refusals say
-window_bad : (c : tie.Then1) → (window_refusal c.before.before.before.args.w).number ≡ 0 → ⊥
-window_bad c z = c.if1.true (ap (λ (r : Refusal). r.number) c.before.before.window-refusal.ensures ∙ z)
+window_bad : (c : tie.Then-window-ne0) → (window_refusal c.before.before.before.args.w).number ≡ 0 → ⊥
+window_bad c z = c.if-window-ne0.true (ap (λ (r : Refusal). r.number) c.before.before.window_refusal-window.ensures ∙ z)
 
-window_good : (c : tie.Else1) → (window_refusal c.before.before.before.args.w).number ≡ 0
-window_good c = ap (λ (r : Refusal). r.number) (sym c.before.before.window-refusal.ensures) ∙ c.if1.false
+window_good : (c : tie.Else-window-ne0) → (window_refusal c.before.before.before.args.w).number ≡ 0
+window_good c = ap (λ (r : Refusal). r.number) (sym c.before.before.window_refusal-window.ensures) ∙ c.if-window-ne0.false
 
-stroke_bad : (c : tie.Then2) → (stroke_refusal c.before.before.before.before.before.before.args.s).number ≡ 0 → ⊥
-stroke_bad c z = c.if2.true (ap (λ (r : Refusal). r.number) c.before.before.stroke-refusal.ensures ∙ z)
+stroke_bad : (c : tie.Then-stroke-ne0) → (stroke_refusal c.before.before.before.before.before.before.args.s).number ≡ 0 → ⊥
+stroke_bad c z = c.if-stroke-ne0.true (ap (λ (r : Refusal). r.number) c.before.before.stroke_refusal-stroke.ensures ∙ z)
 
-stroke_good : (c : tie.Else2) → (stroke_refusal c.before.before.before.before.before.before.args.s).number ≡ 0
-stroke_good c = ap (λ (r : Refusal). r.number) (sym c.before.before.stroke-refusal.ensures) ∙ c.if2.false
+stroke_good : (c : tie.Else-stroke-ne0) → (stroke_refusal c.before.before.before.before.before.before.args.s).number ≡ 0
+stroke_good c = ap (λ (r : Refusal). r.number) (sym c.before.before.stroke_refusal-stroke.ensures) ∙ c.if-stroke-ne0.false
 
-window-refusal-requires : tie.Need-window-refusal-requires
+window-refusal-requires : tie.Need-window_refusal-window-requires
 window-refusal-requires c κs = search rules
 
 refused-requires : tie.Need-refused-requires
 refused-requires c κs = search rules
 
-returns : tie.Need-returns
+returns : tie.Need-returns-then-window-ne0
 returns c =
     let n = window_bad c.before in
-    refused (λ z. n (nothing_refused _ _ z).0) (refused_window n) (c.refused.ensures ∙ ap counted c.before.before.before.window-refusal.ensures)
+    refused (λ z. n (nothing_refused _ _ z).0) (refused_window n) (c.refused.ensures ∙ ap counted c.before.before.before.window_refusal-window.ensures)
 
-stroke-refusal-requires : tie.Need-stroke-refusal-requires
+stroke-refusal-requires : tie.Need-stroke_refusal-stroke-requires
 stroke-refusal-requires c κs = search rules
 
-refused-requires-2 : tie.Need-refused-requires-2
+refused-requires-2 : tie.Need-refused-requires-then-stroke-ne0
 refused-requires-2 c κs = search rules
 
-returns-2 : tie.Need-returns-2
+returns-2 : tie.Need-returns-then-stroke-ne0
 returns-2 c =
     let n = stroke_bad c.before in
     refused (λ z. n (nothing_refused _ _ z).1) (refused_stroke (window_good c.before.before.before.before) n)
-    (c.refused2.ensures ∙ ap counted c.before.before.before.stroke-refusal.ensures)
+    (c.refused-then-stroke-ne0.ensures ∙ ap counted c.before.before.before.stroke_refusal-stroke.ensures)
 
 clipped-requires : tie.Need-clipped-requires
 clipped-requires c κs = (window_on_table _ (window_good c.before.before.before), stroke_on_table _ (stroke_good c))
 
-returns-3 : tie.Need-returns-3
+returns-3 : tie.Need-returns
 returns-3 c =
     let z = window_good c.before.before.before.before in
     let y = stroke_good c.before in

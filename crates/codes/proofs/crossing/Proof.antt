@@ -31,30 +31,30 @@ arm : (k : Side) {n : ℕ} → n ≡ place_of k → side_at n ≡ k
 arm k e = ap side_at e ∙ side_of k
 
 meeting-requires : tie.Need-meeting-requires
-meeting-requires c κs = let m = c.before.before.before in let p = m.before.requires in asked left p.0 p.1.0 (arm left m.match.keys1) p.1.1
+meeting-requires c κs = let m = c.before.before.before in let p = m.before.requires in asked left p.0 p.1.0 (arm left m.in-0.is) p.1.1
 
-meeting-requires-2 : tie.Need-meeting-requires-2
-meeting-requires-2 c κs = let m = c.before.before.before in let p = m.before.requires in asked right p.0 p.1.0 (arm right m.match.keys2) p.1.1
+meeting-requires-2 : tie.Need-meeting-requires-in-1
+meeting-requires-2 c κs = let m = c.before.before.before in let p = m.before.requires in asked right p.0 p.1.0 (arm right m.in-1.is) p.1.1
 
-meeting-requires-3 : tie.Need-meeting-requires-3
-meeting-requires-3 c κs = let m = c.before.before.before in let p = m.before.requires in asked bottom p.0 p.1.0 (arm bottom m.match.keys3) p.1.1
+meeting-requires-3 : tie.Need-meeting-requires-in-2
+meeting-requires-3 c κs = let m = c.before.before.before in let p = m.before.requires in asked bottom p.0 p.1.0 (arm bottom m.in-2.is) p.1.1
 
-meeting-requires-4 : tie.Need-meeting-requires-4
+meeting-requires-4 : tie.Need-meeting-requires-in_default
 meeting-requires-4 c κs = let m = c.before.before.before in let p = m.before.requires in
-    asked top p.0 p.1.0 (top_of _ m.match.rest.0.0.1 m.match.rest.0.1 m.match.rest.1) p.1.1
+    asked top p.0 p.1.0 (top_of _ m.in_default.in_default-own.rest.0.0.1 m.in_default.in_default-own.rest.0.1 m.in_default.in_default-own.rest.1) p.1.1
 
-returns : tie.Need-returns
-returns c = let m = c.before.before.before.before in let p = m.before.requires in met left p.0 p.1.0 (arm left m.match.keys1) c.meeting.ensures
+returns : tie.Need-returns-in-0
+returns c = let m = c.before.before.before.before in let p = m.before.requires in met left p.0 p.1.0 (arm left m.in-0.is) c.meeting.ensures
 
-returns-2 : tie.Need-returns-2
-returns-2 c = let m = c.before.before.before.before in let p = m.before.requires in met right p.0 p.1.0 (arm right m.match.keys2) c.meeting2.ensures
+returns-2 : tie.Need-returns-in-1
+returns-2 c = let m = c.before.before.before.before in let p = m.before.requires in met right p.0 p.1.0 (arm right m.in-1.is) c.meeting-in-1.ensures
 
-returns-3 : tie.Need-returns-3
-returns-3 c = let m = c.before.before.before.before in let p = m.before.requires in met bottom p.0 p.1.0 (arm bottom m.match.keys3) c.meeting3.ensures
+returns-3 : tie.Need-returns-in-2
+returns-3 c = let m = c.before.before.before.before in let p = m.before.requires in met bottom p.0 p.1.0 (arm bottom m.in-2.is) c.meeting-in-2.ensures
 
-returns-4 : tie.Need-returns-4
+returns-4 : tie.Need-returns-in_default
 returns-4 c = let m = c.before.before.before.before in let p = m.before.requires in
-    met top p.0 p.1.0 (top_of _ m.match.rest.0.0.1 m.match.rest.0.1 m.match.rest.1) c.meeting4.ensures
+    met top p.0 p.1.0 (top_of _ m.in_default.in_default-own.rest.0.0.1 m.in_default.in_default-own.rest.0.1 m.in_default.in_default-own.rest.1) c.meeting-in_default.ensures
 
 pub crossing_spec : {M : Type 1} → statement M
 crossing_spec = tie.close (tie.spec meeting-requires meeting-requires-2 meeting-requires-3 meeting-requires-4 returns returns-2 returns-3 returns-4)

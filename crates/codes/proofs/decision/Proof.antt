@@ -6,13 +6,13 @@ use Rattle.codes.proofs.Everywhere.{tabulated}
 use Rattle.codes.proofs.decision.Statement.{statement}
 use Rattle.codes.proofs.decision.Tie as tie
 
-mul-result : tie.Need-overflow-mul-result
+mul-result : tie.Need-overflow_mul-result
 mul-result c = search rules
 
-add-result : tie.Need-overflow-add-result
+add-result : tie.Need-overflow_add-result
 add-result c = search rules
 
-array-read-result : tie.Need-array-read-result
+array-read-result : tie.Need-bounds-a
 array-read-result c = search rules
 
 returns : tie.Need-returns

@@ -50,35 +50,35 @@ num_range c = omega (zarith, num_is c, den_is c, c.requires.1.time.high)
 abbrev made : tie.Start → ℤ → ℤ → Type 0
 made c x y = EndAt c.args.s c.args.t c.args.side (record { t = c.args.t; x = x; y = y; side = c.args.side })
 
-returns : tie.Need-returns
+returns : tie.Need-returns-then-t-eq0
 returns c =
     let a = c.before.before.before.before in
     let s = a.requires.0 in
     subst₂ (made a) (sym (read_is s.x1)) (sym (read_is s.y1))
     (record {
       t = refl;
-      point = point_start a.requires.1.time.den (bits_eq w64 (small_fits (num_small a)) (sfits_lit {z = pos 0} tt) c.before.if1.true);
+      point = point_start a.requires.1.time.den (bits_eq w64 (small_fits (num_small a)) (sfits_lit {z = pos 0} tt) c.before.if-t-eq0.true);
       side = refl;
     })
 
-returns-2 : tie.Need-returns-2
+returns-2 : tie.Need-returns-then-t
 returns-2 c =
     let a = c.before.before.before.before.before.before.before in
     let s = a.requires.0 in
     subst₂ (made a) (sym (read_is s.x2)) (sym (read_is s.y2))
     (record {
       t = refl;
-      point = point_finish a.requires.1.time.den (bits_eq w64 (small_fits (num_small a)) (small_fits a.requires.1.small) c.before.if2.true);
+      point = point_finish a.requires.1.time.den (bits_eq w64 (small_fits (num_small a)) (small_fits a.requires.1.small) c.before.if-t.true);
       side = refl;
     })
 
 -- ---- between them
-cast-n : tie.Need-overflow-cast-n
+cast-n : tie.Need-overflow_cast-n
 cast-n c =
     let a = c.before.before.before.before.before.before.before.before in
     cast_unsigned w64 (small_fits (num_small a)) a.requires.1.time.low w32 (omega (arith, within_abs (num_small a)))
 
-cast-d : tie.Need-overflow-cast-d
+cast-d : tie.Need-overflow_cast-d
 cast-d c =
     let a = c.before.before.before.before.before.before.before.before.before.before in
     cast_unsigned w64 (small_fits a.requires.1.small) (den_positive a) w32 (omega (arith, within_abs a.requires.1.small))
@@ -101,13 +101,13 @@ plain : (c : tie.Start) {a b r : ℤ} → Within farthest a → Within farthest 
     → Rounded (along a b c.args.t.num c.args.t.den) c.args.t.den r
 plain c {a} {b} {r} ha hb k = transport (λ i. Rounded (along a b (num_is c i) (den_is c i)) (den_is c i) r) (rounded_plain (pos (cast c.args.t.num)) ha hb k)
 
-returns-3 : tie.Need-returns-3
+returns-3 : tie.Need-returns
 returns-3 c =
     let a = c.before.before.before.before.before.before.before.before.before.before.before.before.before.before.before.before in
     let s = a.requires.0 in
     let k = c.before.before.before in
-    subst₂ (made a) (sym (back w32 _ k.rounded.type-inv)) (sym (back w32 _ c.rounded2.type-inv))
-    (record { t = refl; point = record { across = plain a s.x1 s.x2 k.rounded.ensures; up = plain a s.y1 s.y2 c.rounded2.ensures }; side = refl })
+    subst₂ (made a) (sym (back w32 _ k.rounded.type_inv)) (sym (back w32 _ c.rounded-2.type_inv))
+    (record { t = refl; point = record { across = plain a s.x1 s.x2 k.rounded.ensures; up = plain a s.y1 s.y2 c.rounded-2.ensures }; side = refl })
 
 pub end_at_spec : {M : Type 1} → statement M
 end_at_spec = tie.close (tie.spec returns returns-2 cast-n cast-d rounded-requires rounded-requires-2 returns-3)

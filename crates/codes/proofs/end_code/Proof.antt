@@ -19,10 +19,10 @@ returns : tie.Need-returns
 returns c =
     let st = c.before.before.before.before.before.before in
     let w = st.args.w in
-    let g = c.before.before.before.before.before.struct_told.given in
+    let g = c.before.before.before.before.before.struct_told-1.given in
     let across = c.before.before.before.marks.ensures
     ∙ (λ i. marks_of (back w32 w.left g.0.1 i) (back w32 w.right g.1.1.0.1 i) (to_z-of_z st.ranges.x i) 1 2) in
-    let up = c.marks2.ensures ∙ (λ i. marks_of (back w32 w.bottom g.1.0.1 i) (back w32 w.top g.1.1.1.0.1 i) (to_z-of_z st.ranges.y i) 4 8) in
+    let up = c.marks-2.ensures ∙ (λ i. marks_of (back w32 w.bottom g.1.0.1 i) (back w32 w.top g.1.1.1.0.1 i) (to_z-of_z st.ranges.y i) 4 8) in
     λ i. bit_or (across i) (up i)
 
 pub end_code_spec : {M : Type 1} → statement M

@@ -11,30 +11,30 @@ use Rattle.strokes.proofs.Answers.{span_kept}
 use Rattle.codes.proofs.kept.Statement.{statement}
 use Rattle.codes.proofs.kept.Tie as tie
 
-end-at-requires : tie.Need-end-at-requires
+end-at-requires : tie.Need-end_at-a-requires
 end-at-requires c κs = search rules
 
-end-at-requires-2 : tie.Need-end-at-requires-2
+end-at-requires-2 : tie.Need-end_at-b-requires
 end-at-requires-2 c κs = search rules
 
-kept-answer-requires : tie.Need-kept-answer-requires
+kept-answer-requires : tie.Need-kept_answer-answer-requires
 kept-answer-requires c κs =
     let p = c.before.before.requires.1 in
-    (subst OnWay (sym c.before.end_at.ensures.t) p.start, subst OnWay (sym c.end-at2.ensures.t) p.end)
+    (subst OnWay (sym c.before.end_at-a.ensures.t) p.start, subst OnWay (sym c.end_at-b.ensures.t) p.end)
 
 returns : tie.Need-returns
 returns c =
     let a = c.before.before.before in
-    let p = c.before.before.end_at in
-    let q = c.before.end-at2 in
-    let r = c.kept-answer.ensures in record {
+    let p = c.before.before.end_at-a in
+    let q = c.before.end_at-b in
+    let r = c.kept_answer-answer.ensures in record {
       clipped = λ w g i o.
           subst (Clipped w a.args.s) (sym r.answer)
           (span_kept g a.requires.1.order p.result q.result p.ensures.point q.ensures.point
           (subst (StartSide (conditions w a.args.s) a.args.p.start) (sym p.ensures.side) i)
           (subst (EndSide (conditions w a.args.s) a.args.p.end) (sym q.ensures.side) o)
-          (subst (λ (f : Fraction). LowestOf f.num f.den c.kept-answer.result.t0) p.ensures.t r.first)
-          (subst (λ (f : Fraction). LowestOf f.num f.den c.kept-answer.result.t1) q.ensures.t r.last));
+          (subst (λ (f : Fraction). LowestOf f.num f.den c.kept_answer-answer.result.t0) p.ensures.t r.first)
+          (subst (λ (f : Fraction). LowestOf f.num f.den c.kept_answer-answer.result.t1) q.ensures.t r.last));
       count = refl;
     }
 

@@ -19,7 +19,7 @@ returns c =
     let f = c.before.before.ranges in
     let a = c.before.before.args in
     let low = c.before.mark.ensures ∙ (λ i. if lt_z (to_z-of_z f.x i) (to_z-of_z f.lo i) then a.under else 0) in
-    let high = c.mark2.ensures ∙ (λ i. if lt_z (to_z-of_z f.hi i) (to_z-of_z f.x i) then a.over else 0) in
+    let high = c.mark-2.ensures ∙ (λ i. if lt_z (to_z-of_z f.hi i) (to_z-of_z f.x i) then a.over else 0) in
     λ i. bit_or (low i) (high i)
 
 pub marks_spec : {M : Type 1} → statement M

@@ -33,37 +33,37 @@ wide i = cast w64 (run i)
 abbrev minus : ℕ → Code
 minus i = sub w64 (lit (pos 0)) (wide i)
 
-sub-n : tie.Need-overflow-sub-n
+sub-n : tie.Need-overflow_sub-n
 sub-n c = need β (env c) (bounds c) (run 0) tt
 
-cast-n : tie.Need-overflow-cast-n
+cast-n : tie.Need-overflow_cast-n
 cast-n c = need β (env c) (bounds c) (wide 0) tt
 
-sub-d : tie.Need-overflow-sub-d
+sub-d : tie.Need-overflow_sub-d
 sub-d c = need β (env c) (bounds c) (run 2) tt
 
-cast-d : tie.Need-overflow-cast-d
+cast-d : tie.Need-overflow_cast-d
 cast-d c = need β (env c) (bounds c) (wide 2) tt
 
-sub-t8 : tie.Need-overflow-sub-t8
+sub-t8 : tie.Need-overflow_sub-result
 sub-t8 c = need β (env c.before) (bounds c.before) (minus 0) tt
 
-sub-t9 : tie.Need-overflow-sub-t9
+sub-t9 : tie.Need-overflow_sub-result-then-d-lt0
 sub-t9 c = need β (env c.before) (bounds c.before) (minus 2) tt
 
-returns : tie.Need-returns
+returns : tie.Need-returns-then-d-lt0
 returns c =
     let a = c.before in
     let v = value β (env a) (bounds a) in
     subst (WayMeets a.args.c a.args.a a.args.b) (sym (λ i. record { num = v (minus 0) tt i; den = v (minus 2) tt i }))
-    (meets_back a.requires.0 a.requires.1.0 a.requires.1.1.0 (lt_yes (v (wide 2) tt) refl c.if1.true))
+    (meets_back a.requires.0 a.requires.1.0 a.requires.1.1.0 (lt_yes (v (wide 2) tt) refl c.if-d-lt0.true))
 
-returns-2 : tie.Need-returns-2
+returns-2 : tie.Need-returns
 returns-2 c =
     let a = c.before in
     let v = value β (env a) (bounds a) in
     subst (WayMeets a.args.c a.args.a a.args.b) (sym (λ i. record { num = v (wide 0) tt i; den = v (wide 2) tt i }))
-    (meets_on a.requires.0 a.requires.1.0 a.requires.1.1.0 (lt_no (v (wide 2) tt) refl c.if1.false) a.requires.1.1.1)
+    (meets_on a.requires.0 a.requires.1.0 a.requires.1.1.0 (lt_no (v (wide 2) tt) refl c.if-d-lt0.false) a.requires.1.1.1)
 
 pub meeting_spec : {M : Type 1} → statement M
 meeting_spec = tie.close (tie.spec sub-n cast-n sub-d cast-d sub-t8 sub-t9 returns returns-2)

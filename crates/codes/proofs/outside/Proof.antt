@@ -44,37 +44,37 @@ part = mul w64 (par w64 4) (cast w64 run)
 abbrev x : Code
 x = add w64 (times 2) part
 
-cast-x : tie.Need-overflow-cast-x
+cast-x : tie.Need-overflow_cast-x
 cast-x c = need β (env c) (bounds c) (cast w64 (par w32 2)) tt
 
-mul-x : tie.Need-overflow-mul-x
+mul-x : tie.Need-overflow_mul-x
 mul-x c = let a = c.before.before in need β (env a) (bounds a) (times 2) tt
 
-sub-x : tie.Need-overflow-sub-x
+sub-x : tie.Need-overflow_sub-x
 sub-x c = let a = c.before.before in need β (env a) (bounds a) run tt
 
-cast-x-2 : tie.Need-overflow-cast-x-2
+cast-x-2 : tie.Need-overflow_cast-x-2
 cast-x-2 c = let a = c.before.before in need β (env a) (bounds a) (cast w64 run) tt
 
-mul-x-2 : tie.Need-overflow-mul-x-2
+mul-x-2 : tie.Need-overflow_mul-x-2
 mul-x-2 c = let a = c.before.before.before.before in need β (env a) (bounds a) part tt
 
-add-x : tie.Need-overflow-add-x
+add-x : tie.Need-overflow_add-x
 add-x c = let a = c.before.before.before.before in need β (env a) (bounds a) x tt
 
-cast-mark : tie.Need-overflow-cast-mark
+cast-mark : tie.Need-overflow_cast-lo
 cast-mark c = let a = c.before.before.before.before in need β (env a) (bounds a) (cast w64 (par w32 0)) tt
 
-mul-mark : tie.Need-overflow-mul-mark
+mul-mark : tie.Need-overflow_mul-lo
 mul-mark c = let a = c.before.before.before.before.before.before in need β (env a) (bounds a) (times 0) tt
 
 mark-requires : tie.Need-mark-requires
 mark-requires c κs = search rules
 
-cast-mark-2 : tie.Need-overflow-cast-mark-2
+cast-mark-2 : tie.Need-overflow_cast-hi
 cast-mark-2 c = let a = c.before.before.before.before.before.before.before in need β (env a) (bounds a) (cast w64 (par w32 1)) tt
 
-mul-mark-2 : tie.Need-overflow-mul-mark-2
+mul-mark-2 : tie.Need-overflow_mul-hi
 mul-mark-2 c = let a = c.before.before.before.before.before.before.before.before.before in need β (env a) (bounds a) (times 1) tt
 
 mark-requires-2 : tie.Need-mark-requires-2
@@ -92,7 +92,7 @@ returns : tie.Need-returns
 returns c =
     let a = c.before.before.before.before.before.before.before.before.before.before in
     λ i. bit_or (marked a.args.under c.before.before.before.mark.ensures (tested a x (times 0) tt tt) i)
-    (marked a.args.over c.mark2.ensures (tested a (times 1) x tt tt) i)
+    (marked a.args.over c.mark-2.ensures (tested a (times 1) x tt tt) i)
 
 pub outside_spec : {M : Type 1} → statement M
 outside_spec = tie.close (tie.spec cast-x mul-x sub-x cast-x-2 mul-x-2 add-x cast-mark mul-mark mark-requires cast-mark-2 mul-mark-2 mark-requires-2 returns)

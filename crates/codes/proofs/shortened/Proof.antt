@@ -22,13 +22,13 @@ side_a c = side_at (lowest_bit c.args.p.a)
 abbrev side_b : tie.Start → Side
 side_b c = side_at (lowest_bit c.args.p.b)
 
-starts : (c : tie.Then1) → what c.before ≡ shorten_start (place_of (side_a c.before))
-starts c = let q = c.before.requires.1.1 in decided_start q.0 q.1.0 q.1.1 c.if1.true
+starts : (c : tie.Then-decided-lt-SHORTEN_END) → what c.before ≡ shorten_start (place_of (side_a c.before))
+starts c = let q = c.before.requires.1.1 in decided_start q.0 q.1.0 q.1.1 c.if-decided-lt-SHORTEN_END.true
 
-ends : (c : tie.Else1) → what c.before ≡ shorten_end (place_of (side_b c.before))
-ends c = let q = c.before.requires.1.1 in decided_end q.0 q.1.0 c.if1.false
+ends : (c : tie.Else-decided-lt-SHORTEN_END) → what c.before ≡ shorten_end (place_of (side_b c.before))
+ends c = let q = c.before.requires.1.1 in decided_end q.0 q.1.0 c.if-decided-lt-SHORTEN_END.false
 
-crossing-requires : tie.Need-crossing-requires
+crossing-requires : tie.Need-crossing-start-requires
 crossing-requires c κs =
     let a = c.before.before in
     (a.requires.0, (a.requires.1.0, start_apart a.requires.1.1.0 (side_a a) (starts c.before)))
@@ -37,24 +37,24 @@ code-requires : tie.Need-code-requires
 code-requires c κs =
     let t = c.before.before.before in
     let a = t.before in
-    (a.requires.0, (a.requires.1.0, (start_part a.requires.1.1.0 (side_a a) (starts t) c.before.crossing.ensures).start))
+    (a.requires.0, (a.requires.1.0, (start_part a.requires.1.1.0 (side_a a) (starts t) c.before.crossing-start.ensures).start))
 
 -- the number of a side, which is below 4, fits a byte
-place_a : (c : tie.Then1) → place_of (side_a c.before) ≡ lowest_bit c.before.args.p.a
-place_a c = let q = c.before.requires.1.1 in place_start q.0 q.1.0 q.1.1 c.if1.true
+place_a : (c : tie.Then-decided-lt-SHORTEN_END) → place_of (side_a c.before) ≡ lowest_bit c.before.args.p.a
+place_a c = let q = c.before.requires.1.1 in place_start q.0 q.1.0 q.1.1 c.if-decided-lt-SHORTEN_END.true
 
-place_b : (c : tie.Else1) → place_of (side_b c.before) ≡ lowest_bit c.before.args.p.b
-place_b c = let q = c.before.requires.1.1 in place_end q.0 q.1.0 c.if1.false
+place_b : (c : tie.Else-decided-lt-SHORTEN_END) → place_of (side_b c.before) ≡ lowest_bit c.before.args.p.b
+place_b c = let q = c.before.requires.1.1 in place_end q.0 q.1.0 c.if-decided-lt-SHORTEN_END.false
 
-cast-t13 : tie.Need-overflow-cast-t13
+cast-t13 : tie.Need-overflow_cast-result
 cast-t13 c = let t = c.before.before.before.before in record { fits = omega (arith, place_a t, place_small (side_a t.before)) }
 
-returns : tie.Need-returns
+returns : tie.Need-returns-then-decided-lt-SHORTEN_END
 returns c =
     let t = c.before.before.before.before in
     let a = t.before in
     let h = a.requires.1.1.0 in
-    let m = c.before.before.crossing.ensures in record {
+    let m = c.before.before.crossing-start.ensures in record {
       step = start (side_a a) (starts t) m.line;
       piece = record {
         part = start_part h (side_a a) (starts t) m;
@@ -65,7 +65,7 @@ returns c =
       };
     }
 
-crossing-requires-2 : tie.Need-crossing-requires-2
+crossing-requires-2 : tie.Need-crossing-end-requires
 crossing-requires-2 c κs =
     let t = c.before.before in
     let a = t.before in
@@ -75,22 +75,22 @@ code-requires-2 : tie.Need-code-requires-2
 code-requires-2 c κs =
     let t = c.before.before.before in
     let a = t.before in
-    (a.requires.0, (a.requires.1.0, (end_part a.requires.1.1.0 (side_b a) (ends t) c.crossing2.ensures).end))
+    (a.requires.0, (a.requires.1.0, (end_part a.requires.1.1.0 (side_b a) (ends t) c.crossing-end.ensures).end))
 
-cast-t15 : tie.Need-overflow-cast-t15
+cast-t15 : tie.Need-overflow_cast-result-2
 cast-t15 c = let t = c.before.before.before.before in record { fits = omega (arith, place_b t, place_small (side_b t.before)) }
 
-returns-2 : tie.Need-returns-2
+returns-2 : tie.Need-returns
 returns-2 c =
     let t = c.before.before.before.before in
     let a = t.before in
     let h = a.requires.1.1.0 in
-    let m = c.before.crossing2.ensures in record {
+    let m = c.before.crossing-end.ensures in record {
       step = end (side_b a) (ends t) m.line;
       piece = record {
         part = end_part h (side_b a) (ends t) m;
         a = h.a;
-        b = c.code2.ensures;
+        b = c.code-2.ensures;
         start_side = h.start_side;
         end_side = subst (EndSide (conditions a.args.w a.args.s) _) (place_b t) (end_fixed h (side_b a) (ends t) m);
       };

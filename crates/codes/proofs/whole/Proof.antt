@@ -6,7 +6,7 @@ use Rattle.codes.specs.declared.CountedAnswer.{CountedAnswer}
 use Rattle.codes.proofs.whole.Statement.{statement}
 use Rattle.codes.proofs.whole.Tie as tie
 
-whole-answer-requires : tie.Need-whole-answer-requires
+whole-answer-requires : tie.Need-whole_answer-requires
 whole-answer-requires c κs = search rules
 
 returns : tie.Need-returns
