@@ -6,17 +6,17 @@ use borrow.Author.Rules.{rules}
 use Rattle.dots.proofs.number_at.Statement.{statement}
 use Rattle.dots.proofs.number_at.Tie as tie
 
-mul-result : tie.Need-overflow-mul-result
+mul-result : tie.Need-offset_bounds-xs-i
 mul-result c = search rules
 
-shared-slice-copy-out-result : tie.Need-shared-slice-copy-out-result
+shared-slice-copy-out-result : tie.Need-bounds-xs-i
 shared-slice-copy-out-result c = search rules
 
-returns : tie.Need-returns
+returns : tie.Need-returns-then-i-xs
 returns c = search rules
 
-returns-2 : tie.Need-returns-2
-returns-2 c = sym (get_or-eq_default c.before.args.xs.now (pos 0) c.if1.false)
+returns-2 : tie.Need-returns
+returns-2 c = sym (get_or-eq_default c.before.args.xs.now (pos 0) c.if-i-xs.false)
 
 pub number_at_spec : {M : Type 1} → statement M
 number_at_spec = tie.close (tie.spec mul-result shared-slice-copy-out-result returns returns-2)

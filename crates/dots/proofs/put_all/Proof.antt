@@ -6,37 +6,28 @@ use borrow.Author.Rules.{rules}
 use Rattle.dots.proofs.put_all.Statement.{statement}
 use Rattle.dots.proofs.put_all.Tie as tie
 
-slice-aggregate-put-start : tie.Need-slice-aggregate-put-start
-slice-aggregate-put-start c = search rules
-
-mul-put-start : tie.Need-overflow-mul-put-start
+mul-put-start : tie.Need-overflow_mul-e
 mul-put-start c = search rules
 
-put-start-requires : tie.Need-put-start-requires
+put-start-requires : tie.Need-put_start-a-requires
 put-start-requires c κs = search rules
 
-put-points-requires : tie.Need-put-points-requires
+put-points-requires : tie.Need-put_points-b-requires
 put-points-requires c κs = search rules
 
-slice-aggregate-put-start-2 : tie.Need-slice-aggregate-put-start-2
-slice-aggregate-put-start-2 c = search rules
-
-mul-put-start-2 : tie.Need-overflow-mul-put-start-2
+mul-put-start-2 : tie.Need-overflow_mul-e-2
 mul-put-start-2 c = search rules
 
-put-start-requires-2 : tie.Need-put-start-requires-2
+put-start-requires-2 : tie.Need-put_start-c-requires
 put-start-requires-2 c κs = search rules
 
-put-points-requires-2 : tie.Need-put-points-requires-2
+put-points-requires-2 : tie.Need-put_points-d-requires
 put-points-requires-2 c κs = search rules
-
-slice-aggregate-put : tie.Need-slice-aggregate-put
-slice-aggregate-put c = search rules
 
 put-requires : tie.Need-put-requires
 put-requires c κs = search rules
 
-same_length : tie.Need-same-length
+same_length : tie.Need-shape_of-page
 same_length c = search rules
 
 returns : tie.Need-returns
@@ -47,10 +38,10 @@ returns c =
     let at₃ = at₄.before.before.before.before in
     let at₂ = at₃.before.before.before.before.before in
     let at₁ = at₂.before.before.before.before in
-    let p = at₁.put-start.ensures in
-    let q = at₂.put-points.ensures in
-    let r = at₃.put-start2.ensures in
-    let s = at₄.put-points2.ensures in
+    let p = at₁.put_start-a.ensures in
+    let q = at₂.put_points-b.ensures in
+    let r = at₃.put_start-c.ensures in
+    let s = at₄.put_points-d.ensures in
     let t = at₅.put.ensures in
     (put_then (put_then (put_then (put_then p.0 q.0) r.0) s.0) t, omega (arith, p.1, q.1, r.1, s.1, t.ends))
 
@@ -58,15 +49,12 @@ pub put_all_spec : {M : Type 1} → statement M
 put_all_spec =
     tie.close
     (tie.spec
-    slice-aggregate-put-start
     mul-put-start
     put-start-requires
     put-points-requires
-    slice-aggregate-put-start-2
     mul-put-start-2
     put-start-requires-2
     put-points-requires-2
-    slice-aggregate-put
     put-requires
     same_length
     returns)
