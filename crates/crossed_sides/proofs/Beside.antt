@@ -1,11 +1,10 @@
 -- Where two products put a corner beyond the line, the other three lie on the same side of it: from corner to corner the cross product changes by
 -- the stroke's way times a side of the window, and in each direction this corner is the one that lies nearest to the line or across it.
-use mathlib.Core.List.{[], ◌∷◌}
 use mathlib.Core.Logic.{inl, inr}
-use lib.IntN.{pos, ◌*ℤ◌}
+use lib.IntN.{◌*ℤ◌}
 use lib.Signed.{◌<ℤ◌}
 use Rattle.whole.proofs.Certificates.{gt, le, lt, ◌⊞◌, ◌⊠◌}
-use Rattle.whole.proofs.Expressions.{Expr, Env, var, con, ◌⊖◌, ◌⊗◌}
+use Rattle.whole.proofs.Expressions.{Expr, var, ◌⊖◌, ◌⊗◌}
 use Rattle.grid.specs.declared.Stroke.{Stroke}
 use Rattle.grid.specs.declared.Window.{Window}
 use Rattle.grid.specs.Table.{WindowOnTable}

@@ -2,10 +2,10 @@
 -- have to leave on its other side.
 use mathlib.Core.List.{[], ◌∷◌}
 use mathlib.Core.Logic.{inl, inr, ⊎_elim}
-use lib.IntN.{ℤ, pos, ◌*ℤ◌}
+use lib.IntN.{ℤ, pos}
 use lib.Signed.{◌≤ℤ◌, ◌<ℤ◌}
 use Rattle.whole.proofs.Certificates.{clash, po, le, lt, ◌⊞◌, ◌⊠◌}
-use Rattle.whole.proofs.Expressions.{Expr, Env, var, con, ◌⊗◌}
+use Rattle.whole.proofs.Expressions.{Expr, Env, var, ◌⊗◌}
 use Rattle.whole.proofs.Order.{≤_total, <→≤}
 use Rattle.grid.specs.declared.Stroke.{Stroke}
 use Rattle.grid.specs.declared.Window.{Window}

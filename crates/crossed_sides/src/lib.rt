@@ -20,7 +20,7 @@ const TOP: u8 = 3;
 
 // The course of one coordinate, which has two sides of the window across it: how long it is, how far from its start lie the side where it comes in and
 // that where it goes out, and where on the table they are. A side that lies behind the start is at a distance below 0.
-#[derive(Drop)]
+#[derive(Clone, Copy)]
 pub struct Course {
     pub long: i32,
     pub near: i32,
@@ -31,7 +31,7 @@ pub struct Course {
 
 // What the line does: it leaves all four corners on one side, or it crosses the window. `entry` says whether it comes in over a level side, the bottom or
 // the top, and not over an upright one; `exit` says the same of going out. Which of the two it is, the stroke's direction tells.
-#[derive(Drop)]
+#[derive(Clone, Copy)]
 pub struct Crossed {
     pub beside: bool,
     pub entry: bool,

@@ -7,33 +7,33 @@ use Rattle.crossed_sides.proofs.Found.{met_low, met_high}
 use Rattle.crossed_sides.proofs.entry_side.Statement.{statement}
 use Rattle.crossed_sides.proofs.entry_side.Tie as tie
 
-returns : tie.Need-returns
+returns : tie.Need-returns-then-s
 returns c =
     let s = c.before.before.before.before.args.s in
-    let g = c.before.struct_told.given in
-    sym (ap (entry_side s) c.before.before.before.if1.true
-    ∙ met_low 2 3 (le_yes (back w32 s.y1 g.1.0.1) (back w32 s.y2 g.1.1.1.0.1) c.if2.true))
+    let g = c.before.struct_told-1.given in
+    sym (ap (entry_side s) c.before.before.before.if-level.true
+    ∙ met_low 2 3 (le_yes (back w32 s.y1 g.1.0.1) (back w32 s.y2 g.1.1.1.0.1) c.if-s.true))
 
-returns-2 : tie.Need-returns-2
+returns-2 : tie.Need-returns-then-level
 returns-2 c =
     let s = c.before.before.before.before.args.s in
-    let g = c.before.struct_told.given in
-    sym (ap (entry_side s) c.before.before.before.if1.true
-    ∙ met_high 2 3 (le_no (back w32 s.y1 g.1.0.1) (back w32 s.y2 g.1.1.1.0.1) c.if2.false))
+    let g = c.before.struct_told-1.given in
+    sym (ap (entry_side s) c.before.before.before.if-level.true
+    ∙ met_high 2 3 (le_no (back w32 s.y1 g.1.0.1) (back w32 s.y2 g.1.1.1.0.1) c.if-s.false))
 
-returns-3 : tie.Need-returns-3
+returns-3 : tie.Need-returns-then-s-2
 returns-3 c =
     let s = c.before.before.before.before.args.s in
-    let g = c.before.struct-told2.given in
-    sym (ap (entry_side s) c.before.before.before.if1.false
-    ∙ met_low 0 1 (le_yes (back w32 s.x1 g.0.1) (back w32 s.x2 g.1.1.0.1) c.if3.true))
+    let g = c.before.struct_told-2-1.given in
+    sym (ap (entry_side s) c.before.before.before.if-level.false
+    ∙ met_low 0 1 (le_yes (back w32 s.x1 g.0.1) (back w32 s.x2 g.1.1.0.1) c.if-s-2.true))
 
-returns-4 : tie.Need-returns-4
+returns-4 : tie.Need-returns
 returns-4 c =
     let s = c.before.before.before.before.args.s in
-    let g = c.before.struct-told2.given in
-    sym (ap (entry_side s) c.before.before.before.if1.false
-    ∙ met_high 0 1 (le_no (back w32 s.x1 g.0.1) (back w32 s.x2 g.1.1.0.1) c.if3.false))
+    let g = c.before.struct_told-2-1.given in
+    sym (ap (entry_side s) c.before.before.before.if-level.false
+    ∙ met_high 0 1 (le_no (back w32 s.x1 g.0.1) (back w32 s.x2 g.1.1.0.1) c.if-s-2.false))
 
 pub entry_side_spec : {M : Type 1} → statement M
 entry_side_spec = tie.close (tie.spec returns returns-2 returns-3 returns-4)

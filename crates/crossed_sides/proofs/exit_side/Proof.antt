@@ -13,36 +13,36 @@ use Rattle.crossed_sides.proofs.exit_side.Tie as tie
 abbrev number : Bool → Bool → Bool → ℕ
 number level top right = if level then (if top then 3 else 2) else (if right then 1 else 0)
 
-returns : tie.Need-returns
+returns : tie.Need-returns-then-s
 returns c =
     let a = c.before.before.before.before.args in
-    let g = c.before.struct_told.given in
-    let level = c.before.before.before.if1.true in
-    let test = sym (λ i. lt_z (back w32 a.s.y1 g.1.0.1 i) (back w32 a.s.y2 g.1.1.1.0.1 i)) ∙ c.if2.true in
+    let g = c.before.struct_told-1.given in
+    let level = c.before.before.before.if-level.true in
+    let test = sym (λ i. lt_z (back w32 a.s.y1 g.1.0.1 i) (back w32 a.s.y2 g.1.1.1.0.1 i)) ∙ c.if-s.true in
     sym (λ i. number (level i) (test i) (lt_z a.s.x1 a.s.x2))
 
-returns-2 : tie.Need-returns-2
+returns-2 : tie.Need-returns-then-level
 returns-2 c =
     let a = c.before.before.before.before.args in
-    let g = c.before.struct_told.given in
-    let level = c.before.before.before.if1.true in
-    let test = sym (λ i. lt_z (back w32 a.s.y1 g.1.0.1 i) (back w32 a.s.y2 g.1.1.1.0.1 i)) ∙ c.if2.false in
+    let g = c.before.struct_told-1.given in
+    let level = c.before.before.before.if-level.true in
+    let test = sym (λ i. lt_z (back w32 a.s.y1 g.1.0.1 i) (back w32 a.s.y2 g.1.1.1.0.1 i)) ∙ c.if-s.false in
     sym (λ i. number (level i) (test i) (lt_z a.s.x1 a.s.x2))
 
-returns-3 : tie.Need-returns-3
+returns-3 : tie.Need-returns-then-s-2
 returns-3 c =
     let a = c.before.before.before.before.args in
-    let g = c.before.struct-told2.given in
-    let level = c.before.before.before.if1.false in
-    let test = sym (λ i. lt_z (back w32 a.s.x1 g.0.1 i) (back w32 a.s.x2 g.1.1.0.1 i)) ∙ c.if3.true in
+    let g = c.before.struct_told-2-1.given in
+    let level = c.before.before.before.if-level.false in
+    let test = sym (λ i. lt_z (back w32 a.s.x1 g.0.1 i) (back w32 a.s.x2 g.1.1.0.1 i)) ∙ c.if-s-2.true in
     sym (λ i. number (level i) (lt_z a.s.y1 a.s.y2) (test i))
 
-returns-4 : tie.Need-returns-4
+returns-4 : tie.Need-returns
 returns-4 c =
     let a = c.before.before.before.before.args in
-    let g = c.before.struct-told2.given in
-    let level = c.before.before.before.if1.false in
-    let test = sym (λ i. lt_z (back w32 a.s.x1 g.0.1 i) (back w32 a.s.x2 g.1.1.0.1 i)) ∙ c.if3.false in
+    let g = c.before.struct_told-2-1.given in
+    let level = c.before.before.before.if-level.false in
+    let test = sym (λ i. lt_z (back w32 a.s.x1 g.0.1 i) (back w32 a.s.x2 g.1.1.0.1 i)) ∙ c.if-s-2.false in
     sym (λ i. number (level i) (lt_z a.s.y1 a.s.y2) (test i))
 
 pub exit_side_spec : {M : Type 1} → statement M

@@ -1,6 +1,5 @@
 -- `crossed_sides::find` meets its contract: the tests of four products are the cases of `out_first` and `in_last`, `entry` and `exit`. Assumes nothing.
-use mathlib.Core.Path.{◌≡◌, refl, sym, subst₂, ◌∙◌}
-use mathlib.Core.Bool.{Bool, true, false}
+use mathlib.Core.Path.{◌≡◌, refl, subst₂, ◌∙◌}
 use mathlib.Core.List.{[], ◌∷◌}
 use native.Mathlib.Omega.{arith}
 use borrow.Author.Rules.{rules}
@@ -55,55 +54,55 @@ module _ (c : tie.Start) where
   level_in : read (read c.args.x.long *ℤ read c.args.y.near) ≡ c.args.x.long *ℤ c.args.y.near
   level_in = product_is x_small.0 y_small.1.0
 
-mul-upright-in : tie.Need-overflow-mul-upright-in
+mul-upright-in : tie.Need-overflow_mul-upright_in
 mul-upright-in c = let a = c.before.before.before.before in product_fits (y_small a).0 (x_small a).1.0
 
-mul-level-out : tie.Need-overflow-mul-level-out
+mul-level-out : tie.Need-overflow_mul-level_out
 mul-level-out c = let a = c.before.before.before.before.before.before.before.before in product_fits (x_small a).0 (y_small a).1.1
 
-returns : tie.Need-returns
+returns : tie.Need-returns-then-level_out-upright_in
 returns c = let a = c.before.before.before.before.before.before.before.before.before in record {
-  beside = λ _. out_first a.args.w a.args.s a.requires.0 a.requires.1.1.1.0 a.requires.1.1.1.1 (lt_yes (level_out a) (upright_in a) c.if1.true);
+  beside = λ _. out_first a.args.w a.args.s a.requires.0 a.requires.1.1.1.0 a.requires.1.1.1.1 (lt_yes (level_out a) (upright_in a) c.if-level_out-upright_in.true);
   no_entry = λ _. refl;
   no_exit = λ _. refl;
   comes = λ e. absurd (tt_ff e);
   goes = λ e. absurd (tt_ff e);
 }
 
-mul-upright-out : tie.Need-overflow-mul-upright-out
+mul-upright-out : tie.Need-overflow_mul-upright_out
 mul-upright-out c = let a = c.before.before.before.before.before.before.before.before.before.before.before.before.before in product_fits (y_small a).0 (x_small a).1.1
 
-mul-level-in : tie.Need-overflow-mul-level-in
+mul-level-in : tie.Need-overflow_mul-level_in
 mul-level-in c = let a = c.before.before.before.before.before.before.before.before.before.before.before.before.before.before.before.before.before in product_fits (x_small a).0 (y_small a).1.0
 
-returns-2 : tie.Need-returns-2
+returns-2 : tie.Need-returns-then-upright_out-level_in
 returns-2 c = let a = c.before.before.before.before.before.before.before.before.before.before.before.before.before.before.before.before.before.before in record {
-  beside = λ _. in_last a.args.w a.args.s a.requires.0 a.requires.1.1.1.0 a.requires.1.1.1.1 (lt_yes (upright_out a) (level_in a) c.if2.true);
+  beside = λ _. in_last a.args.w a.args.s a.requires.0 a.requires.1.1.1.0 a.requires.1.1.1.1 (lt_yes (upright_out a) (level_in a) c.if-upright_out-level_in.true);
   no_entry = λ _. refl;
   no_exit = λ _. refl;
   comes = λ e. absurd (tt_ff e);
   goes = λ e. absurd (tt_ff e);
 }
 
-is-level-requires : tie.Need-is-level-requires
+is-level-requires : tie.Need-is_level-requires
 is-level-requires c κs = search rules
 
-is-level-requires-2 : tie.Need-is-level-requires-2
+is-level-requires-2 : tie.Need-is_level-requires-2
 is-level-requires-2 c κs = search rules
 
-returns-3 : tie.Need-returns-3
+returns-3 : tie.Need-returns
 returns-3 c =
     let a = c.before.before.before.before.before.before.before.before.before.before.before.before.before.before.before.before.before.before.before.before in
     let p = a.requires in
-    let m = lt_no (level_out a) (upright_in a) c.before.before.before.before.before.before.before.before.before.before.before.if1.false in
-    let n = lt_no (upright_out a) (level_in a) c.before.before.if2.false in record {
+    let m = lt_no (level_out a) (upright_in a) c.before.before.before.before.before.before.before.before.before.before.before.if-level_out-upright_in.false in
+    let n = lt_no (upright_out a) (level_in a) c.before.before.if-upright_out-level_in.false in record {
       beside = λ e. absurd (ff_tt e);
       no_entry = λ e. absurd (ff_tt e);
       no_exit = λ e. absurd (ff_tt e);
       comes = λ _. entry a.args.w a.args.s p.0 p.1.1.0 p.1.1.1.0 p.1.1.1.1 m n
-          (subst₂ (λ (y z : ℤ). LevelIf a.args.s y z c.before.is-level.result) (upright_in a) (level_in a) c.before.is-level.ensures);
+          (subst₂ (λ (y z : ℤ). LevelIf a.args.s y z c.before.is_level.result) (upright_in a) (level_in a) c.before.is_level.ensures);
       goes = λ _. exit a.args.w a.args.s p.0 p.1.1.0 p.1.1.1.0 p.1.1.1.1 m n
-          (subst₂ (λ (y z : ℤ). LevelIf a.args.s y z c.is-level2.result) (level_out a) (upright_out a) c.is-level2.ensures);
+          (subst₂ (λ (y z : ℤ). LevelIf a.args.s y z c.is_level-2.result) (level_out a) (upright_out a) c.is_level-2.ensures);
     }
 
 pub find_spec : {M : Type 1} → statement M
