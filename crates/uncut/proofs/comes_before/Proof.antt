@@ -19,62 +19,62 @@ one c = own_corner c.args.c.now c.args.i
 abbrev other : tie.Start → Point
 other c = own_corner c.args.c.now c.args.j
 
-mul-p : tie.Need-overflow-mul-p
+mul-p : tie.Need-overflow_mul-p
 mul-p c = search rules
 
-mul-q : tie.Need-overflow-mul-q
+mul-q : tie.Need-overflow_mul-q
 mul-q c = search rules
 
-add-y : tie.Need-overflow-add-y
+add-y : tie.Need-overflow_add-y
 add-y c = search rules
 
-mul-y : tie.Need-overflow-mul-y
+mul-y : tie.Need-offset_bounds-c-p
 mul-y c = search rules
 
-shared-slice-copy-out-y : tie.Need-shared-slice-copy-out-y
+shared-slice-copy-out-y : tie.Need-bounds-c-p
 shared-slice-copy-out-y c = search rules
 
-add-v : tie.Need-overflow-add-v
+add-v : tie.Need-overflow_add-v
 add-v c = search rules
 
-mul-v : tie.Need-overflow-mul-v
+mul-v : tie.Need-offset_bounds-c-q
 mul-v c = search rules
 
-shared-slice-copy-out-v : tie.Need-shared-slice-copy-out-v
+shared-slice-copy-out-v : tie.Need-bounds-c-q
 shared-slice-copy-out-v c = search rules
 
 -- ---- their heights as they are read
-y_is : (c : tie.After-v) → let s = c.before.before in to_z w32 (of_z w32 (one s).Y) ≡ (one s).Y *ℤ (other s).W
-y_is c = let s = c.before.before in back w32 (one s).Y c.before.y.given ∙ sym (times_one (one s).Y)
+y_is : (c : tie.After-v-1) → let s = c.before.before in to_z w32 (of_z w32 (one s).Y) ≡ (one s).Y *ℤ (other s).W
+y_is c = let s = c.before.before in back w32 (one s).Y c.y-1.given ∙ sym (times_one (one s).Y)
 
-v_is : (c : tie.After-v) → let s = c.before.before in to_z w32 (of_z w32 (other s).Y) ≡ (other s).Y *ℤ (one s).W
-v_is c = let s = c.before.before in back w32 (other s).Y c.v.given ∙ sym (times_one (other s).Y)
+v_is : (c : tie.After-v-1) → let s = c.before.before in to_z w32 (of_z w32 (other s).Y) ≡ (other s).Y *ℤ (one s).W
+v_is c = let s = c.before.before in back w32 (other s).Y c.v-1.given ∙ sym (times_one (other s).Y)
 
-mul-result : tie.Need-overflow-mul-result
+mul-result : tie.Need-offset_bounds-c-p-then-y-v
 mul-result c = search rules
 
-shared-slice-copy-out-result : tie.Need-shared-slice-copy-out-result
+shared-slice-copy-out-result : tie.Need-bounds-c-p-then-y-v
 shared-slice-copy-out-result c = search rules
 
-mul-result-2 : tie.Need-overflow-mul-result-2
+mul-result-2 : tie.Need-offset_bounds-c-q-then-y-v
 mul-result-2 c = search rules
 
-shared-slice-copy-out-result-2 : tie.Need-shared-slice-copy-out-result-2
+shared-slice-copy-out-result-2 : tie.Need-bounds-c-q-then-y-v
 shared-slice-copy-out-result-2 c = search rules
 
-returns : tie.Need-returns
+returns : tie.Need-returns-then-y-v
 returns c =
     let v = c.before.before.before in
     let s = v.before.before in
     by_width
-    (sym (y_is v) ∙ ap (to_z w32) c.before.before.if1.true ∙ v_is v)
-    (back w32 (one s).X c.before.result.given ∙ sym (times_one (one s).X))
-    (back w32 (other s).X c.result2.given ∙ sym (times_one (other s).X))
+    (sym (y_is v) ∙ ap (to_z w32) c.if-y-v.true ∙ v_is v)
+    (back w32 (one s).X c.result-1.given ∙ sym (times_one (one s).X))
+    (back w32 (other s).X c.result-then-y-v-1.given ∙ sym (times_one (other s).X))
 
-returns-2 : tie.Need-returns-2
+returns-2 : tie.Need-returns
 returns-2 c =
     let s = c.before.before.before in
-    by_height (λ e. c.if1.false (ap (of_z w32) (sym (times_one (one s).Y) ∙ e ∙ times_one (other s).Y))) (y_is c.before) (v_is c.before)
+    by_height (λ e. c.if-y-v.false (ap (of_z w32) (sym (times_one (one s).Y) ∙ e ∙ times_one (other s).Y))) (y_is c.before) (v_is c.before)
 
 pub comes_before_spec : {M : Type 1} → statement M
 comes_before_spec =

@@ -11,51 +11,51 @@ use Rattle.uncut.proofs.OwnCorners.{own_at}
 use Rattle.uncut.proofs.down_forward.Statement.{statement}
 use Rattle.uncut.proofs.down_forward.Tie as tie
 
-abbrev invariant_loop : tie.invariant_loop
+abbrev invariant_loop : tie.invariant-loop-i
 invariant_loop c n i₀ i = Fell (corners_of c) i
 
-abbrev decreases_loop : tie.decreases_loop
+abbrev decreases_loop : tie.decreases-loop-i
 decreases_loop c n i₀ i = n - i
 
-loop-holds : tie.Need-loop-init invariant_loop decreases_loop
+loop-holds : tie.Need-loop-i-init invariant_loop decreases_loop
 loop-holds c = falls_first c.requires
 
-add-loop : tie.Need-overflow-add-loop invariant_loop decreases_loop
-add-loop c = omega (arith, c.loop.invariant.inside, count c.before.args.c.now)
+add-loop : tie.Need-overflow_add-i invariant_loop decreases_loop
+add-loop c = omega (arith, c.loop-i.invariant.inside, count c.args.c.now)
 
-add-comes-before : tie.Need-overflow-add-comes-before invariant_loop decreases_loop
+add-comes-before : tie.Need-overflow_add-i-in-loop-i invariant_loop decreases_loop
 add-comes-before c = omega arith
 
-comes-before-requires : tie.Need-comes-before-requires invariant_loop decreases_loop
+comes-before-requires : tie.Need-comes_before-requires invariant_loop decreases_loop
 comes-before-requires c κs = (omega arith, omega arith)
 
-add-i : tie.Need-overflow-add-i invariant_loop decreases_loop
+add-i : tie.Need-overflow_add-i-in-loop-i-2 invariant_loop decreases_loop
 add-i c = omega arith
 
-loop-less : tie.Need-loop-smaller invariant_loop decreases_loop
+loop-less : tie.Need-loop-i-smaller invariant_loop decreases_loop
 loop-less c = omega arith
 
 -- what the test told of the two corners
-told : (c : tie.After-comes-before invariant_loop decreases_loop)
-    → let r = corners_of c.before.before.before.args.c.now in let i = c.before.before.loop.i in
-    Decides c.comes-before.result (Before (at r (i + 1)) (at r i))
+told : (c : tie.After-comes_before invariant_loop decreases_loop)
+    → let r = corners_of c.args.c.now in let i = c.loop-i.i in
+    Decides c.comes_before.result (Before (at r (i + 1)) (at r i))
 told c =
-    let zs = c.before.before.before.args.c.now in
-    let l = c.before.loop-test.true in
+    let zs = c.args.c.now in
+    let l = c.loop-i-test.true in
     let k = count zs in
-    decides_same (own_at zs (omega arith)) (own_at zs (omega arith)) c.comes-before.ensures
+    decides_same (own_at zs (omega arith)) (own_at zs (omega arith)) c.comes_before.ensures
 
-loop-again : tie.Need-loop-preserved invariant_loop decreases_loop
+loop-again : tie.Need-loop-i-preserved invariant_loop decreases_loop
 loop-again c =
     let l = c.before.before.before in
-    let t = c.before.before.loop-test.true in
-    falls_on l.before.requires l.loop.invariant (omega (arith, count l.before.args.c.now)) ((told c.before).yes c.if1.true)
+    let t = c.loop-i-test.true in
+    falls_on l.requires l.loop-i.invariant (omega (arith, count l.args.c.now)) ((told c.before).yes c.if-comes_before.true)
 
-returns : tie.Need-returns invariant_loop decreases_loop
-returns c = let l = c.before.before.before in falls_no_more l.before.requires l.loop.invariant (λ h. (told c.before).no c.if1.false)
+returns : tie.Need-returns-else-comes_before invariant_loop decreases_loop
+returns c = let l = c.before.before.before in falls_no_more l.requires l.loop-i.invariant (λ h. (told c.before).no c.if-comes_before.false)
 
-returns-2 : tie.Need-returns-2 invariant_loop decreases_loop
-returns-2 c = let l = c.before in falls_no_more l.before.requires l.loop.invariant (λ h. absurd (omega (arith, count l.before.args.c.now, c.loop-test.false)))
+returns-2 : tie.Need-returns-after-loop-i invariant_loop decreases_loop
+returns-2 c = let l = c.before in falls_no_more l.requires l.loop-i.invariant (λ h. absurd (omega (arith, count l.args.c.now, c.loop-i-test.false)))
 
 pub down_forward_spec : {M : Type 1} → statement M
 down_forward_spec = tie.close (tie.spec invariant_loop decreases_loop loop-holds add-loop add-comes-before comes-before-requires add-i loop-less loop-again returns returns-2)

@@ -7,19 +7,19 @@ use Rattle.lowest.proofs.Downhill.{moved}
 use Rattle.uncut.proofs.lowest_corner.Statement.{statement}
 use Rattle.uncut.proofs.lowest_corner.Tie as tie
 
-down-forward-requires : tie.Need-down-forward-requires
+down-forward-requires : tie.Need-down_forward-i-requires
 down-forward-requires c κs = search rules
 
-down-back-requires : tie.Need-down-back-requires
+down-back-requires : tie.Need-down_back-requires
 down-back-requires c κs =
     let a = c.before.before in
-    (a.requires, subst (Forward (corners_of a.args.c.now)) c.if1.true c.before.down-forward.ensures)
+    (a.requires, subst (Forward (corners_of a.args.c.now)) c.if-i-eq0.true c.down_forward-i.ensures)
 
-returns : tie.Need-returns
-returns c = c.down-back.ensures
+returns : tie.Need-returns-then-i-eq0
+returns c = c.down_back.ensures
 
-returns-2 : tie.Need-returns-2
-returns-2 c = moved c.if1.false c.before.down-forward.ensures
+returns-2 : tie.Need-returns
+returns-2 c = moved c.if-i-eq0.false c.down_forward-i.ensures
 
 pub lowest_corner_spec : {M : Type 1} → statement M
 lowest_corner_spec = tie.close (tie.spec down-forward-requires down-back-requires returns returns-2)

@@ -13,98 +13,98 @@ use Rattle.uncut.proofs.OwnCorners.{over_one, over_one_are, over_one_length, nex
 use Rattle.uncut.proofs.write_corners.Statement.{statement}
 use Rattle.uncut.proofs.write_corners.Tie as tie
 
-abbrev invariant_loop : tie.invariant_loop
+abbrev invariant_loop : tie.invariant-loop-i
 invariant_loop c out₀ i₀ k₀ out i k = (i % 2 ≡ 0) × (i ≤ length c) × (k ≡ 2 * i) × Filled (over_one c) (over_one (drop i c)) out out₀ k
 
-abbrev decreases_loop : tie.decreases_loop
+abbrev decreases_loop : tie.decreases-loop-i
 decreases_loop c out₀ i₀ k₀ out i k = length c - i
 
-loop-holds : tie.Need-loop-init invariant_loop decreases_loop
+loop-holds : tie.Need-loop-i-init invariant_loop decreases_loop
 loop-holds c = (omega arith, omega arith, omega arith, filled_start _ _)
 
 -- a corner's two numbers are there
-two : (c : tie.In-loop invariant_loop decreases_loop) → c.before.loop.i + 2 ≤ length c.before.before.args.c.now
+two : (c : tie.In-loop-i invariant_loop decreases_loop) → c.loop-i.i + 2 ≤ length c.args.c.now
 two c = omega arith
 
-mul-x : tie.Need-overflow-mul-x invariant_loop decreases_loop
+mul-x : tie.Need-offset_bounds-c-i invariant_loop decreases_loop
 mul-x c = omega arith
 
-shared-slice-copy-out-x : tie.Need-shared-slice-copy-out-x invariant_loop decreases_loop
+shared-slice-copy-out-x : tie.Need-bounds-c-i invariant_loop decreases_loop
 shared-slice-copy-out-x c = omega arith
 
-add-y : tie.Need-overflow-add-y invariant_loop decreases_loop
+add-y : tie.Need-overflow_add-y invariant_loop decreases_loop
 add-y c = omega arith
 
-mul-y : tie.Need-overflow-mul-y invariant_loop decreases_loop
+mul-y : tie.Need-offset_bounds-c-i-in-loop-i invariant_loop decreases_loop
 mul-y c = omega arith
 
-shared-slice-copy-out-y : tie.Need-shared-slice-copy-out-y invariant_loop decreases_loop
+shared-slice-copy-out-y : tie.Need-bounds-c-i-in-loop-i invariant_loop decreases_loop
 shared-slice-copy-out-y c = omega arith
 
-mul-x-2 : tie.Need-overflow-mul-x-2 invariant_loop decreases_loop
+mul-x-2 : tie.Need-offset_bounds-out-k invariant_loop decreases_loop
 mul-x-2 c = omega arith
 
 -- and in the output for its four
-room : (c : tie.After-y invariant_loop decreases_loop) → c.before.before.before.loop.k + 4 ≤ length c.before.before.before.loop.out
-room c = omega (arith, two c.before.before, c.before.before.before.loop.invariant.3.same)
+room : (c : tie.After-y-1 invariant_loop decreases_loop) → c.loop-i.k + 4 ≤ length c.loop-i.out
+room c = omega (arith, two c.before.before, c.loop-i.invariant.3.same)
 
-slice-set-from-x : tie.Need-slice-set-from-x invariant_loop decreases_loop
+slice-set-from-x : tie.Need-bounds-out-k invariant_loop decreases_loop
 slice-set-from-x c = omega (arith, room c)
 
-add-out : tie.Need-overflow-add-out invariant_loop decreases_loop
+add-out : tie.Need-overflow_add-out invariant_loop decreases_loop
 add-out c = omega arith
 
-mul-out : tie.Need-overflow-mul-out invariant_loop decreases_loop
+mul-out : tie.Need-offset_bounds-out-k-in-loop-i invariant_loop decreases_loop
 mul-out c = omega arith
 
-slice-set-of-out : tie.Need-slice-set-of-out invariant_loop decreases_loop
+slice-set-of-out : tie.Need-slice_set_of-out invariant_loop decreases_loop
 slice-set-of-out c = simp length-set (omega (arith, room c))
 
-add-y-2 : tie.Need-overflow-add-y-2 invariant_loop decreases_loop
+add-y-2 : tie.Need-overflow_add-y-in-loop-i invariant_loop decreases_loop
 add-y-2 c = omega arith
 
-mul-y-2 : tie.Need-overflow-mul-y-2 invariant_loop decreases_loop
+mul-y-2 : tie.Need-offset_bounds-out-k-in-loop-i-2 invariant_loop decreases_loop
 mul-y-2 c = omega arith
 
-slice-set-from-y : tie.Need-slice-set-from-y invariant_loop decreases_loop
+slice-set-from-y : tie.Need-bounds-out-k-in-loop-i invariant_loop decreases_loop
 slice-set-from-y c = simp length-set (omega (arith, room c))
 
-add-out-2 : tie.Need-overflow-add-out-2 invariant_loop decreases_loop
+add-out-2 : tie.Need-overflow_add-out-in-loop-i invariant_loop decreases_loop
 add-out-2 c = omega arith
 
-mul-out-2 : tie.Need-overflow-mul-out-2 invariant_loop decreases_loop
+mul-out-2 : tie.Need-offset_bounds-out-k-in-loop-i-3 invariant_loop decreases_loop
 mul-out-2 c = omega arith
 
-slice-set-of-out-2 : tie.Need-slice-set-of-out-2 invariant_loop decreases_loop
+slice-set-of-out-2 : tie.Need-slice_set_of-out-in-loop-i invariant_loop decreases_loop
 slice-set-of-out-2 c = simp length-set (omega (arith, room c))
 
-add-i : tie.Need-overflow-add-i invariant_loop decreases_loop
+add-i : tie.Need-overflow_add-i invariant_loop decreases_loop
 add-i c = omega arith
 
-add-k : tie.Need-overflow-add-k invariant_loop decreases_loop
+add-k : tie.Need-overflow_add-k invariant_loop decreases_loop
 add-k c = omega arith
 
-loop-less : tie.Need-loop-smaller invariant_loop decreases_loop
+loop-less : tie.Need-loop-i-smaller invariant_loop decreases_loop
 loop-less c = omega arith
 
-loop-again : tie.Need-loop-preserved invariant_loop decreases_loop
+loop-again : tie.Need-loop-i-preserved invariant_loop decreases_loop
 loop-again c =
-    let l = c.before.before.before.loop in
+    let l = c.loop-i in
     let a = c.before.before.before.before in
     let zs = a.args.c.now in (
       omega arith,
       omega arith,
       omega arith,
-      simp (back w32 (get_or zs l.i (pos 0)) c.before.x.given, back w32 (get_or zs (l.i + 1) (pos 0)) c.y.given)
+      simp (back w32 (get_or zs l.i (pos 0)) c.x-1.given, back w32 (get_or zs (l.i + 1) (pos 0)) c.y-1.given)
           (simp towards_suc (simp towards_suc at (next_own zs l.i (omega arith) (omega (arith, over_one_length zs a.requires.0)) l.invariant.3))),
     )
 
-same_length : tie.Need-same-length invariant_loop decreases_loop
-same_length c = c.before.loop.invariant.3.same
+same_length : tie.Need-shape_of-out invariant_loop decreases_loop
+same_length c = c.loop-i.invariant.3.same
 
 returns : tie.Need-returns invariant_loop decreases_loop
 returns c =
-    let l = c.before.loop in
+    let l = c.loop-i in
     let a = c.before.before in
     let zs = a.args.c.now in
     record {
