@@ -109,7 +109,9 @@ enters k (suc j) w (s ∷ ss) h f = go (in_use s) (enters (suc k) j w ss (omega 
   where
     go : (b : Bool) → entered (suc k + j) w (entries_from (suc k) ss) ≡ entries_from (suc k) (set ss j (slot_of 1 w))
         → entered (k + suc j) w (entries_if b k s ss) ≡ entries_if b k s (set ss j (slot_of 1 w))
-    go true e = simp (lt-ltb k (k + suc j) (omega arith)) (rw (next_number k j, e))
+    go true e =
+        simp (lt-ltb k (k + suc j) (omega arith))
+        (ap (λ (es : List Entry). entry k s.strip ∷ es) (ap (λ (n : ℕ). entered n w (entries_from (suc k) ss)) (next_number k j) ∙ e))
     go false e = rw (next_number k j, e)
 
 -- ---- an entry that is there, or not
@@ -125,7 +127,7 @@ has_slot k (suc j) (s ∷ ss) = go (in_use s) (has_slot (suc k) j ss)
   where
     go : (b : Bool) → has (pos (suc k + j)) (entries_from (suc k) ss) ≡ in_use (get_or ss j free_slot)
         → has (pos (k + suc j)) (entries_if b k s ss) ≡ in_use (get_or ss j free_slot)
-    go true e = simp (ne_eqb (k + suc j) k (omega arith)) (rw next_number e)
+    go true e = simp (ne_eqb (k + suc j) k (omega arith)) (ap (λ (n : ℕ). has (pos n) (entries_from (suc k) ss)) (next_number k j) ∙ e)
     go false e = rw next_number e
 
 pub has_negative : (n : ℕ) (es : List Entry) → has (negsuc n) es ≡ false
@@ -155,7 +157,9 @@ leaves k (suc j) (s ∷ ss) = go (in_use s) (leaves (suc k) j ss)
   where
     go : (b : Bool) → struck_out (pos (suc k + j)) (entries_from (suc k) ss) ≡ entries_from (suc k) (set ss j free_slot)
         → struck_out (pos (k + suc j)) (entries_if b k s ss) ≡ entries_if b k s (set ss j free_slot)
-    go true e = simp (ne_eqb (k + suc j) k (omega arith)) (rw (next_number k j, e))
+    go true e =
+        simp (ne_eqb (k + suc j) k (omega arith))
+        (ap (λ (es : List Entry). entry k s.strip ∷ es) (ap (λ (n : ℕ). struck_out (pos n) (entries_from (suc k) ss)) (next_number k j) ∙ e))
     go false e = rw (next_number k j, e)
 
 -- ---- the entries listed
