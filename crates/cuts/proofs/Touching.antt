@@ -191,7 +191,7 @@ module _ {w : Window} {s : Stroke} {x y : Way} (on : WindowOnTable w) (f : WayOf
   left_out_by_ways (suc zero) h apart a c = go a.kept refl
     where
       go : (k : Bool) → a.kept ≡ k → is_given false a ≡ false
-      go true e = touch_left_out a (one_kept apart (c.part.first e).keeps (c.part.new e).keeps)
+      go true e = touch_left_out a (one_kept apart (c.part.first e).keeps (c.part.last e).keeps)
       go false e = missed_left_out a false e
   left_out_by_ways (suc (suc k)) h apart a c = absurd (omega arith)
 
@@ -202,7 +202,7 @@ module _ {w : Window} {s : Stroke} {x y : Way} (on : WindowOnTable w) (f : WayOf
       let two = two_kept on f g o in
       let k = some_kept on f g o c in
       let first = c.part.first k in
-      let last = c.part.new k in
+      let last = c.part.last k in
       length_given a k (λ e.
       clash (a.t0.num ∷ a.t0.den ∷ a.t1.num ∷ a.t1.den ∷ two.n ∷ two.d ∷ two.m ∷ two.e ∷ [])
       (po x1 first.lowest.positive ⊠ po x3 last.lowest.positive ⊠ lt (var 4 ⊗ var 7) (var 6 ⊗ var 5) two.sooner

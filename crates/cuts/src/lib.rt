@@ -12,7 +12,7 @@ use strokes::plain::Plainly;
 use strokes::{End, ends, plain, ways};
 
 // What is given of a stroke: its two points, rounded to the grid.
-#[derive(Drop)]
+#[derive(Clone, Copy)]
 pub struct Cut {
     pub given: bool,
     pub ax: i32,
