@@ -12,7 +12,7 @@ use decimal::Reading;
 const VERSION: u8 = 1;
 
 // Why a line is not taken.
-#[derive(Drop)]
+#[derive(Clone, Copy)]
 pub enum Fault {
     NoStrip,
     SecondStrip,
@@ -24,14 +24,14 @@ pub enum Fault {
 }
 
 // What became of a line: where the drawing ends after it, or why it is not taken.
-#[derive(Drop)]
+#[derive(Clone, Copy)]
 pub enum Step {
     Done(usize),
     Wrong(Fault),
 }
 
 // The record that a word asks for: its first byte, and how many numbers follow.
-#[derive(Drop)]
+#[derive(Clone, Copy)]
 struct Asked {
     first: u8,
     count: usize,

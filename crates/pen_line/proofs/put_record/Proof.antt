@@ -6,38 +6,38 @@ use borrow.Author.Rules.{rules}
 use Rattle.pen_line.proofs.put_record.Statement.{statement}
 use Rattle.pen_line.proofs.put_record.Tie as tie
 
-add-next : tie.Need-overflow-add-next
+add-next : tie.Need-overflow_add-next
 add-next c = search rules
 
-mul_next : tie.Need-overflow-mul-next
+mul_next : tie.Need-overflow_mul-next
 mul_next c = search rules
 
-add-next-2 : tie.Need-overflow-add-next-2
+add-next-2 : tie.Need-overflow_add-next-2
 add-next-2 c = search rules
 
-returns : tie.Need-returns
-returns c = long c.if1.true
+returns : tie.Need-returns-then-page-next
+returns c = long c.if-page-next.true
 
-slice-write-page : tie.Need-slice-write-page
+slice-write-page : tie.Need-bounds-page-at
 slice-write-page c = search rules
 
-add-put-numbers : tie.Need-overflow-add-put-numbers
+add-put-numbers : tie.Need-overflow_add-at
 add-put-numbers c = search rules
 
-put-numbers-requires : tie.Need-put-numbers-requires
+put-numbers-requires : tie.Need-put_numbers-requires
 put-numbers-requires c κs = search rules
 
-same_length : tie.Need-same-length
-same_length c = simp length-set at c.before.before.page.given
+same_length : tie.Need-shape_of-page-then-put_numbers
+same_length c = simp length-set at c.before.before.page-1.given
 
-returns-2 : tie.Need-returns-2
-returns-2 c = recorded c.before.before.before.before.before.if1.false c.if2.true c.before.before.before.put-numbers.ensures
+returns-2 : tie.Need-returns-then-put_numbers
+returns-2 c = recorded c.before.before.before.before.before.if-page-next.false c.if-put_numbers.true c.before.before.before.put_numbers.ensures
 
-same-length-2 : tie.Need-same-length-2
-same-length-2 c = simp length-set at c.before.before.page.given
+same-length-2 : tie.Need-shape_of-page
+same-length-2 c = simp length-set at c.before.before.page-1.given
 
-returns-3 : tie.Need-returns-3
-returns-3 c = not_recorded c.before.before.before.before.before.if1.false c.if2.false c.before.before.before.put-numbers.ensures
+returns-3 : tie.Need-returns
+returns-3 c = not_recorded c.before.before.before.before.before.if-page-next.false c.if-put_numbers.false c.before.before.before.put_numbers.ensures
 
 pub put_record_spec : {M : Type 1} → statement M
 put_record_spec =

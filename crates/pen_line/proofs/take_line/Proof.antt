@@ -6,20 +6,20 @@ use borrow.Author.Rules.{rules}
 use Rattle.pen_line.proofs.take_line.Statement.{statement}
 use Rattle.pen_line.proofs.take_line.Tie as tie
 
-words-end-requires : tie.Need-words-end-requires
+words-end-requires : tie.Need-words_end-end-requires
 words-end-requires c κs = search rules
 
-slice-aggregate-take-words : tie.Need-slice-aggregate-take-words
-slice-aggregate-take-words c = sym (length-take-le _ _ c.before.words-end.ensures.1)
+slice-aggregate-take-words : tie.Need-slice_bounds-take_words-end
+slice-aggregate-take-words c = sym (length-take-le _ _ c.words_end-end.ensures.1)
 
-take-words-requires : tie.Need-take-words-requires
+take-words-requires : tie.Need-take_words-requires
 take-words-requires c κs = search rules
 
-same_length : tie.Need-same-length
+same_length : tie.Need-shape_of-page
 same_length c = search rules
 
 returns : tie.Need-returns
-returns c = spoken_to _ c.before.before.before.before.before.words-end.ensures.0 c.before.before.take_words.ensures
+returns c = spoken_to _ c.words_end-end.ensures.0 c.take_words.ensures
 
 pub take_line_spec : {M : Type 1} → statement M
 take_line_spec =

@@ -5,30 +5,30 @@ use borrow.Author.Rules.{rules}
 use Rattle.pen_line.proofs.words_end.Statement.{statement}
 use Rattle.pen_line.proofs.words_end.Tie as tie
 
-find-requires : tie.Need-find-requires
+find-requires : tie.Need-find-end-requires
 find-requires c κs = search rules
 
-returns : tie.Need-returns
-returns c = (comment _ _ c.before.find.ensures.0 c.if1.true, c.before.find.ensures.1)
+returns : tie.Need-returns-then-end-line
+returns c = (comment _ _ c.before.find-end.ensures.0 c.if-end-line.true, c.before.find-end.ensures.1)
 
-returns-2 : tie.Need-returns-2
-returns-2 c = (nothing_there _ _ c.before.before.find.ensures.0 c.before.if1.false c.before.before.find.ensures.1 c.if2.true, omega arith)
+returns-2 : tie.Need-returns-then-end-eq0
+returns-2 c = (nothing_there _ _ c.before.before.find-end.ensures.0 c.before.if-end-line.false c.before.before.find-end.ensures.1 c.if-end-eq0.true, omega arith)
 
-sub-if3 : tie.Need-overflow-sub-if3
+sub-if3 : tie.Need-overflow_sub-end
 sub-if3 c = search rules
 
-shared-slice-read-if3 : tie.Need-shared-slice-read-if3
+shared-slice-read-if3 : tie.Need-bounds-line-end
 shared-slice-read-if3 c = search rules
 
-sub-result : tie.Need-overflow-sub-result
+sub-result : tie.Need-overflow_sub-result
 sub-result c = search rules
 
-returns-3 : tie.Need-returns-3
-returns-3 c = let f = c.before.before.before.before.find.ensures in
-    (return_before _ _ f.0 c.before.before.before.if1.false f.1 c.if3.true, omega (arith, f.1))
+returns-3 : tie.Need-returns-then-line-end-eq13
+returns-3 c = let f = c.before.before.before.before.find-end.ensures in
+    (return_before _ _ f.0 c.before.before.before.if-end-line.false f.1 c.if-line-end-eq13.true, omega (arith, f.1))
 
-returns-4 : tie.Need-returns-4
-returns-4 c = let f = c.before.before.before.before.find.ensures in (no_return _ _ f.0 c.before.before.before.if1.false f.1 c.if3.false, f.1)
+returns-4 : tie.Need-returns
+returns-4 c = let f = c.before.before.before.before.find-end.ensures in (no_return _ _ f.0 c.before.before.before.if-end-line.false f.1 c.if-line-end-eq13.false, f.1)
 
 pub words_end_spec : {M : Type 1} → statement M
 words_end_spec =
