@@ -72,7 +72,7 @@ same_half renter es es' book book' t known = let h : shown renter book ≡ shown
 pub same_next_listing : SameNextListing
 same_next_listing renter es es' book book' t a a' out after after' p p' =
     let h = alike t in
-    let q = listing_told_lem renter book h.is_book p in
+    let q = listing_told_lem renter book h.is_book_lem p in
     let q' = listing_told_lem renter book' h.is_book' p' in (
       q.0 ∙ ap (λ (ss : List Slot). listing_told renter out ss) h.slots ∙ sym q'.0,
       q.1 ∙ ap (λ (ss : List Slot). output_told renter out ss) h.slots ∙ sym q'.1,
@@ -81,10 +81,10 @@ same_next_listing renter es es' book book' t a a' out after after' p p' =
 pub same_next_release : SameNextRelease
 same_next_release renter es es' book book' t z a a' after after' p p' =
     let h = alike t in
-    release_told_lem h.is_book p ∙ ap (λ (ss : List Slot). release_told renter z ss) h.slots ∙ sym (release_told_lem h.is_book' p')
+    release_told_lem h.is_book_lem p ∙ ap (λ (ss : List Slot). release_told renter z ss) h.slots ∙ sym (release_told_lem h.is_book' p')
 
 pub same_next_booking : SameNextBooking
 same_next_booking renter es es' book book' t w a a' after after' p p' =
     let h = alike t in
-    let q : UnlessTaken (booking_told renter w (shown renter book)) a = booking_told_lem h.is_book p in
+    let q : UnlessTaken (booking_told renter w (shown renter book)) a = booking_told_lem h.is_book_lem p in
     alike_but_taken (subst (λ ss. UnlessTaken (booking_told renter w ss) a) h.slots q) (booking_told_lem h.is_book' p')
