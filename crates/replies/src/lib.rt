@@ -15,7 +15,7 @@ pub const BITS: u8 = 2;
 
 // Its first `count` fields, each with its form and its size; behind them come the first `room` numbers of the output that was lent.
 // A reply of no fields is the answer to a line that is no call.
-#[derive(Drop)]
+#[derive(Clone, Copy)]
 pub struct Reply {
     pub count: usize,
     pub forms: [u8; 16],
