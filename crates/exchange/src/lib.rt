@@ -42,7 +42,7 @@ fn over() -> Talk
 
 // Goes on to the next whole line; there is none any more where the input has ended, or a read or write failed. What the page holds is written out
 // before a read. A proved loop has to end, so it counts its turns, to a number that no run reaches.
-fn next_line(chunk: &mut Chunk, line: &mut Line, page: &Page, talk: Talk) -> Talk
+fn next_line(rt: &HostRuntime, chunk: &mut Chunk, line: &mut Line, page: &Page, talk: Talk) -> Talk
     requires { InBounds talk }
     ensures { InBounds result }
 {
@@ -55,11 +55,11 @@ fn next_line(chunk: &mut Chunk, line: &mut Line, page: &Page, talk: Talk) -> Tal
         if source.whole {
             return Talk { source, used, told };
         }
-        if !output::write_out(page, used) {
+        if !output::write_out(rt, page, used) {
             return over();
         }
         used = 0;
-        source = input::read_on(chunk, source);
+        source = input::read_on(rt, chunk, source);
         if source.whole || !source.open {
             return Talk { source, used, told };
         }
@@ -71,6 +71,7 @@ fn next_line(chunk: &mut Chunk, line: &mut Line, page: &Page, talk: Talk) -> Tal
 // Puts the reply to a line on the page. The page is written out where it is past its mark, and before something is told of the line, so that at a
 // terminal the answer stands before its reason.
 fn answer(
+    rt: &HostRuntime,
     page: &mut Page,
     line: &[u8],
     lent: &[i32; 40960],
@@ -93,7 +94,7 @@ fn answer(
             return Talk { source, used, told };
         }
     }
-    if !output::write_out(page, used) {
+    if !output::write_out(rt, page, used) {
         return over();
     }
     if !due {
@@ -103,7 +104,7 @@ fn answer(
             told,
         };
     }
-    let told = telling::tell(&line[0..have], number, reply, told);
+    let told = telling::tell(rt, &line[0..have], number, reply, told);
     Talk {
         source,
         used: 0,
@@ -113,6 +114,7 @@ fn answer(
 
 // One turn of the exchange: the reply to line `number`, if there was one already, and then the next line.
 pub fn turn(
+    rt: &HostRuntime,
     chunk: &mut Chunk,
     line: &mut Line,
     lent: &[i32; 40960],
@@ -126,8 +128,8 @@ pub fn turn(
     ensures { InBounds result }
 {
     if number == 0 {
-        return next_line(chunk, line, page, talk);
+        return next_line(rt, chunk, line, page, talk);
     }
-    let after = answer(page, line, lent, talk, number, reply);
-    next_line(chunk, line, page, after)
+    let after = answer(rt, page, line, lent, talk, number, reply);
+    next_line(rt, chunk, line, page, after)
 }
