@@ -12,7 +12,7 @@ apart-requires c κs = search rules
 apart-requires-2 : tie.Need-apart-requires-2
 apart-requires-2 c κs = search rules
 
-add-result : tie.Need-overflow-add-result
+add-result : tie.Need-overflow_add-result
 add-result c = search rules
 
 returns : tie.Need-returns
@@ -20,7 +20,7 @@ unfolding middle
 returns c =
     let f = c.before.before.ranges in
     let p = simp (to_z-of_z f.side, to_z-of_z f.a) at c.before.apart.ensures.0 in
-    let q = simp (to_z-of_z f.side, to_z-of_z f.b) at c.apart2.ensures.0 in
+    let q = simp (to_z-of_z f.side, to_z-of_z f.b) at c.apart-2.ensures.0 in
     λ i. p i + q i
 
 pub middle_spec : {M : Type 1} → statement M

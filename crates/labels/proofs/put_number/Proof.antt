@@ -6,28 +6,19 @@ use borrow.Author.Rules.{rules}
 use Rattle.labels.proofs.put_number.Statement.{statement}
 use Rattle.labels.proofs.put_number.Tie as tie
 
-slice-aggregate-put-labelled : tie.Need-slice-aggregate-put-labelled
-slice-aggregate-put-labelled c = search rules
-
-put-labelled-requires : tie.Need-put-labelled-requires
+put-labelled-requires : tie.Need-put_labelled-a-requires
 put-labelled-requires c κs = search rules
 
-slice-aggregate-put-labelled-2 : tie.Need-slice-aggregate-put-labelled-2
-slice-aggregate-put-labelled-2 c = search rules
-
-put-labelled-requires-2 : tie.Need-put-labelled-requires-2
+put-labelled-requires-2 : tie.Need-put_labelled-b-requires
 put-labelled-requires-2 c κs = search rules
 
-put-beside-requires : tie.Need-put-beside-requires
+put-beside-requires : tie.Need-put_beside-c-requires
 put-beside-requires c κs = search rules
-
-slice-aggregate-put : tie.Need-slice-aggregate-put
-slice-aggregate-put c = search rules
 
 put-requires : tie.Need-put-requires
 put-requires c κs = search rules
 
-same_length : tie.Need-same-length
+same_length : tie.Need-shape_of-page
 same_length c = search rules
 
 returns : tie.Need-returns
@@ -37,9 +28,9 @@ returns c =
     let at₃ = at₄.before.before.before.before.before in
     let at₂ = at₃.before.before.before.before in
     let at₁ = at₂.before.before.before.before.before in
-    let p = at₁.put-labelled.ensures in
-    let q = at₂.put-labelled2.ensures in
-    let r = at₃.put-beside.ensures in
+    let p = at₁.put_labelled-a.ensures in
+    let q = at₂.put_labelled-b.ensures in
+    let r = at₃.put_beside-c.ensures in
     let s = at₄.put.ensures in
     (put_then (put_then (put_then p.0 q.0) r.0) s, omega (arith, p.1, q.1, r.1, s.ends))
 
@@ -47,12 +38,9 @@ pub put_number_spec : {M : Type 1} → statement M
 put_number_spec =
     tie.close
     (tie.spec
-    slice-aggregate-put-labelled
     put-labelled-requires
-    slice-aggregate-put-labelled-2
     put-labelled-requires-2
     put-beside-requires
-    slice-aggregate-put
     put-requires
     same_length
     returns)

@@ -9,41 +9,41 @@ use Rattle.labels.proofs.Texts.{texts_on, texts_end}
 use Rattle.labels.proofs.put_texts.Statement.{statement}
 use Rattle.labels.proofs.put_texts.Tie as tie
 
-abbrev invariant_loop : tie.invariant_loop
+abbrev invariant_loop : tie.invariant-loop-k
 invariant_loop page₀ at v strokes count end₀ k₀ page end k =
     (k ≤ count) × ((end ≤ at + 132 * k) × Put page₀ page at end (label_texts v strokes k))
 
-abbrev decreases_loop : tie.decreases_loop
+abbrev decreases_loop : tie.decreases-loop-k
 decreases_loop page₀ at v strokes count end₀ k₀ page end k = count - k
 
-loop-holds : tie.Need-loop-init invariant_loop decreases_loop
+loop-holds : tie.Need-loop-k-init invariant_loop decreases_loop
 unfolding label_texts
 loop-holds c = (omega arith, (omega arith, put_nothing _ (omega arith)))
 
-put-label-requires : tie.Need-put-label-requires invariant_loop decreases_loop
+put-label-requires : tie.Need-put_label-end-requires invariant_loop decreases_loop
 put-label-requires c κs =
-    let i = c.before.before.loop.invariant in
-    let t = c.before.loop-test.true in
+    let i = c.before.before.loop-k.invariant in
+    let t = c.before.loop-k-test.true in
     (omega arith, omega (arith, i.1.0, i.1.1.same))
 
-add-k : tie.Need-overflow-add-k invariant_loop decreases_loop
+add-k : tie.Need-overflow_add-k invariant_loop decreases_loop
 add-k c = omega arith
 
-loop-less : tie.Need-loop-smaller invariant_loop decreases_loop
+loop-less : tie.Need-loop-k-smaller invariant_loop decreases_loop
 loop-less c = omega arith
 
-loop-again : tie.Need-loop-preserved invariant_loop decreases_loop
+loop-again : tie.Need-loop-k-preserved invariant_loop decreases_loop
 loop-again c =
-    let l = c.before.before.before.before.before.loop in
-    let p = c.before.before.put-label.ensures in
+    let l = c.before.before.before.before.before.loop-k in
+    let p = c.before.before.put_label-end.ensures in
     (omega arith, (omega (arith, l.invariant.1.0, p.1), texts_on _ _ l.k l.invariant.1.1 p.0))
 
-same_length : tie.Need-same-length invariant_loop decreases_loop
-same_length c = c.before.loop.invariant.1.1.same
+same_length : tie.Need-shape_of-page invariant_loop decreases_loop
+same_length c = c.before.loop-k.invariant.1.1.same
 
 returns : tie.Need-returns invariant_loop decreases_loop
 returns c =
-    let l = c.before.loop in
+    let l = c.before.loop-k in
     let e : l.k ≡ c.before.before.before.args.count = omega (arith, l.invariant.0) in
     (texts_end _ _ e l.invariant.1.1, omega (arith, l.invariant.1.0))
 
