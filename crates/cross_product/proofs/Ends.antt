@@ -1,5 +1,5 @@
 -- The two ends of what is kept: where the line crosses the found side, and the side is then the first that fixes the end; or the stroke's own.
-use mathlib.Core.Path.{◌≡◌, refl, sym, subst, subst₂}
+use mathlib.Core.Path.{◌≡◌, sym, subst, subst₂}
 use mathlib.Core.List.{List, [], ◌∷◌}
 use mathlib.Core.Logic.{⊎_elim}
 use Prim.Native.Nat.{ℕ}
@@ -8,29 +8,27 @@ use lib.IntN.{ℤ, pos, neg_ℤ, ◌*ℤ◌}
 use lib.Signed.{◌≤ℤ◌, ◌<ℤ◌}
 use Rattle.whole.specs.Within.{Within}
 use Rattle.whole.proofs.Certificates.{ge, gt, clash, nn, le, lt, ◌⊞◌}
-use Rattle.whole.proofs.Expressions.{con, ◌⊕◌, ◌⊖◌, ◌⊗◌, neg, x0, x1, x2, x3}
+use Rattle.whole.proofs.Expressions.{con, ◌⊕◌, ◌⊖◌, ◌⊗◌, neg, x0, x1, x2}
 use Rattle.whole.proofs.Order.{zarith}
 use Rattle.whole.proofs.Polynomials.{ring}
 use Rattle.fraction.specs.declared.Fraction.{Fraction}
 use Rattle.fraction.specs.Rounding.{along}
 use Rattle.grid.specs.declared.Stroke.{Stroke}
 use Rattle.grid.specs.declared.Window.{Window}
-use Rattle.grid.specs.Sides.{Side, left, right, bottom, top}
 use Rattle.grid.specs.Table.{WindowOnTable}
-use Rattle.rings.specs.Lists.{All, Each, none, ◌and◌}
-use Rattle.rings.proofs.Lists.{all_head, all_tail}
-use Rattle.spans.specs.Parts.{Time, zeroth, unit}
-use Rattle.spans.specs.Sides.{Condition, MeetsAll, Inward, Outward, Fixes, FirstOf, no_side, StartSide, EndSide}
+use Rattle.rings.specs.Lists.{All}
+use Rattle.spans.specs.Parts.{zeroth, unit}
+use Rattle.spans.specs.Sides.{Condition, MeetsAll, Inward, Outward, FirstOf, no_side, StartSide, EndSide}
 use Rattle.spans.proofs.Cutting.{one_within}
-use Rattle.spans.proofs.Sides.{first_each, own_start, own_end}
+use Rattle.spans.proofs.Sides.{own_start, own_end}
 use Rattle.strokes.specs.declared.End.{End}
-use Rattle.strokes.specs.Sides.{condition, conditions, four_sides}
+use Rattle.strokes.specs.Sides.{conditions, four_sides}
 use Rattle.strokes.specs.Strokes.{PointAt}
 use Rattle.strokes.specs.Workers.{OnWay, EndAt}
 use Rattle.crossed_sides.specs.declared.Course.{Course}
 use Rattle.crossed_sides.specs.Line.{ComesIn, GoesOut}
 use Rattle.crossed_sides.specs.Workers.{CourseOf, up, down}
-use Rattle.crossed_sides.proofs.Corners.{Enters, Leaves, in_enters, out_leaves, enters_in, leaves_out}
+use Rattle.crossed_sides.proofs.Corners.{Enters, Leaves}
 use Rattle.crossed_sides.proofs.Courses.{in_of, out_of}
 use Rattle.cross_product.specs.Workers.{part_way, EndFound}
 use Rattle.cross_product.proofs.Fixing.{in_meets, out_meets}

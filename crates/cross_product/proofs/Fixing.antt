@@ -2,7 +2,7 @@
 -- another that it enters over is crossed there too. And the same outward.
 use mathlib.Core.Path.{◌≡◌}
 use mathlib.Core.List.{List, [], ◌∷◌}
-use lib.IntN.{ℤ, pos, ◌*ℤ◌}
+use lib.IntN.{pos, ◌*ℤ◌}
 use lib.Signed.{◌≤ℤ◌, ◌<ℤ◌}
 use Rattle.whole.proofs.Certificates.{ge_by, eq, po, le, lt, ◌⊞◌, ◌⊠◌}
 use Rattle.whole.proofs.Expressions.{Expr, Env, var, con, ◌⊗◌, neg}

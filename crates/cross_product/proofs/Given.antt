@@ -6,6 +6,7 @@ use Prim.Native.Nat.{ℕ}
 use native.Mathlib.Omega.{arith}
 use lib.IntN.{ℤ, pos, neg_ℤ}
 use lib.Signed.{◌≤ℤ◌, ◌<ℤ◌, le_z}
+use mir.Syntax.{w32}
 use mir.Facts.{to_z-of_z}
 use Rattle.whole.specs.Within.{Within}
 use Rattle.whole.proofs.Certificates.{ge, le}
@@ -35,7 +36,7 @@ use Rattle.cross_product.proofs.Ends.{course_at, course_to, near_way, far_way, o
 use Rattle.cross_product.proofs.Reached.{Reached, reached}
 
 number_is : {z : ℤ} → Within 32766 z → read z ≡ z
-number_is h = to_z-of_z (fits_abs (omega (arith, within_abs h)))
+number_is h = to_z-of_z {w = w32} (fits_abs (omega (arith, within_abs h)))
 
 -- the tests of the code
 pub behind : {z : ℤ} → Within 32766 z → le_z (read z) (pos 0) ≡ true → pos 0 ≤ℤ neg_ℤ z

@@ -4,21 +4,20 @@ use mathlib.Core.Path.{◌≡◌, sym, subst}
 use mathlib.Core.List.{List, [], ◌∷◌}
 use Prim.Native.Nat.{ℕ}
 use lib.IntN.{ℤ, pos, ◌*ℤ◌, ℤ_discrete}
-use lib.Signed.{◌≤ℤ◌, ◌<ℤ◌}
+use lib.Signed.{◌≤ℤ◌}
 use Rattle.whole.proofs.Certificates.{ge, ge_by, eq, po, nn, le, lt, ◌⊞◌, ◌⊠◌}
 use Rattle.whole.proofs.Expressions.{var, con, ◌⊗◌, neg, x0, x1, x2, x3}
 use Rattle.fraction.specs.declared.Fraction.{Fraction}
 use Rattle.grid.specs.declared.Stroke.{Stroke}
 use Rattle.grid.specs.declared.Window.{Window}
-use Rattle.rings.specs.Lists.{All, ∅, ◌◂◌}
+use Rattle.rings.specs.Lists.{All, ◌◂◌}
 use Rattle.spans.specs.declared.Span.{Span}
 use Rattle.spans.specs.Parts.{Time}
-use Rattle.spans.specs.Sides.{Condition, MeetsAll, Inward, Outward, Fixes, FirstOf, here, later, StartSide, EndSide}
+use Rattle.spans.specs.Sides.{Condition, MeetsAll, FirstOf, here, later, StartSide, EndSide}
 use Rattle.spans.specs.Spans.{SpanOf}
 use Rattle.spans.proofs.Parts.{time_within}
 use Rattle.strokes.specs.declared.End.{End}
 use Rattle.strokes.specs.declared.StrokeAnswer.{StrokeAnswer}
-use Rattle.strokes.specs.Sides.{conditions}
 use Rattle.strokes.specs.Strokes.{Keeps, Clipped}
 use Rattle.strokes.specs.Workers.{OnWay, KeptAnswer}
 use Rattle.strokes.proofs.Answers.{span_kept}

@@ -1,6 +1,6 @@
 -- A stroke that is not missed by its ends is missed where all corners lie on one side of its line, and only there: else the corners find the side where
 -- it comes in, and the point there is kept, or the stroke's own start.
-use mathlib.Core.Path.{◌≡◌, refl, sym, ap, ◌∙◌}
+use mathlib.Core.Path.{◌≡◌}
 use mathlib.Core.Bool.{Bool, true, false}
 use mathlib.Core.List.{[], ◌∷◌}
 use mathlib.Core.Logic.{◌⊎◌, inl, inr, ⊎_elim}
@@ -8,24 +8,19 @@ use lib.IntN.{ℤ, pos, ◌*ℤ◌, ℤ_discrete}
 use lib.Signed.{◌≤ℤ◌, ◌<ℤ◌}
 use Rattle.whole.specs.Within.{Within}
 use Rattle.whole.proofs.Certificates.{ge, le}
-use Rattle.whole.proofs.Comparisons.{tt_ff}
 use Rattle.whole.proofs.Expressions.{con, ◌⊗◌, neg, x0, x1}
 use Rattle.whole.proofs.Order.{zarith, ≤_total}
 use Rattle.whole.proofs.Polynomials.{ring}
 use Rattle.grid.specs.declared.Stroke.{Stroke}
 use Rattle.grid.specs.declared.Window.{Window}
-use Rattle.grid.specs.Sides.{left, right, bottom, top}
 use Rattle.grid.specs.Table.{WindowOnTable, StrokeOnTable}
-use Rattle.grid.proofs.Refusals.{done_or_refused, window_on_table, stroke_on_table}
-use Rattle.rings.specs.Lists.{All, ◌and◌}
+use Rattle.rings.specs.Lists.{All}
 use Rattle.spans.specs.Sides.{Condition, FirstOf}
-use Rattle.strokes.specs.declared.StrokeAnswer.{StrokeAnswer}
 use Rattle.strokes.specs.Sides.{conditions, four_sides}
-use Rattle.strokes.specs.Strokes.{Keeps, Clipped, Clipping, stroke_call_refusal}
+use Rattle.strokes.specs.Strokes.{Keeps}
 use Rattle.strokes.specs.Workers.{MayReach, Reaching}
 use Rattle.strokes.proofs.Answers.{inside_always}
 use Rattle.strokes.proofs.Coordinates.{not_below, not_above}
-use Rattle.strokes.proofs.Refusing.{nothing_refused}
 use Rattle.strokes.proofs.Sides.{meets_keeps}
 use Rattle.crossed_sides.specs.declared.Course.{Course}
 use Rattle.crossed_sides.specs.Line.{ComesIn, OneSide, entry_side}
@@ -34,10 +29,9 @@ use Rattle.crossed_sides.proofs.Beside.{out_first, in_last}
 use Rattle.crossed_sides.proofs.Corners.{Enters}
 use Rattle.crossed_sides.proofs.Courses.{in_of}
 use Rattle.crossed_sides.proofs.Found.{entry}
-use Rattle.crossed_sides.proofs.Missed.{one_side_missed}
 use Rattle.crossed_sides.proofs.Told.{enters_upright, enters_level}
 use Rattle.cross_product.specs.Workers.{part_way}
-use Rattle.cross_product.specs.Laws.{BothBeyond, to_left, to_right, to_bottom, to_top, MissedByCorners}
+use Rattle.cross_product.specs.Laws.{BothBeyond, to_left, to_right, to_bottom, to_top}
 use Rattle.cross_product.proofs.Ends.{near_way}
 use Rattle.cross_product.proofs.Fixing.{in_meets}
 use Rattle.cross_product.proofs.Given.{x_small, y_small, in_x, in_y}

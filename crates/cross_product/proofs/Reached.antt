@@ -6,8 +6,8 @@ use mathlib.Core.Logic.{◌⊎◌, inl, inr, ⊎_elim}
 use lib.IntN.{ℤ, pos, neg_ℤ, ◌-ℤ◌, ◌*ℤ◌}
 use lib.Signed.{◌≤ℤ◌, ◌<ℤ◌}
 use Rattle.whole.proofs.Certificates.{ge, clash, po, nn, le, lt, ◌⊞◌, ◌⊠◌}
-use Rattle.whole.proofs.Expressions.{Env, var, con, ◌⊖◌, ◌⊗◌, neg, x0, x1, x2, x3}
-use Rattle.whole.proofs.Order.{zarith, ≤_total, ≤_diff, <→≤}
+use Rattle.whole.proofs.Expressions.{Env, con, ◌⊖◌, ◌⊗◌, neg, x0, x1, x2, x3}
+use Rattle.whole.proofs.Order.{zarith, ≤_total, ≤_diff}
 use Rattle.grid.specs.declared.Stroke.{Stroke}
 use Rattle.grid.specs.declared.Window.{Window}
 use Rattle.grid.specs.Table.{WindowOnTable}

@@ -1,10 +1,10 @@
 -- The two numbers of a fraction of the stroke's way, as the code casts them, are those numbers; so what is rounded by them is the stroke's point there.
-use mathlib.Core.Path.{◌≡◌, sym, transport, ◌∙◌}
+use mathlib.Core.Path.{◌≡◌, transport, ◌∙◌}
 use Prim.Native.Nat.{ℕ, ◌<◌, ◌≤◌}
 use native.Mathlib.Omega.{arith}
 use lib.Dec.{T}
 use lib.IntN.{ℤ, pos, nat_abs}
-use lib.Signed.{non_neg, ◌≤ℤ◌}
+use lib.Signed.{non_neg}
 use mir.Syntax.{w32, w64}
 use mir.Val.{SFits, Fits, to_z}
 use mir.Facts.{to_z_pos}

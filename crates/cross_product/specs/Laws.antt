@@ -4,7 +4,7 @@
 --   MissedByCorners      a stroke is missed exactly where its two ends lie beyond one side, or all four corners lie on one side of its line
 --   FirstCrossed w s a   a side that a names for t0 is the first where the line comes in, one that it names for t1 the first where it goes out
 --   SidesByCorners       so it is of every answer
-use Rattle.std.specs.Prelude.{◌≡◌, true, false, ◌⊎◌, ◌↔◌, ◌<ℤ◌}
+use Rattle.std.specs.Prelude.{◌≡◌, false, ◌⊎◌, ◌↔◌, ◌<ℤ◌}
 use Rattle.grid.specs.declared.Stroke.{Stroke}
 use Rattle.grid.specs.declared.Window.{Window}
 use Rattle.spans.specs.Sides.{FirstOf, no_side}

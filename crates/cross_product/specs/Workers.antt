@@ -3,7 +3,7 @@
 --   MeetsUpright, MeetsLevel s at n d   n/d is a fraction of the stroke's way, and the stroke's x, or its y, is there exactly `at`
 --   EndFound Named w s e  e is an end of what is kept: its fraction of the stroke's way meets all conditions of the window, its point is the stroke's there,
 --                         rounded, and its side is Named for it
-use Rattle.std.specs.Prelude.{◌≡◌, List, ℕ, ℤ, pos, ◌*ℤ◌, ◌≤ℤ◌, ◌<ℤ◌}
+use Rattle.std.specs.Prelude.{◌≡◌, List, ℕ, ℤ, ◌*ℤ◌}
 use Rattle.whole.specs.Within.{Within}
 use Rattle.fraction.specs.declared.Fraction.{Fraction}
 use Rattle.fraction.specs.Rounding.{along}

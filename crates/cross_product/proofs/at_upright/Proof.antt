@@ -12,16 +12,16 @@ use Rattle.cross_product.proofs.Steps.{num_cast, den_cast, num_range, den_range,
 use Rattle.cross_product.proofs.at_upright.Statement.{statement}
 use Rattle.cross_product.proofs.at_upright.Tie as tie
 
-cast-num : tie.Need-overflow-cast-num
+cast-num : tie.Need-overflow_cast-num
 cast-num c = num_cast c.requires.1.way
 
-cast-den : tie.Need-overflow-cast-den
+cast-den : tie.Need-overflow_cast-den
 cast-den c = den_cast c.requires.1.way
 
-cast-t8 : tie.Need-overflow-cast-t8
+cast-t8 : tie.Need-overflow_cast-result
 cast-t8 c = record { sfits = omega (arith, num_range c.requires.1.way, (den_range c.requires.1.way).1) }
 
-cast-t9 : tie.Need-overflow-cast-t9
+cast-t9 : tie.Need-overflow_cast-result-2
 cast-t9 c = record { sfits = omega (arith, (den_range c.requires.1.way).1) }
 
 rounded-requires : tie.Need-rounded-requires
@@ -37,7 +37,7 @@ returns c =
     let num = sym (num_wide p.1.way) in
     let den = sym (den_wide p.1.way) in
     let at = sym (to_z-of_z st.ranges.at) in
-    let there = sym (back w32 _ c.rounded.type-inv) in
+    let there = sym (back w32 _ c.rounded.type_inv) in
     transport (λ i. EndAt a.s (part_way a.n a.long) a.side (record { t = record { num = num i; den = den i }; x = at i; y = there i; side = a.side }))
     (record { t = refl; point = record { across = rounded_exact p.1.on p.1.way.time.den; up = rounded_there p.1.way p.0.y1 p.0.y2 c.rounded.ensures }; side = refl })
 

@@ -13,76 +13,76 @@ use Rattle.cross_product.proofs.cross_product.Statement.{statement}
 use Rattle.cross_product.proofs.cross_product.Tie as tie
 
 -- no refusal of the window, no refusal of the stroke
-window_done : (c : tie.Else1) → (window_refusal c.before.before.before.args.w).number ≡ 0
-window_done c = ap (λ (r : Refusal). r.number) (sym c.before.before.window-refusal.ensures) ∙ c.if1.false
+window_done : (c : tie.Else-a-ne0) → (window_refusal c.before.before.before.args.w).number ≡ 0
+window_done c = ap (λ (r : Refusal). r.number) (sym c.before.before.window_refusal-a.ensures) ∙ c.if-a-ne0.false
 
-stroke_done : (c : tie.Else3) → (stroke_refusal c.before.before.before.before.before.before.before.before.args.s).number ≡ 0
-stroke_done c = ap (λ (r : Refusal). r.number) (sym c.before.before.stroke-refusal.ensures) ∙ c.if3.false
+stroke_done : (c : tie.Else-b-ne0) → (stroke_refusal c.before.before.before.before.before.before.before.before.args.s).number ≡ 0
+stroke_done c = ap (λ (r : Refusal). r.number) (sym c.before.before.stroke_refusal-b.ensures) ∙ c.if-b-ne0.false
 
-window-refusal-requires : tie.Need-window-refusal-requires
+window-refusal-requires : tie.Need-window_refusal-a-requires
 window-refusal-requires c κs = search rules
 
 blank-requires : tie.Need-blank-requires
 blank-requires c κs = search rules
 
-returns : tie.Need-returns
+returns : tie.Need-returns-then-a-ne0
 returns c =
     let a = c.before.before.before.before.args in
-    let e = c.before.before.before.window-refusal.ensures in
-    subst (Clipping a.w a.s) (ap blank (sym e) ∙ sym c.blank.ensures) (refused_window (subst (λ (r : Refusal). r.number ≡ 0 → ⊥) e c.before.if1.true))
+    let e = c.before.before.before.window_refusal-a.ensures in
+    subst (Clipping a.w a.s) (ap blank (sym e) ∙ sym c.blank.ensures) (refused_window (subst (λ (r : Refusal). r.number ≡ 0 → ⊥) e c.before.if-a-ne0.true))
 
 inside-requires : tie.Need-inside-requires
 inside-requires c κs = search rules
 
-whole-answer-requires : tie.Need-whole-answer-requires
+whole-answer-requires : tie.Need-whole_answer-requires
 whole-answer-requires c κs = search rules
 
-returns-2 : tie.Need-returns-2
+returns-2 : tie.Need-returns-then-inside
 returns-2 c =
     let k = c.before.before.before in
     let w = k.before.before.before.args.w in
     let s = k.before.before.before.args.s in
-    let i = c.before.before.inside.ensures.0 c.before.if2.true in
+    let i = c.before.before.inside.ensures.0 c.before.if-inside.true in
     let z = window_done k in
     let on = inside_on_table (window_on_table w z) i in
     done_stroke z (ap (λ (r : Refusal). r.number) (sym (stroke_fine s on))) (subst (Clipped w s) (sym c.whole_answer.ensures) (whole_answer_lem (inside_always i)))
 
-stroke-refusal-requires : tie.Need-stroke-refusal-requires
+stroke-refusal-requires : tie.Need-stroke_refusal-b-requires
 stroke-refusal-requires c κs = search rules
 
-blank-requires-2 : tie.Need-blank-requires-2
+blank-requires-2 : tie.Need-blank-requires-then-b-ne0
 blank-requires-2 c κs = search rules
 
-returns-3 : tie.Need-returns-3
+returns-3 : tie.Need-returns-then-b-ne0
 returns-3 c =
     let k = c.before.before.before.before.before.before in
     let a = k.before.before.before.args in
-    let e = c.before.before.before.stroke-refusal.ensures in
-    subst (Clipping a.w a.s) (ap blank (sym e) ∙ sym c.blank2.ensures)
-    (refused_stroke (window_done k) (subst (λ (r : Refusal). r.number ≡ 0 → ⊥) e c.before.if3.true))
+    let e = c.before.before.before.stroke_refusal-b.ensures in
+    subst (Clipping a.w a.s) (ap blank (sym e) ∙ sym c.blank-then-b-ne0.ensures)
+    (refused_stroke (window_done k) (subst (λ (r : Refusal). r.number ≡ 0 → ⊥) e c.before.if-b-ne0.true))
 
 outside-requires : tie.Need-outside-requires
 outside-requires c κs = search rules
 
-blank-requires-3 : tie.Need-blank-requires-3
+blank-requires-3 : tie.Need-blank-requires-then-outside
 blank-requires-3 c κs = search rules
 
-returns-4 : tie.Need-returns-4
+returns-4 : tie.Need-returns-then-outside
 returns-4 c =
     let k = c.before.before.before in
     let l = k.before.before.before.before.before in
     let a = l.before.before.before.args in
     done_stroke (window_done l) (stroke_done k)
-    (subst (Clipped a.w a.s) (sym c.blank3.ensures) (nothing_kept (c.before.before.outside.ensures.0 c.before.if4.true)))
+    (subst (Clipped a.w a.s) (sym c.blank-then-outside.ensures) (nothing_kept (c.before.before.outside.ensures.0 c.before.if-outside.true)))
 
 crossing-requires : tie.Need-crossing-requires
 crossing-requires c κs =
     let k = c.before.before in
-    let reaching = c.before.outside.ensures.1 c.if4.false in
+    let reaching = c.before.outside.ensures.1 c.if-outside.false in
     let l = k.before.before.before in
-    (window_on_table _ (window_done k.before.before.before.before.before), (stroke_on_table _ (stroke_done k), (reaching, λ p q. l.before.inside.ensures.1 l.if2.false (dot_inside reaching p q))))
+    (window_on_table _ (window_done k.before.before.before.before.before), (stroke_on_table _ (stroke_done k), (reaching, λ p q. l.before.inside.ensures.1 l.if-inside.false (dot_inside reaching p q))))
 
-returns-5 : tie.Need-returns-5
+returns-5 : tie.Need-returns
 returns-5 c = let k = c.before.before.before in done_stroke (window_done k.before.before.before.before.before) (stroke_done k) c.crossing.ensures
 
 pub cross_product_spec : {M : Type 1} → statement M

@@ -13,55 +13,55 @@ use Rattle.cross_product.proofs.finish.Tie as tie
 first : (c : tie.Start) {t : Bool} → c.args.level ≡ t → FirstOf (GoesOut c.args.w c.args.s) four_sides (exit_side c.args.s t)
 first c e = subst (λ (t : Bool). FirstOf (GoesOut c.args.w c.args.s) four_sides (exit_side c.args.s t)) e c.requires.1.1.1.1.1
 
-own-end-requires : tie.Need-own-end-requires
+own-end-requires : tie.Need-own_end-requires
 own-end-requires c κs = c.before.before.before.before.requires.1.0
 
-returns : tie.Need-returns
+returns : tie.Need-returns-then-y
 returns c =
     let st = c.before.before.before.before.before in
     let p = st.requires in
-    own_end_level p.0 p.1.0 p.1.1.0 p.1.1.1.0 p.1.1.1.1.0 (first st c.before.before.before.before.if1.true) (within_reach (y_small p.0 p.1.0 p.1.1.0 p.1.1.1.0 p.1.1.1.1.0).0 (y_small p.0 p.1.0 p.1.1.0 p.1.1.1.0 p.1.1.1.1.0).1.1 c.before.if2.true) c.own_end.ensures
+    own_end_level p.0 p.1.0 p.1.1.0 p.1.1.1.0 p.1.1.1.1.0 (first st c.before.before.before.before.if-level.true) (within_reach (y_small p.0 p.1.0 p.1.1.0 p.1.1.1.0 p.1.1.1.1.0).0 (y_small p.0 p.1.0 p.1.1.0 p.1.1.1.0 p.1.1.1.1.0).1.1 c.before.if-y.true) c.own_end.ensures
 
-exit-side-requires : tie.Need-exit-side-requires
+exit-side-requires : tie.Need-exit_side-requires
 exit-side-requires c κs = search rules
 
-at-level-requires : tie.Need-at-level-requires
+at-level-requires : tie.Need-at_level-requires
 at-level-requires c κs =
     let st = c.before.before.before.before.before.before.before.before in
     let p = st.requires in
-    (p.1.0, end_level_asks p.0 p.1.0 p.1.1.0 p.1.1.1.0 p.1.1.1.1.0 (first st c.before.before.before.before.before.before.before.if1.true) (cut_off (y_small p.0 p.1.0 p.1.1.0 p.1.1.1.0 p.1.1.1.1.0).0 (y_small p.0 p.1.0 p.1.1.0 p.1.1.1.0 p.1.1.1.1.0).1.1 c.before.before.before.before.if2.false))
+    (p.1.0, end_level_asks p.0 p.1.0 p.1.1.0 p.1.1.1.0 p.1.1.1.1.0 (first st c.before.before.before.before.before.before.before.if-level.true) (cut_off (y_small p.0 p.1.0 p.1.1.0 p.1.1.1.0 p.1.1.1.1.0).0 (y_small p.0 p.1.0 p.1.1.0 p.1.1.1.0 p.1.1.1.1.0).1.1 c.before.before.before.before.if-y.false))
 
-returns-2 : tie.Need-returns-2
+returns-2 : tie.Need-returns-then-level
 returns-2 c =
     let st = c.before.before.before.before.before.before.before.before.before in
     let p = st.requires in
-    let l = c.before.before.before.before.before.before.before.before.if1.true in
-    end_level_found p.0 p.1.0 p.1.1.0 p.1.1.1.0 p.1.1.1.1.0 (first st l) (cut_off (y_small p.0 p.1.0 p.1.1.0 p.1.1.1.0 p.1.1.1.1.0).0 (y_small p.0 p.1.0 p.1.1.0 p.1.1.1.0 p.1.1.1.1.0).1.1 c.before.before.before.before.before.if2.false) (c.before.before.before.before.exit-side.ensures ∙ ap (exit_side st.args.s) l) c.at_level.ensures
+    let l = c.before.before.before.before.before.before.before.before.if-level.true in
+    end_level_found p.0 p.1.0 p.1.1.0 p.1.1.1.0 p.1.1.1.1.0 (first st l) (cut_off (y_small p.0 p.1.0 p.1.1.0 p.1.1.1.0 p.1.1.1.1.0).0 (y_small p.0 p.1.0 p.1.1.0 p.1.1.1.0 p.1.1.1.1.0).1.1 c.before.before.before.before.before.if-y.false) (c.before.before.before.before.exit_side.ensures ∙ ap (exit_side st.args.s) l) c.at_level.ensures
 
-own-end-requires-2 : tie.Need-own-end-requires-2
+own-end-requires-2 : tie.Need-own_end-requires-then-x
 own-end-requires-2 c κs = c.before.before.before.before.requires.1.0
 
-returns-3 : tie.Need-returns-3
+returns-3 : tie.Need-returns-then-x
 returns-3 c =
     let st = c.before.before.before.before.before in
     let p = st.requires in
-    own_end_upright p.0 p.1.0 p.1.1.0 p.1.1.1.0 p.1.1.1.1.0 (first st c.before.before.before.before.if1.false) (within_reach (x_small p.0 p.1.0 p.1.1.0 p.1.1.1.0 p.1.1.1.1.0).0 (x_small p.0 p.1.0 p.1.1.0 p.1.1.1.0 p.1.1.1.1.0).1.1 c.before.if3.true) c.own-end2.ensures
+    own_end_upright p.0 p.1.0 p.1.1.0 p.1.1.1.0 p.1.1.1.1.0 (first st c.before.before.before.before.if-level.false) (within_reach (x_small p.0 p.1.0 p.1.1.0 p.1.1.1.0 p.1.1.1.1.0).0 (x_small p.0 p.1.0 p.1.1.0 p.1.1.1.0 p.1.1.1.1.0).1.1 c.before.if-x.true) c.own_end-then-x.ensures
 
-exit-side-requires-2 : tie.Need-exit-side-requires-2
+exit-side-requires-2 : tie.Need-exit_side-requires-2
 exit-side-requires-2 c κs = search rules
 
-at-upright-requires : tie.Need-at-upright-requires
+at-upright-requires : tie.Need-at_upright-requires
 at-upright-requires c κs =
     let st = c.before.before.before.before.before.before.before.before in
     let p = st.requires in
-    (p.1.0, end_upright_asks p.0 p.1.0 p.1.1.0 p.1.1.1.0 p.1.1.1.1.0 (first st c.before.before.before.before.before.before.before.if1.false) (cut_off (x_small p.0 p.1.0 p.1.1.0 p.1.1.1.0 p.1.1.1.1.0).0 (x_small p.0 p.1.0 p.1.1.0 p.1.1.1.0 p.1.1.1.1.0).1.1 c.before.before.before.before.if3.false))
+    (p.1.0, end_upright_asks p.0 p.1.0 p.1.1.0 p.1.1.1.0 p.1.1.1.1.0 (first st c.before.before.before.before.before.before.before.if-level.false) (cut_off (x_small p.0 p.1.0 p.1.1.0 p.1.1.1.0 p.1.1.1.1.0).0 (x_small p.0 p.1.0 p.1.1.0 p.1.1.1.0 p.1.1.1.1.0).1.1 c.before.before.before.before.if-x.false))
 
-returns-4 : tie.Need-returns-4
+returns-4 : tie.Need-returns
 returns-4 c =
     let st = c.before.before.before.before.before.before.before.before.before in
     let p = st.requires in
-    let l = c.before.before.before.before.before.before.before.before.if1.false in
-    end_upright_found p.0 p.1.0 p.1.1.0 p.1.1.1.0 p.1.1.1.1.0 (first st l) (cut_off (x_small p.0 p.1.0 p.1.1.0 p.1.1.1.0 p.1.1.1.1.0).0 (x_small p.0 p.1.0 p.1.1.0 p.1.1.1.0 p.1.1.1.1.0).1.1 c.before.before.before.before.before.if3.false) (c.before.before.before.before.exit-side2.ensures ∙ ap (exit_side st.args.s) l) c.at-upright.ensures
+    let l = c.before.before.before.before.before.before.before.before.if-level.false in
+    end_upright_found p.0 p.1.0 p.1.1.0 p.1.1.1.0 p.1.1.1.1.0 (first st l) (cut_off (x_small p.0 p.1.0 p.1.1.0 p.1.1.1.0 p.1.1.1.1.0).0 (x_small p.0 p.1.0 p.1.1.0 p.1.1.1.0 p.1.1.1.1.0).1.1 c.before.before.before.before.before.if-x.false) (c.before.before.before.before.exit_side-2.ensures ∙ ap (exit_side st.args.s) l) c.at_upright.ensures
 
 pub finish_spec : {M : Type 1} → statement M
 finish_spec =
