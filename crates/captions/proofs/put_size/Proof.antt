@@ -6,37 +6,28 @@ use borrow.Author.Rules.{rules}
 use Rattle.captions.proofs.put_size.Statement.{statement}
 use Rattle.captions.proofs.put_size.Tie as tie
 
-width-requires : tie.Need-width-requires
+width-requires : tie.Need-width-wide-requires
 width-requires c κs = search rules
 
-height-requires : tie.Need-height-requires
+height-requires : tie.Need-height-high-requires
 height-requires c κs = search rules
 
-slice-aggregate-put : tie.Need-slice-aggregate-put
-slice-aggregate-put c = search rules
-
-put-requires : tie.Need-put-requires
+put-requires : tie.Need-put-a-requires
 put-requires c κs = search rules
 
-put-millimetres-requires : tie.Need-put-millimetres-requires
+put-millimetres-requires : tie.Need-put_millimetres-b-requires
 put-millimetres-requires c κs = search rules
 
-slice-aggregate-put-2 : tie.Need-slice-aggregate-put-2
-slice-aggregate-put-2 c = search rules
-
-put-requires-2 : tie.Need-put-requires-2
+put-requires-2 : tie.Need-put-c-requires
 put-requires-2 c κs = search rules
 
-put-millimetres-requires-2 : tie.Need-put-millimetres-requires-2
+put-millimetres-requires-2 : tie.Need-put_millimetres-d-requires
 put-millimetres-requires-2 c κs = search rules
 
-slice-aggregate-put-3 : tie.Need-slice-aggregate-put-3
-slice-aggregate-put-3 c = search rules
-
-put-requires-3 : tie.Need-put-requires-3
+put-requires-3 : tie.Need-put-requires
 put-requires-3 c κs = search rules
 
-same_length : tie.Need-same-length
+same_length : tie.Need-shape_of-page
 same_length c = search rules
 
 returns : tie.Need-returns
@@ -49,12 +40,12 @@ returns c =
     let at₃ = at₄.before.before.before.before in
     let at₂ = at₃.before.before.before in
     let at₁ = at₂.before in
-    let p = at₃.put.ensures in
-    let q = at₄.put-millimetres.ensures in
-    let r = at₅.put2.ensures in
-    let s = at₆.put-millimetres2.ensures in
-    let t = at₇.put3.ensures in (
-      rw (← at₁.width.ensures.0, ← at₂.height.ensures.0) (put_then (put_then (put_then (put_then p q.0) r) s.0) t),
+    let p = at₃.put-a.ensures in
+    let q = at₄.put_millimetres-b.ensures in
+    let r = at₅.put-c.ensures in
+    let s = at₆.put_millimetres-d.ensures in
+    let t = at₇.put.ensures in (
+      rw (← at₁.width-wide.ensures.0, ← at₂.height-high.ensures.0) (put_then (put_then (put_then (put_then p q.0) r) s.0) t),
       omega (arith, p.ends, q.1, r.ends, s.1, t.ends),
     )
 
@@ -64,13 +55,10 @@ put_size_spec =
     (tie.spec
     width-requires
     height-requires
-    slice-aggregate-put
     put-requires
     put-millimetres-requires
-    slice-aggregate-put-2
     put-requires-2
     put-millimetres-requires-2
-    slice-aggregate-put-3
     put-requires-3
     same_length
     returns)
