@@ -8,19 +8,19 @@ use borrow.Author.Rules.{rules}
 use Rattle.strip_lines.proofs.put_lengths.Statement.{statement}
 use Rattle.strip_lines.proofs.put_lengths.Tie as tie
 
-put-millimetre-requires : tie.Need-put-millimetre-requires
+put-millimetre-requires : tie.Need-put_millimetre-a-requires
 put-millimetre-requires c κs = search rules
 
-put-millimetre-requires-2 : tie.Need-put-millimetre-requires-2
+put-millimetre-requires-2 : tie.Need-put_millimetre-b-requires
 put-millimetre-requires-2 c κs = search rules
 
-put-millimetre-requires-3 : tie.Need-put-millimetre-requires-3
+put-millimetre-requires-3 : tie.Need-put_millimetre-c-requires
 put-millimetre-requires-3 c κs = search rules
 
-put-millimetre-requires-4 : tie.Need-put-millimetre-requires-4
+put-millimetre-requires-4 : tie.Need-put_millimetre-requires
 put-millimetre-requires-4 c κs = search rules
 
-same_length : tie.Need-same-length
+same_length : tie.Need-shape_of-page
 same_length c = search rules
 
 returns : tie.Need-returns
@@ -30,11 +30,11 @@ returns c =
     let at₂ = at₃.before.before.before.before.before in
     let at₁ = at₂.before.before.before.before.before in
     let w = at₁.before.before.before.before.args.w in
-    let t = at₁.before.struct_told.given in
-    let p = at₁.put-millimetre.ensures in
-    let q = at₂.put-millimetre2.ensures in
-    let r = at₃.put-millimetre3.ensures in
-    let s = at₄.put-millimetre4.ensures in
+    let t = at₁.before.struct_told-1.given in
+    let p = at₁.put_millimetre-a.ensures in
+    let q = at₂.put_millimetre-b.ensures in
+    let r = at₃.put_millimetre-c.ensures in
+    let s = at₄.put_millimetre.ensures in
     let left = back w32 w.left t.0.1 in
     let bottom = back w32 w.bottom t.1.0.1 in
     let right = back w32 w.right t.1.1.0.1 in

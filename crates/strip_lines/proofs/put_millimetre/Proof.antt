@@ -10,28 +10,28 @@ use borrow.Author.Rules.{rules}
 use Rattle.strip_lines.proofs.put_millimetre.Statement.{statement}
 use Rattle.strip_lines.proofs.put_millimetre.Tie as tie
 
-cast-size : tie.Need-overflow-cast-size
+cast-size : tie.Need-overflow_cast-z
 cast-size c = rw (to_z-of_z c.before.ranges.z) (sfits_widen tt c.before.ranges.z)
 
-size-requires : tie.Need-size-requires
+size-requires : tie.Need-size-size-requires
 size-requires c κs = search rules
 
-put-sign-requires : tie.Need-put-sign-requires
+put-sign-requires : tie.Need-put_sign-a-requires
 put-sign-requires c κs = search rules
 
-put-millimetres-requires : tie.Need-put-millimetres-requires
+put-millimetres-requires : tie.Need-put_millimetres-b-requires
 put-millimetres-requires c κs = search rules
 
-slice-write-page : tie.Need-slice-write-page
+slice-write-page : tie.Need-bounds-page-b
 slice-write-page c = search rules
 
-add-result : tie.Need-overflow-add-result
+add-result : tie.Need-overflow_add-result
 add-result c = search rules
 
-same_length : tie.Need-same-length
+same_length : tie.Need-shape_of-page
 same_length c =
-    let p = c.before.before.before.before.before.before.put-sign.ensures.0 in
-    let q = c.before.before.put-millimetres.ensures.0 in
+    let p = c.before.before.before.before.before.before.put_sign-a.ensures.0 in
+    let q = c.before.before.put_millimetres-b.ensures.0 in
     simp length-set (q.same ∙ p.same)
 
 returns : tie.Need-returns
@@ -41,9 +41,9 @@ returns c =
     let at₂ = at₁.before.before.before.before in
     let at₃ = at₂.before.before in
     let f = at₃.before.before.ranges.z in
-    let p = at₂.put-sign.ensures in
-    let q = at₁.put-millimetres.ensures in
-    let s = simp (to_z-of_z f, to_z-of_z {w = w64} (sfits_widen {w = w32} tt f)) at at₃.size.ensures in (
+    let p = at₂.put_sign-a.ensures in
+    let q = at₁.put_millimetres-b.ensures in
+    let s = simp (to_z-of_z f, to_z-of_z {w = w64} (sfits_widen {w = w32} tt f)) at at₃.size-size.ensures in (
       put_byte 32 (omega (arith, q.0.same, p.0.same, p.1, q.1)) (put_then (simp (to_z-of_z f) at p.0) (rw s at q.0)),
       omega (arith, p.1, q.1),
     )

@@ -10,28 +10,25 @@ use borrow.Author.Rules.{rules}
 use Rattle.strip_lines.proofs.put_row.Statement.{statement}
 use Rattle.strip_lines.proofs.put_row.Tie as tie
 
-cast-put-number : tie.Need-overflow-cast-put-number
+cast-put-number : tie.Need-overflow_cast-k
 cast-put-number c = search rules
 
-put-number-requires : tie.Need-put-number-requires
+put-number-requires : tie.Need-put_number-a-requires
 put-number-requires c κs = search rules
 
-cast-put-number-2 : tie.Need-overflow-cast-put-number-2
+cast-put-number-2 : tie.Need-overflow_cast-k-2
 cast-put-number-2 c = search rules
 
-put-number-requires-2 : tie.Need-put-number-requires-2
+put-number-requires-2 : tie.Need-put_number-b-requires
 put-number-requires-2 c κs = search rules
 
-put-strip-requires : tie.Need-put-strip-requires
+put-strip-requires : tie.Need-put_strip-c-requires
 put-strip-requires c κs = search rules
-
-slice-aggregate-put : tie.Need-slice-aggregate-put
-slice-aggregate-put c = search rules
 
 put-requires : tie.Need-put-requires
 put-requires c κs = search rules
 
-same_length : tie.Need-same-length
+same_length : tie.Need-shape_of-page
 same_length c = search rules
 
 returns : tie.Need-returns
@@ -41,9 +38,9 @@ returns c =
     let at₃ = at₄.before.before.before.before.before in
     let at₂ = at₃.before.before.before.before in
     let at₁ = at₂.before.before.before.before in
-    let p = at₁.put-number.ensures in
-    let q = at₂.put-number2.ensures in
-    let r = at₃.put-strip.ensures in
+    let p = at₁.put_number-a.ensures in
+    let q = at₂.put_number-b.ensures in
+    let r = at₃.put_strip-c.ensures in
     let s = at₄.put.ensures in
     let k = at₁.before.before.before.args.k in
     let renter = to_z_pos w32 {n = k / 32} (omega arith) in
@@ -59,7 +56,6 @@ put_row_spec =
     cast-put-number-2
     put-number-requires-2
     put-strip-requires
-    slice-aggregate-put
     put-requires
     same_length
     returns)

@@ -8,19 +8,19 @@ use borrow.Author.Rules.{rules}
 use Rattle.strip_lines.proofs.put_sides.Statement.{statement}
 use Rattle.strip_lines.proofs.put_sides.Tie as tie
 
-put-number-requires : tie.Need-put-number-requires
+put-number-requires : tie.Need-put_number-a-requires
 put-number-requires c κs = search rules
 
-put-number-requires-2 : tie.Need-put-number-requires-2
+put-number-requires-2 : tie.Need-put_number-b-requires
 put-number-requires-2 c κs = search rules
 
-put-number-requires-3 : tie.Need-put-number-requires-3
+put-number-requires-3 : tie.Need-put_number-c-requires
 put-number-requires-3 c κs = search rules
 
-put-number-requires-4 : tie.Need-put-number-requires-4
+put-number-requires-4 : tie.Need-put_number-requires
 put-number-requires-4 c κs = search rules
 
-same_length : tie.Need-same-length
+same_length : tie.Need-shape_of-page
 same_length c = search rules
 
 returns : tie.Need-returns
@@ -30,11 +30,11 @@ returns c =
     let at₂ = at₃.before.before.before.before.before in
     let at₁ = at₂.before.before.before.before.before in
     let w = at₁.before.before.before.before.args.w in
-    let t = at₁.before.struct_told.given in
-    let p = at₁.put-number.ensures in
-    let q = at₂.put-number2.ensures in
-    let r = at₃.put-number3.ensures in
-    let s = at₄.put-number4.ensures in
+    let t = at₁.before.struct_told-1.given in
+    let p = at₁.put_number-a.ensures in
+    let q = at₂.put_number-b.ensures in
+    let r = at₃.put_number-c.ensures in
+    let s = at₄.put_number.ensures in
     let left = back w32 w.left t.0.1 in
     let bottom = back w32 w.bottom t.1.0.1 in
     let right = back w32 w.right t.1.1.0.1 in

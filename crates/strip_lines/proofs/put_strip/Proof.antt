@@ -6,25 +6,19 @@ use borrow.Author.Rules.{rules}
 use Rattle.strip_lines.proofs.put_strip.Statement.{statement}
 use Rattle.strip_lines.proofs.put_strip.Tie as tie
 
-put-sides-requires : tie.Need-put-sides-requires
+put-sides-requires : tie.Need-put_sides-a-requires
 put-sides-requires c κs = search rules
 
-slice-aggregate-put : tie.Need-slice-aggregate-put
-slice-aggregate-put c = search rules
-
-put-requires : tie.Need-put-requires
+put-requires : tie.Need-put-b-requires
 put-requires c κs = search rules
 
-put-lengths-requires : tie.Need-put-lengths-requires
+put-lengths-requires : tie.Need-put_lengths-c-requires
 put-lengths-requires c κs = search rules
 
-slice-aggregate-put-2 : tie.Need-slice-aggregate-put-2
-slice-aggregate-put-2 c = search rules
-
-put-requires-2 : tie.Need-put-requires-2
+put-requires-2 : tie.Need-put-requires
 put-requires-2 c κs = search rules
 
-same_length : tie.Need-same-length
+same_length : tie.Need-shape_of-page
 same_length c = search rules
 
 returns : tie.Need-returns
@@ -34,10 +28,10 @@ returns c =
     let at₃ = at₄.before.before.before.before.before in
     let at₂ = at₃.before.before.before.before in
     let at₁ = at₂.before.before.before.before.before in
-    let p = at₁.put_sides.ensures in
-    let q = at₂.put.ensures in
-    let r = at₃.put-lengths.ensures in
-    let s = at₄.put2.ensures in
+    let p = at₁.put_sides-a.ensures in
+    let q = at₂.put-b.ensures in
+    let r = at₃.put_lengths-c.ensures in
+    let s = at₄.put.ensures in
     (put_then (put_then (put_then p.0 q) r.0) s, omega (arith, p.1, q.ends, r.1, s.ends))
 
 pub put_strip_spec : {M : Type 1} → statement M
@@ -45,10 +39,8 @@ put_strip_spec =
     tie.close
     (tie.spec
     put-sides-requires
-    slice-aggregate-put
     put-requires
     put-lengths-requires
-    slice-aggregate-put-2
     put-requires-2
     same_length
     returns)
