@@ -16,9 +16,9 @@ fn put_line(page: &mut [u8], line: usize) -> usize
 }
 
 // Tells which line it is, and some words behind it.
-pub fn tell(line: usize, after: &[u8]) {
+pub fn tell(rt: &HostRuntime, line: usize, after: &[u8]) {
     let mut page = [0u8; 60];
     let end = put_line(&mut page, line);
-    streams::tell(&page[..end]);
-    streams::tell(after);
+    streams::tell(rt, &page[..end]);
+    streams::tell(rt, after);
 }

@@ -5,17 +5,17 @@ use borrow.Author.Rules.{rules}
 use Rattle.faults.proofs.tell.Statement.{statement}
 use Rattle.faults.proofs.tell.Tie as tie
 
-slice-aggregate-put-line : tie.Need-slice-aggregate-put-line
+slice-aggregate-put-line : tie.Need-slice_bounds-put_line-end
 slice-aggregate-put-line c = search rules
 
-put-line-requires : tie.Need-put-line-requires
+put-line-requires : tie.Need-put_line-end-requires
 put-line-requires c κs = search rules
 
-array-share-prefix-page : tie.Need-array-share-prefix-page
+array-share-prefix-page : tie.Need-slice_bounds-page-end
 array-share-prefix-page c = search rules
 
-slice-aggregate-tell : tie.Need-slice-aggregate-tell
-slice-aggregate-tell c = sym (length-take-le _ _ c.before.before.put-line.ensures.fits)
+slice-aggregate-tell : tie.Need-slice_bounds-tell-end
+slice-aggregate-tell c = sym (length-take-le _ _ c.before.before.put_line-end.ensures.fits)
 
 tell-requires : tie.Need-tell-requires
 tell-requires c κs = search rules
