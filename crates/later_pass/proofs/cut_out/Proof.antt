@@ -38,42 +38,42 @@ module _ (s : tie.Start) where
   h = limit_line s.args.l
 
   held : Held (window_of s.args.numbers.now) s.args.outline.now m (places s.args.from s.args.to)
-  held = s.pre.1.1.1.0
+  held = s.requires.1.1.1.0
 
   after_from : s.args.from < s.args.a
-  after_from = s.pre.1.1.1.1.0
+  after_from = s.requires.1.1.1.1.0
 
   before_to : s.args.a < s.args.to
-  before_to = s.pre.1.1.1.1.1
+  before_to = s.requires.1.1.1.1.1
 
   fits : 4 * s.args.to + 4 ≤ length m
-  fits = s.pre.1.1.0
+  fits = s.requires.1.1.0
 
   first_in : (i : ℕ) → s.args.from ≤ i → i < s.args.a → In h (point_in m i)
-  first_in = s.pre.1.1.1.1.2.run
+  first_in = s.requires.1.1.1.1.2.run
 
   first_out : Out h (point_in m s.args.a)
-  first_out = s.pre.1.1.1.1.2.ends before_to
+  first_out = s.requires.1.1.1.1.2.ends before_to
 
 -- ---- the run outside, up to b
-module _ (c : tie.After-end-of-run) where
+module _ (c : tie.After-end_of_run-b) where
   abbrev start : tie.Start
-  start = c.before.before
+  start = c.before
 
   abbrev b : ℕ
-  b = c.end-of-run.result
+  b = c.end_of_run-b.result
 
   after_a : start.args.a < b
-  after_a = omega (arith, c.end-of-run.ensures.above)
+  after_a = omega (arith, c.end_of_run-b.ensures.above)
 
   to_end : b ≤ start.args.to
-  to_end = c.end-of-run.ensures.below
+  to_end = c.end_of_run-b.ensures.below
 
   all_out : (i : ℕ) → start.args.a ≤ i → i < b → Out (h start) (point_in (m start) i)
-  all_out = run_with true (first_out start) c.end-of-run.ensures
+  all_out = run_with true (first_out start) c.end_of_run-b.ensures
 
   back_in : b < start.args.to → In (h start) (point_in (m start) b)
-  back_in = c.end-of-run.ensures.ends
+  back_in = c.end_of_run-b.ensures.ends
 
   -- the corner after it
   abbrev next : ℕ
@@ -86,75 +86,75 @@ module _ (c : tie.After-end-of-run) where
       (λ e. let l : b < start.args.to = ⊎_elim (λ q. absurd (eqb-false b start.args.to e q)) (λ l. l)
       (eq-or-lt_of_le to_end) in (omega (arith, after_from start, after_a), l, back_in l))
 
-add-end-of-run : tie.Need-overflow-add-end-of-run
+add-end-of-run : tie.Need-overflow_add-a
 add-end-of-run c = search rules
 
-end-of-run-requires : tie.Need-end-of-run-requires
+end-of-run-requires : tie.Need-end_of_run-b-requires
 end-of-run-requires c κs =
-    let s = c.before in
+    let s = c in
     (s.requires.1.0.1, (omega (arith, before_to s), (omega (arith, fits s), λ j l k. small_in (held s) j (omega (arith, after_from s)) k)))
 
-sub-lies-on : tie.Need-overflow-sub-lies-on
-sub-lies-on c = omega (arith, after_from c.before.before.before)
+sub-lies-on : tie.Need-overflow_sub-a
+sub-lies-on c = omega (arith, after_from c.before)
 
-lies-on-requires : tie.Need-lies-on-requires
+lies-on-requires : tie.Need-lies_on-here-requires
 lies-on-requires c κs =
-    let s = c.before.before.before in
+    let s = c.before in
     (s.requires.1.0.1, (omega (arith, fits s, before_to s), small_in (held s) (s.args.a - 1) (omega (arith, after_from s)) (omega (arith, before_to s))))
 
 after-requires : tie.Need-after-requires
 after-requires c κs = search rules
 
-lies-on-requires-2 : tie.Need-lies-on-requires-2
+lies-on-requires-2 : tie.Need-lies_on-there-requires
 lies-on-requires-2 c κs =
-    let e = c.before.before.before.before in
+    let e = c.before.before in
     let s = start e in
     let n = next_of_ring e in
     subst (λ (k : ℕ). LimitOnTable s.args.l × ((4 * k + 4 ≤ length (m s)) × Small (point_in (m s) k))) (sym c.after.ensures)
-    (s.pre.1.0.1, (omega (arith, fits s, n.1), small_in (held s) (next e) n.0 n.1))
+    (s.requires.1.0.1, (omega (arith, fits s, n.1), small_in (held s) (next e) n.0 n.1))
 
-sub-make-room : tie.Need-overflow-sub-make-room
-sub-make-room c = omega (arith, after_a c.before.before.before.before.before.before)
+sub-make-room : tie.Need-overflow_sub-b
+sub-make-room c = omega (arith, after_a c.before.before.before.before)
 
-make-room-requires : tie.Need-make-room-requires
+make-room-requires : tie.Need-make_room-k-requires
 make-room-requires c κs =
-    let e = c.before.before.before.before.before.before in
+    let e = c.before.before.before.before in
     ((omega (arith, after_a e), omega (arith, after_a e, to_end e)), fits (start e))
 
 -- ---- the memories
-module _ (c : tie.After-make-room) where
-  abbrev found : tie.After-end-of-run
-  found = c.before.before.before.before.before.before.before
+module _ (c : tie.After-make_room-k) where
+  abbrev found : tie.After-end_of_run-b
+  found = c.before.before.before.before.before
 
   abbrev s₁ : tie.Start
   s₁ = start found
 
   abbrev m₁ : List ℤ
-  m₁ = c.make-room.new.0
+  m₁ = c.make_room-k.new.m
 
   abbrev k : ℕ
-  k = c.make-room.result
+  k = c.make_room-k.result
 
   abbrev o : ℕ
   o = b found - 1 + k
 
-  abbrev there : tie.After-lies-on2
+  abbrev there : tie.After-lies_on-there
   there = c.before.before
 
-  abbrev here : tie.After-lies-on
-  here = there.before.before.before
+  abbrev here : tie.After-lies_on-here
+  here = there.before.before
 
   size₁ : length m₁ ≡ length (m s₁)
-  size₁ = c.make-room.auto.0
+  size₁ = c.make_room-k.auto.m
 
   up : Brought (m s₁) (m s₁) m₁ s₁.args.a s₁.args.to (s₁.args.a + k)
-  up = c.make-room.ensures.1
+  up = c.make_room-k.ensures.1
 
-  on_there : Decides there.lies-on2.result (On (h s₁) (point_in (m s₁) (next found)))
-  on_there = subst (λ (k : ℕ). Decides there.lies-on2.result (On (h s₁) (point_in (m s₁) k))) there.before.after.ensures there.lies-on2.ensures
+  on_there : Decides there.lies_on-there.result (On (h s₁) (point_in (m s₁) (next found)))
+  on_there = subst (λ (k : ℕ). Decides there.lies_on-there.result (On (h s₁) (point_in (m s₁) k))) there.after.ensures there.lies_on-there.ensures
 
-  on_here : Decides here.lies-on.result (On (h s₁) (point_in (m s₁) (s₁.args.a - 1)))
-  on_here = here.lies-on.ensures
+  on_here : Decides here.lies_on-here.result (On (h s₁) (point_in (m s₁) (s₁.args.a - 1)))
+  on_here = here.lies_on-here.ensures
 
   -- the last corner outside, where it stands now
   last_out : corner_in m₁ o ≡ corner_in (m s₁) (b found - 1)
@@ -169,48 +169,48 @@ module _ (c : tie.After-make-room) where
       (named_in (held s₁) (b found - 1) (omega (arith, after_a found, after_from s₁)) (omega (arith, after_a found, to_end found)))
 
   o_fits : 4 * o + 4 ≤ length m₁
-  o_fits = omega (arith, size₁, fits s₁, to_end found, after_a found, c.make-room.ensures.0.0)
+  o_fits = omega (arith, size₁, fits s₁, to_end found, after_a found, c.make_room-k.ensures.0.0)
 
-sub-enter : tie.Need-overflow-sub-enter
+sub-enter : tie.Need-overflow_sub-b-2
 sub-enter c = omega (arith, after_a (found c.before.before))
 
-add-enter : tie.Need-overflow-add-enter
-add-enter c = let r = c.before.before in omega (arith, o_fits r, (s₁ r).well-formed)
+add-enter : tie.Need-overflow_add-b
+add-enter c = let r = c.before.before in omega (arith, o_fits r, (s₁ r).well_formed)
 
-enter-requires : tie.Need-enter-requires
+enter-requires : tie.Need-enter-second-requires
 enter-requires c κs = let r = c.before.before in ((s₁ r).requires.0.window, ((s₁ r).requires.0.outline, ((s₁ r).requires.1.0.1, (o_fits r, last_named r))))
 
-module _ (c : tie.After-enter) where
-  abbrev room : tie.After-make-room
+module _ (c : tie.After-enter-second) where
+  abbrev room : tie.After-make_room-k
   room = c.before.before.before
 
   abbrev m₂ : List ℤ
-  m₂ = c.enter.new.1.1.1.0
+  m₂ = c.enter-second.new.m
 
   size₂ : length m₂ ≡ length (m (s₁ room))
-  size₂ = c.enter.auto.1.1.1.0 ∙ size₁ room
+  size₂ = c.enter-second.auto.m ∙ size₁ room
 
   came : Come (window_of (s₁ room).args.numbers.now) (s₁ room).args.outline.now (side_at (s₁ room).args.side) (m₁ room) (o room)
-      (point_in (m (s₁ room)) (next (found room))) m₂ c.enter.result
-  came = come (s₁ room).pre.1.0.0 (o_fits room) (on_there room) (next_of_ring (found room)).2 c.enter.ensures
+      (point_in (m (s₁ room)) (next (found room))) m₂ c.enter-second.result
+  came = come (s₁ room).requires.1.0.0 (o_fits room) (on_there room) (next_of_ring (found room)).2 c.enter-second.ensures
 
   -- the last corner inside is as it was
   last_in : corner_in m₂ ((s₁ room).args.a - 1) ≡ corner_in (m (s₁ room)) ((s₁ room).args.a - 1)
   last_in =
       let l = after_from (s₁ room) in
-      let two = c.before.before.before.make-room.ensures.0.1 in
+      let two = c.make_room-k.ensures.0.1 in
       came.others ((s₁ room).args.a - 1) (inl (omega arith)) ∙ (up room).before ((s₁ room).args.a - 1) (omega arith)
 
-sub-leave : tie.Need-overflow-sub-leave
+sub-leave : tie.Need-overflow_sub-a-2
 sub-leave c = omega (arith, after_from (s₁ (room c.before.before)))
 
-leave-requires : tie.Need-leave-requires
+leave-requires : tie.Need-leave-first-requires
 leave-requires c κs =
     let e = c.before.before in
     let s = s₁ (room e) in (
-      s.pre.0,
+      s.requires.0,
       (
-        s.pre.1.0.1,
+        s.requires.1.0.1,
         (
           omega (arith, size₂ e, fits s, before_to s),
           subst (λ (c : Tagged). Named (window_of s.args.numbers.now) s.args.outline.now c.tag) (sym (last_in e))
@@ -219,61 +219,61 @@ leave-requires c κs =
       ),
     )
 
-module _ (c : tie.After-leave) where
-  abbrev entered : tie.After-enter
+module _ (c : tie.After-leave-first) where
+  abbrev entered : tie.After-enter-second
   entered = c.before.before.before
 
   abbrev s₂ : tie.Start
   s₂ = s₁ (room entered)
 
   abbrev m₃ : List ℤ
-  m₃ = c.leave.new.1.1.1.1.0
+  m₃ = c.leave-first.new.m
 
   size₃ : length m₃ ≡ length (m s₂)
-  size₃ = c.leave.auto.1.1.1.1.0 ∙ size₂ entered
+  size₃ = c.leave-first.auto.m ∙ size₂ entered
 
-  went : Gone (window_of s₂.args.numbers.now) s₂.args.outline.now (side_at s₂.args.side) (m₂ entered) (s₂.args.a - 1) m₃ c.leave.result
+  went : Gone (window_of s₂.args.numbers.now) s₂.args.outline.now (side_at s₂.args.side) (m₂ entered) (s₂.args.a - 1) m₃ c.leave-first.result
   went =
       let p = ap (λ (c : Tagged). c.point) (last_in entered) in
-      gone s₂.pre.1.0.0 (omega (arith, size₂ entered, fits s₂, before_to s₂))
-      (subst (λ (q : Point). Decides (here (room entered)).lies-on.result (On (h s₂) q)) (sym p) (on_here (room entered)))
-      (subst (In (h s₂)) (sym p) (first_in s₂ (s₂.args.a - 1) (omega (arith, after_from s₂)) (omega (arith, after_from s₂)))) c.leave.ensures
+      gone s₂.requires.1.0.0 (omega (arith, size₂ entered, fits s₂, before_to s₂))
+      (subst (λ (q : Point). Decides (here (room entered)).lies_on-here.result (On (h s₂) q)) (sym p) (on_here (room entered)))
+      (subst (In (h s₂)) (sym p) (first_in s₂ (s₂.args.a - 1) (omega (arith, after_from s₂)) (omega (arith, after_from s₂)))) c.leave-first.ensures
 
   -- what is left ends before what comes after the run outside begins, and that before the end
-  in_turn : (c.leave.result ≤ entered.enter.result) × (entered.enter.result ≤ s₂.args.to + k (room entered))
+  in_turn : (c.leave-first.result ≤ entered.enter-second.result) × (entered.enter-second.result ≤ s₂.args.to + k (room entered))
   in_turn =
       let r = room entered in
-      let two = entered.before.before.before.make-room.ensures.0.1 in
+      let two = entered.make_room-k.ensures.0.1 in
       let e = came entered in
       (omega (arith, went.end, went.few, e.start, e.few, after_from s₂), omega (arith, e.start, to_end (found r), after_a (found r)))
 
-add-move-down : tie.Need-overflow-add-move-down
-add-move-down c = let l = c.before.before in let s = s₂ l in omega (arith, fits s, s.good, (room (entered l)).make-room.ensures.0.0)
+add-move-down : tie.Need-overflow_add-to
+add-move-down c = let l = c.before.before in let s = s₂ l in omega (arith, fits s, s.well_formed, (room (entered l)).make_room-k.ensures.0.0)
 
-move-down-requires : tie.Need-move-down-requires
+move-down-requires : tie.Need-move_down-requires
 move-down-requires c κs =
     let l = c.before.before in
-    ((in_turn l).0, ((in_turn l).1, omega (arith, size₃ l, fits (s₂ l), (room (entered l)).make-room.ensures.0.0)))
+    ((in_turn l).0, ((in_turn l).1, omega (arith, size₃ l, fits (s₂ l), (room (entered l)).make_room-k.ensures.0.0)))
 
-add-t17 : tie.Need-overflow-add-t17
-add-t17 c = let l = c.before.before.before.before in let s = s₂ l in omega (arith, fits s, s.good, (room (entered l)).make-room.ensures.0.0)
+add-t17 : tie.Need-overflow_add-result
+add-t17 c = let l = c.before.before.before.before in let s = s₂ l in omega (arith, fits s, s.well_formed, (room (entered l)).make_room-k.ensures.0.0)
 
-sub-t26 : tie.Need-overflow-sub-t26
+sub-t26 : tie.Need-overflow_sub-result
 sub-t26 c = (in_turn c.before.before.before.before).1
 
-add-t32 : tie.Need-overflow-add-t32
+add-t32 : tie.Need-overflow_add-result-2
 add-t32 c =
     let l = c.before.before.before.before in let s = s₂ l in omega (
       arith,
       (in_turn l).0,
       (in_turn l).1,
       fits s,
-      s.good,
-      (room (entered l)).make-room.ensures.0.0,
+      s.well_formed,
+      (room (entered l)).make_room-k.ensures.0.0,
     )
 
-same_length : tie.Need-same-length
-same_length c = let l = c.before.before.before.before in c.before.move_down.auto.0 ∙ size₃ l
+same_length : tie.Need-shape_of-m
+same_length c = let l = c.before.before.before.before in c.move_down.auto.m ∙ size₃ l
 
 returns : tie.Need-returns
 returns c =
@@ -282,9 +282,9 @@ returns c =
     let r = room e in
     let f = found r in
     let s = s₂ l in
-    cut_out (window_of s.args.numbers.now) (side_at s.args.side) s.pre.0.outline s.pre.1.0.0 (m s) (after_from s) (after_a f) (to_end f)
-    (held s) (first_in s) (all_out f) (back_in f) (m₁ r) (m₂ e) (m₃ l) c.before.move_down.new.0 (k r) e.enter.result l.leave.result
-    r.make-room.ensures.0.1 (up r) (came e) (went l) c.before.move_down.ensures
+    cut_out (window_of s.args.numbers.now) (side_at s.args.side) s.requires.0.outline s.requires.1.0.0 (m s) (after_from s) (after_a f) (to_end f)
+    (held s) (first_in s) (all_out f) (back_in f) (m₁ r) (m₂ e) (m₃ l) c.move_down.new.m (k r) e.enter-second.result l.leave-first.result
+    r.make_room-k.ensures.0.1 (up r) (came e) (went l) c.move_down.ensures
 
 pub cut_out_spec : {M : Type 1} → statement M
 cut_out_spec =

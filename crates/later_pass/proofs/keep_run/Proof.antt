@@ -36,107 +36,107 @@ module _ (s : tie.Start) where
   h = limit_line s.args.l
 
   held : Held (window_of s.args.numbers.now) s.args.outline.now m (places s.args.from s.args.to)
-  held = s.pre.1.1.1.0
+  held = s.requires.1.1.1.0
 
   some : s.args.from < s.args.to
-  some = s.pre.1.1.1.1.0
+  some = s.requires.1.1.1.1.0
 
   fits : 4 * s.args.to + 4 ≤ length m
-  fits = s.pre.1.1.0
+  fits = s.requires.1.1.0
 
 -- ---- the run outside, up to f
-module _ (c : tie.After-end-of-run) where
+module _ (c : tie.After-end_of_run-s) where
   abbrev start : tie.Start
-  start = c.before.before
+  start = c.before
 
   abbrev f : ℕ
-  f = c.end-of-run.result
+  f = c.end_of_run-s.result
 
   after_from : start.args.from < f
-  after_from = omega (arith, c.end-of-run.ensures.above)
+  after_from = omega (arith, c.end_of_run-s.ensures.above)
 
   to_end : f ≤ start.args.to
-  to_end = c.end-of-run.ensures.below
+  to_end = c.end_of_run-s.ensures.below
 
   all_out : (i : ℕ) → start.args.from ≤ i → i < f → Out (h start) (point_in (m start) i)
-  all_out = run_with true start.pre.1.1.1.1.1 c.end-of-run.ensures
+  all_out = run_with true start.requires.1.1.1.1.1 c.end_of_run-s.ensures
 
-add-end-of-run : tie.Need-overflow-add-end-of-run
+add-end-of-run : tie.Need-overflow_add-from
 add-end-of-run c = search rules
 
-end-of-run-requires : tie.Need-end-of-run-requires
+end-of-run-requires : tie.Need-end_of_run-s-requires
 end-of-run-requires c κs =
-    let s = c.before in
+    let s = c in
     (s.requires.1.0.1, (omega (arith, some s), (omega (arith, fits s), λ j l k. small_in (held s) j (omega arith) k)))
 
-same_length : tie.Need-same-length
+same_length : tie.Need-shape_of-m-then-s-to
 same_length c = search rules
 
-returns : tie.Need-returns
+returns : tie.Need-returns-then-s-to
 returns c =
     let e = c.before in
     let s = start e in
-    leaves_none s.pre.1.0.0 (omega (arith, some s)) (held s) (m s) (λ i l k. all_out e i l (omega (arith, c.if1.true)))
+    leaves_none s.requires.1.0.0 (omega (arith, some s)) (held s) (m s) (λ i l k. all_out e i l (omega (arith, c.if-s-to.true)))
 
 -- ---- the run inside, up to e
-module _ (c : tie.Else1) where
-  abbrev first : tie.After-end-of-run
+module _ (c : tie.Else-s-to) where
+  abbrev first : tie.After-end_of_run-s
   first = c.before
 
   abbrev s₀ : tie.Start
   s₀ = start first
 
   before_to : f first < s₀.args.to
-  before_to = ⊎_elim (λ q. absurd (c.if1.false q)) (λ l. l) (eq-or-lt_of_le (to_end first))
+  before_to = ⊎_elim (λ q. absurd (c.if-s-to.false q)) (λ l. l) (eq-or-lt_of_le (to_end first))
 
   f_in : In (h s₀) (point_in (m s₀) (f first))
-  f_in = first.end-of-run.ensures.ends before_to
+  f_in = first.end_of_run-s.ensures.ends before_to
 
-module _ (c : tie.After-end-of-run2) where
-  abbrev out : tie.Else1
-  out = c.before.before
+module _ (c : tie.After-end_of_run-e) where
+  abbrev out : tie.Else-s-to
+  out = c.before
 
   abbrev s₁ : tie.Start
   s₁ = s₀ out
 
   abbrev e : ℕ
-  e = c.end-of-run2.result
+  e = c.end_of_run-e.result
 
   after_f : f (first out) < e
-  after_f = omega (arith, c.end-of-run2.ensures.above)
+  after_f = omega (arith, c.end_of_run-e.ensures.above)
 
   e_to : e ≤ s₁.args.to
-  e_to = c.end-of-run2.ensures.below
+  e_to = c.end_of_run-e.ensures.below
 
   all_in : (i : ℕ) → f (first out) ≤ i → i < e → In (h s₁) (point_in (m s₁) i)
-  all_in = run_with false (f_in out) c.end-of-run2.ensures
+  all_in = run_with false (f_in out) c.end_of_run-e.ensures
 
   back_out : e < s₁.args.to → Out (h s₁) (point_in (m s₁) e)
-  back_out = c.end-of-run2.ensures.ends
+  back_out = c.end_of_run-e.ensures.ends
 
-add-end-of-run-2 : tie.Need-overflow-add-end-of-run-2
-add-end-of-run-2 c = let o = c.before in omega (arith, before_to o, fits (s₀ o), (s₀ o).well-formed)
+add-end-of-run-2 : tie.Need-overflow_add-s
+add-end-of-run-2 c = let o = c in omega (arith, before_to o, fits (s₀ o), (s₀ o).well_formed)
 
-end-of-run-requires-2 : tie.Need-end-of-run-requires-2
+end-of-run-requires-2 : tie.Need-end_of_run-e-requires
 end-of-run-requires-2 c κs =
-    let o = c.before in
+    let o = c in
     let s = s₀ o in
-    (s.pre.1.0.1, (omega (arith, before_to o), (omega (arith, fits s), λ j l k. small_in (held s) j (omega (arith, after_from (first o))) k)))
+    (s.requires.1.0.1, (omega (arith, before_to o), (omega (arith, fits s), λ j l k. small_in (held s) j (omega (arith, after_from (first o))) k)))
 
-lies-on-requires : tie.Need-lies-on-requires
+lies-on-requires : tie.Need-lies_on-there-requires
 lies-on-requires c κs =
-    let o = out c.before in
+    let o = out c in
     let s = s₀ o in
-    (s.pre.1.0.1, (omega (arith, fits s, before_to o), small_in (held s) (f (first o)) (omega (arith, after_from (first o))) (before_to o)))
+    (s.requires.1.0.1, (omega (arith, fits s, before_to o), small_in (held s) (f (first o)) (omega (arith, after_from (first o))) (before_to o)))
 
-sub-lies-on : tie.Need-overflow-sub-lies-on
-sub-lies-on c = omega (arith, after_f c.before.before.before)
+sub-lies-on : tie.Need-overflow_sub-e
+sub-lies-on c = omega (arith, after_f c.before)
 
-lies-on-requires-2 : tie.Need-lies-on-requires-2
+lies-on-requires-2 : tie.Need-lies_on-here-requires
 lies-on-requires-2 c κs =
-    let r = c.before.before.before in
+    let r = c.before in
     let s = s₁ r in (
-      s.pre.1.0.1,
+      s.requires.1.0.1,
       (
         omega (arith, fits s, after_f r, e_to r),
         small_in (held s) (e r - 1) (omega (arith, after_from (first (out r)), after_f r))
@@ -144,67 +144,67 @@ lies-on-requires-2 c κs =
       ),
     )
 
-module _ (c : tie.After-lies-on2) where
-  abbrev runs : tie.After-end-of-run2
-  runs = c.before.before.before.before
+module _ (c : tie.After-lies_on-here) where
+  abbrev runs : tie.After-end_of_run-e
+  runs = c.before.before
 
-  abbrev there : tie.After-lies-on
-  there = c.before.before
+  abbrev there : tie.After-lies_on-there
+  there = c.before
 
-  on_there : Decides there.lies-on.result (On (h (s₁ runs)) (point_in (m (s₁ runs)) (f (first (out runs)))))
-  on_there = there.lies-on.ensures
+  on_there : Decides there.lies_on-there.result (On (h (s₁ runs)) (point_in (m (s₁ runs)) (f (first (out runs)))))
+  on_there = there.lies_on-there.ensures
 
-  on_here : Decides c.lies-on2.result (On (h (s₁ runs)) (point_in (m (s₁ runs)) (e runs - 1)))
-  on_here = c.lies-on2.ensures
+  on_here : Decides c.lies_on-here.result (On (h (s₁ runs)) (point_in (m (s₁ runs)) (e runs - 1)))
+  on_here = c.lies_on-here.ensures
 
-sub-enter : tie.Need-overflow-sub-enter
+sub-enter : tie.Need-overflow_sub-s
 sub-enter c = omega (arith, after_from (first (out (runs c.before))))
 
-enter-requires : tie.Need-enter-requires
+enter-requires : tie.Need-enter-start-requires
 enter-requires c κs =
     let r = runs c.before in
     let s = s₁ r in
     let l = after_from (first (out r)) in
     let t = before_to (out r) in
-    (s.pre.0.window, (s.pre.0.outline, (s.pre.1.0.1, (omega (arith, fits s), named_in (held s) (f (first (out r)) - 1) (omega arith) (omega arith)))))
+    (s.requires.0.window, (s.requires.0.outline, (s.requires.1.0.1, (omega (arith, fits s), named_in (held s) (f (first (out r)) - 1) (omega arith) (omega arith)))))
 
-module _ (c : tie.After-enter) where
-  abbrev values : tie.After-lies-on2
+module _ (c : tie.After-enter-start) where
+  abbrev values : tie.After-lies_on-here
   values = c.before.before
 
-  abbrev r : tie.After-end-of-run2
+  abbrev r : tie.After-end_of_run-e
   r = runs values
 
   abbrev m₁ : List ℤ
-  m₁ = c.enter.new.1.1.1.0
+  m₁ = c.enter-start.new.m
 
   size₁ : length m₁ ≡ length (m (s₁ r))
-  size₁ = c.enter.auto.1.1.1.0
+  size₁ = c.enter-start.auto.m
 
   came : Come (window_of (s₁ r).args.numbers.now) (s₁ r).args.outline.now (side_at (s₁ r).args.side) (m (s₁ r)) (f (first (out r)) - 1)
-      (point_in (m (s₁ r)) (f (first (out r)))) m₁ c.enter.result
+      (point_in (m (s₁ r)) (f (first (out r)))) m₁ c.enter-start.result
   came =
       let l = after_from (first (out r)) in
       let t = before_to (out r) in
-      come (s₁ r).pre.1.0.0 (omega (arith, fits (s₁ r))) (on_there values) (f_in (out r)) c.enter.ensures
+      come (s₁ r).requires.1.0.0 (omega (arith, fits (s₁ r))) (on_there values) (f_in (out r)) c.enter-start.ensures
 
   -- the last corner inside is as it was
   last_in : corner_in m₁ (e r - 1) ≡ corner_in (m (s₁ r)) (e r - 1)
   last_in = came.others (e r - 1) (inr (omega (arith, after_from (first (out r)), after_f r)))
 
-sub-leave : tie.Need-overflow-sub-leave
+sub-leave : tie.Need-overflow_sub-e-2
 sub-leave c = omega (arith, after_f (r c.before.before))
 
-leave-requires : tie.Need-leave-requires
+leave-requires : tie.Need-leave-end-requires
 leave-requires c κs =
     let i = c.before.before in
     let s = s₁ (r i) in
     let l = after_from (first (out (r i))) in
     let t = after_f (r i) in
     let k = e_to (r i) in (
-      s.pre.0,
+      s.requires.0,
       (
-        s.pre.1.0.1,
+        s.requires.1.0.1,
         (
           omega (arith, size₁ i, fits s),
           subst (λ (c : Tagged). Named (window_of s.args.numbers.now) s.args.outline.now c.tag) (sym (last_in i))
@@ -213,10 +213,10 @@ leave-requires c κs =
       ),
     )
 
-same-length-2 : tie.Need-same-length-2
-same-length-2 c = c.before.leave.auto.1.1.1.1.0 ∙ size₁ c.before.before.before.before
+same-length-2 : tie.Need-shape_of-m
+same-length-2 c = c.leave-end.auto.m ∙ size₁ c.before.before.before.before
 
-returns-2 : tie.Need-returns-2
+returns-2 : tie.Need-returns
 returns-2 c =
     let i = c.before.before.before.before in
     let s = s₁ (r i) in
@@ -225,12 +225,12 @@ returns-2 c =
     let t = after_f (r i) in
     let k = e_to (r i) in
     let went : Gone (window_of s.args.numbers.now) s.args.outline.now (side_at s.args.side) (m₁ i) (e (r i) - 1)
-    c.before.leave.new.1.1.1.1.0 c.before.leave.result =
-    gone s.pre.1.0.0 (omega (arith, size₁ i, fits s)) (subst (λ (q : Point). Decides (values i).lies-on2.result (On (h s) q)) (sym p)
-    (on_here (values i))) (subst (In (h s)) (sym p) (all_in (r i) (e (r i) - 1) (omega arith) (omega arith))) c.before.leave.ensures in
-    keep_run (window_of s.args.numbers.now) (side_at s.args.side) s.pre.0.outline s.pre.1.0.0 (m s) (after_from x) (after_f (r i))
-    (e_to (r i)) (held s) (all_out x) (all_in (r i)) (back_out (r i)) (m₁ i) c.before.leave.new.1.1.1.1.0 i.enter.result
-    c.before.leave.result (came i) went
+    c.leave-end.new.m c.leave-end.result =
+    gone s.requires.1.0.0 (omega (arith, size₁ i, fits s)) (subst (λ (q : Point). Decides (values i).lies_on-here.result (On (h s) q)) (sym p)
+    (on_here (values i))) (subst (In (h s)) (sym p) (all_in (r i) (e (r i) - 1) (omega arith) (omega arith))) c.leave-end.ensures in
+    keep_run (window_of s.args.numbers.now) (side_at s.args.side) s.requires.0.outline s.requires.1.0.0 (m s) (after_from x) (after_f (r i))
+    (e_to (r i)) (held s) (all_out x) (all_in (r i)) (back_out (r i)) (m₁ i) c.leave-end.new.m i.enter-start.result
+    c.leave-end.result (came i) went
 
 pub keep_run_spec : {M : Type 1} → statement M
 keep_run_spec =

@@ -28,39 +28,39 @@ Done s m k =
     Exited (window_of s.args.numbers.now) zs (limit_line s.args.l) (side_at s.args.side) s.args.here (memory s) s.args.i m k
 
 -- ---- the corner's tag, as it is read
-is_tag : (c : tie.After-tag) → let t = tag_in (memory c.before.before) c.before.before.args.i in to_z w32 (of_z w32 t) ≡ t
-is_tag c = back w32 (tag_in (memory c.before.before) c.before.before.args.i) c.tag.given
+is_tag : (c : tie.After-tag-1) → let t = tag_in (memory c.before.before) c.args.i in to_z w32 (of_z w32 t) ≡ t
+is_tag c = back w32 (tag_in (memory c.before.before) c.args.i) c.tag-1.given
 
-turn-along-requires : tie.Need-turn-along-requires
-turn-along-requires c κs = let s = c.before.before in (s.requires.0.side, s.requires.1.1.0)
+turn-along-requires : tie.Need-turn_along-requires
+turn-along-requires c κs = let s = c in (s.requires.0.side, s.requires.1.1.0)
 
-same_length : tie.Need-same-length
+same_length : tie.Need-shape_of-m-then-here
 same_length c = search rules
 
-returns : tie.Need-returns
+returns : tie.Need-returns-then-here
 returns c =
     let s = c.before.before.before.before in
-    let e = c.before.turn_along.ensures in
-    transport (λ i. Done s (sym e.1 i) (sym e.0 i)) (on_line c.before.before.before.if1.true)
+    let e = c.turn_along.ensures in
+    transport (λ i. Done s (sym e.1 i) (sym e.0 i)) (on_line c.if-here.true)
 
-mul-tag : tie.Need-overflow-mul-tag
+mul-tag : tie.Need-overflow_mul-tag
 mul-tag c = search rules
 
-add-tag : tie.Need-overflow-add-tag
+add-tag : tie.Need-overflow_add-tag
 add-tag c = search rules
 
-mul-tag-2 : tie.Need-overflow-mul-tag-2
+mul-tag-2 : tie.Need-offset_bounds-m-i
 mul-tag-2 c = search rules
 
-slice-copy-out-tag : tie.Need-slice-copy-out-tag
+slice-copy-out-tag : tie.Need-slice_copy_out-tag
 slice-copy-out-tag c = search rules
 
-add-put : tie.Need-overflow-add-put
+add-put : tie.Need-overflow_add-i
 add-put c = search rules
 
 crossing-requires : tie.Need-crossing-requires
 crossing-requires c κs =
-    let s = c.before.before.before in (
+    let s = c in (
       s.requires.0.window,
       (
         s.requires.0.outline,
@@ -72,28 +72,28 @@ crossing-requires c κs =
       ),
     )
 
-side-tag-requires : tie.Need-side-tag-requires
-side-tag-requires c κs = c.before.before.before.before.requires.0.side
+side-tag-requires : tie.Need-side_tag-requires
+side-tag-requires c κs = c.requires.0.side
 
 put-requires : tie.Need-put-requires
 put-requires c κs = search rules
 
-add-result : tie.Need-overflow-add-result
+add-result : tie.Need-overflow_add-result
 add-result c = search rules
 
-same-length-2 : tie.Need-same-length-2
+same-length-2 : tie.Need-shape_of-m
 same-length-2 c = search rules
 
-returns-2 : tie.Need-returns-2
+returns-2 : tie.Need-returns
 returns-2 c =
-    let x = c.before.before.before in
-    let e = x.before.before in
+    let x = c in
+    let e = x.before.before.before.before.before in
     let s = e.before.before in
     let p = point_of x.crossing.result in
-    let wrote : c.before.put.new.0 ≡ put_at (memory s) (s.args.i + 1) p (side_tag (side_at s.args.side)) =
-    c.before.put.ensures ∙ ap (put_at (memory s) (s.args.i + 1) p) (back w32 _ c.before.before.side-tag.type-inv ∙ c.before.before.side-tag.ensures) in
+    let wrote : c.put.new.m ≡ put_at (memory s) (s.args.i + 1) p (side_tag (side_at s.args.side)) =
+    c.put.ensures ∙ ap (put_at (memory s) (s.args.i + 1) p) (back w32 _ c.side_tag.type_inv ∙ c.side_tag.ensures) in
     subst (λ (m : List ℤ). Done s m (s.args.i + 2)) (sym wrote)
-    (crosses e.before.if1.false
+    (crosses e.if-here.false
     (subst (λ (t : ℤ). Meeting (window_of s.args.numbers.now) s.args.outline.now (limit_line s.args.l) t p) (is_tag e) x.crossing.ensures))
 
 pub leave_spec : {M : Type 1} → statement M

@@ -18,67 +18,67 @@ use Rattle.later_pass.proofs.pass.Tie as tie
 some : (s : tie.Start) → s.args.p.from < s.args.p.to
 some s = omega (arith, s.requires.1.1.1.ring.three, ring_length s.args.m.now s.args.p.from (s.args.p.to - s.args.p.from))
 
-end-of-run-requires : tie.Need-end-of-run-requires
-end-of-run-requires c κs = let s = c.before in (s.requires.1.0.1, (omega (arith, some s), (omega (arith, s.requires.1.1.0), small_in s.requires.1.1.1)))
+end-of-run-requires : tie.Need-end_of_run-a-requires
+end-of-run-requires c κs = let s = c in (s.requires.1.0.1, (omega (arith, some s), (omega (arith, s.requires.1.1.0), small_in s.requires.1.1.1)))
 
-same_length : tie.Need-same-length
+same_length : tie.Need-shape_of-m-then-a-to
 same_length c = search rules
 
-returns : tie.Need-returns
+returns : tie.Need-returns-then-a-to
 returns c =
-    let r = c.before in
+    let r = c in
     let s = r.before.before in
-    leaves_all s.requires.1.0.0 (omega (arith, some s)) s.requires.1.1.1 (λ i a b. r.end-of-run.ensures.run i a (omega (arith, c.if1.true)))
+    leaves_all s.requires.1.0.0 (omega (arith, some s)) s.requires.1.1.1 (λ i a b. r.end_of_run-a.ensures.run i a (omega (arith, c.if-a-to.true)))
 
 -- some corner lies outside
-module _ (c : tie.Else1) where
+module _ (c : tie.Else-a-to) where
   abbrev s₀ : tie.Start
-  s₀ = c.before.before.before
+  s₀ = c.before.before
 
-  before_to : c.before.end-of-run.result < s₀.args.p.to
-  before_to = ⊎_elim (λ q. absurd (c.if1.false q)) (λ l. l) (eq-or-lt_of_le c.before.end-of-run.ensures.below)
+  before_to : c.end_of_run-a.result < s₀.args.p.to
+  before_to = ⊎_elim (λ q. absurd (c.if-a-to.false q)) (λ l. l) (eq-or-lt_of_le c.end_of_run-a.ensures.below)
 
-keep-run-requires : tie.Need-keep-run-requires
+keep-run-requires : tie.Need-keep_run-requires
 keep-run-requires c κs =
     let e = c.before.before in
-    let r = e.before in
+    let r = e in
     let s = s₀ e in (
-      s.pre.0,
+      s.requires.0,
       (
-        s.pre.1.0,
+        s.requires.1.0,
         (
-          s.pre.1.1.0,
+          s.requires.1.1.0,
           (
-            s.pre.1.1.1,
+            s.requires.1.1.1,
             (
               some s,
-              subst (λ (i : ℕ). Out (limit_line s.args.l) (point_in s.args.m.now i)) c.before.if2.true
-                  (r.end-of-run.ensures.ends (before_to e)),
+              subst (λ (i : ℕ). Out (limit_line s.args.l) (point_in s.args.m.now i)) c.if-a-from.true
+                  (r.end_of_run-a.ensures.ends (before_to e)),
             ),
           ),
         ),
       ),
     )
 
-same-length-2 : tie.Need-same-length-2
+same-length-2 : tie.Need-shape_of-m-then-a-from
 same-length-2 c = search rules
 
-returns-2 : tie.Need-returns-2
+returns-2 : tie.Need-returns-then-a-from
 returns-2 c = search rules
 
-cut-out-requires : tie.Need-cut-out-requires
+cut-out-requires : tie.Need-cut_out-requires
 cut-out-requires c κs =
     let e = c.before.before in
-    let r = e.before in
+    let r = e in
     let s = s₀ e in
-    let first : s.args.p.from < r.end-of-run.result =
-    ⊎_elim (λ q. absurd (c.before.if2.false (sym q))) (λ l. l) (eq-or-lt_of_le r.end-of-run.ensures.above) in
-    (s.pre.0, (s.pre.1.0, (s.pre.1.1.0, (s.pre.1.1.1, (first, before_to e, r.end-of-run.ensures)))))
+    let first : s.args.p.from < r.end_of_run-a.result =
+    ⊎_elim (λ q. absurd (c.if-a-from.false (sym q))) (λ l. l) (eq-or-lt_of_le r.end_of_run-a.ensures.above) in
+    (s.requires.0, (s.requires.1.0, (s.requires.1.1.0, (s.requires.1.1.1, (first, before_to e, r.end_of_run-a.ensures)))))
 
-same-length-3 : tie.Need-same-length-3
+same-length-3 : tie.Need-shape_of-m
 same-length-3 c = search rules
 
-returns-3 : tie.Need-returns-3
+returns-3 : tie.Need-returns
 returns-3 c = search rules
 
 pub pass_spec : {M : Type 1} → statement M
