@@ -31,19 +31,19 @@ module _ (out : List ℤ) (n : ℕ) (k a b c d : ℤ) where
       (set_comm (one out) (suc (suc n)) n b k (λ e. omega (arith, e))
       ∙ ap (λ (l : List ℤ). set l (suc (suc n)) b) (set_comm out (suc n) n a k (λ e. omega (arith, e)))))
 
-add-put-stroke : tie.Need-overflow-add-put-stroke
+add-put-stroke : tie.Need-overflow_add-n
 add-put-stroke c = search rules
 
-put-stroke-requires : tie.Need-put-stroke-requires
+put-stroke-requires : tie.Need-put_stroke-requires
 put-stroke-requires c κs = search rules
 
-mul-k : tie.Need-overflow-mul-k
+mul-k : tie.Need-offset_bounds-out-n
 mul-k c = search rules
 
-slice-set-from-k : tie.Need-slice-set-from-k
+slice-set-from-k : tie.Need-bounds-out-n
 slice-set-from-k c = search rules
 
-same_length : tie.Need-same-length
+same_length : tie.Need-shape_of-out
 same_length c = search rules
 
 returns : tie.Need-returns
@@ -51,7 +51,7 @@ returns c =
     let a = c.before.before.before in
     let s = a.args.s in
     let next : a.args.n + 1 ≡ suc a.args.n = omega arith in
-    (λ i. set (c.before.put-stroke.ensures i) a.args.n (to_z-of_z a.ranges.k i))
+    (λ i. set (c.before.put_stroke.ensures i) a.args.n (to_z-of_z a.ranges.k i))
     ∙ ap (λ (m : ℕ). set (sets a.args.out.now m (ends s)) a.args.n a.args.k) next
     ∙ index_first a.args.out.now a.args.n a.args.k s.x1 s.y1 s.x2 s.y2
 

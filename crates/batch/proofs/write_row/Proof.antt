@@ -58,66 +58,66 @@ module _ (c : tie.After-lies) where
 lies-requires : tie.Need-lies-requires
 lies-requires c κs = search rules
 
-enum_told : tie.Need-enum-told
+enum_told : tie.Need-enum_told-1
 enum_told c = search rules
 
-cast-put-whole : tie.Need-overflow-cast-put-whole
+cast-put-whole : tie.Need-overflow_cast-k
 cast-put-whole c = search rules
 
-put-whole-requires : tie.Need-put-whole-requires
-put-whole-requires c κs = let p = c.before.before.before in room p (all p c.before.enum_told.given.1) refl
+put-whole-requires : tie.Need-put_whole-requires
+put-whole-requires c κs = let p = c.before.before in room p (all p c.before.in-Inside.is) refl
 
-add-result : tie.Need-overflow-add-result
+add-result : tie.Need-overflow_add-result
 add-result c =
-    let p = c.before.before.before.before.before in
-    omega (arith, room p (all p c.before.before.before.enum_told.given.1) refl, p.before.well-formed)
+    let p = c.before.before.before.before in
+    omega (arith, room p (all p c.before.before.before.in-Inside.is) refl, p.before.well_formed)
 
-enum-told-2 : tie.Need-enum-told-2
+enum-told-2 : tie.Need-enum_told-in-Outside
 enum-told-2 c = search rules
 
-enum-told-3 : tie.Need-enum-told-3
+enum-told-3 : tie.Need-enum_told-in-Neither
 enum-told-3 c = search rules
 
-cut-stroke-requires : tie.Need-cut-stroke-requires
+cut-stroke-requires : tie.Need-cut_stroke-c-requires
 cut-stroke-requires c κs =
-    let p = c.before.before.before.requires in
-    (p.0, (p.1.0, (at c.before.before c.enum-told3.given.1, p.1.1.1.1)))
+    let p = c.before.before.requires in
+    (p.0, (p.1.0, (at c.before c.in-Neither.is, p.1.1.1.1)))
 
-cast-put : tie.Need-overflow-cast-put
+cast-put : tie.Need-overflow_cast-k-then-c
 cast-put c = search rules
 
 put-requires : tie.Need-put-requires
 put-requires c κs = let k = c.before.before in
-    room k.before.before.before k.cut-stroke.ensures c.before.if1.true
+    room k.before.before k.cut_stroke-c.ensures c.before.if-c.true
 
-add-result-2 : tie.Need-overflow-add-result-2
+add-result-2 : tie.Need-overflow_add-result-then-c
 add-result-2 c =
     let k = c.before.before.before.before in
-    let p = k.before.before.before in
-    omega (arith, room p k.cut-stroke.ensures c.before.before.before.if1.true, p.before.well-formed)
+    let p = k.before.before in
+    omega (arith, room p k.cut_stroke-c.ensures c.before.before.before.if-c.true, p.before.well_formed)
 
-same_length : tie.Need-same-length
+same_length : tie.Need-shape_of-out-then-c
 same_length c = search rules
 
-returns : tie.Need-returns
+returns : tie.Need-returns-then-c
 returns c =
     let k = c.before.before.before.before in
-    given k.before.before.before k.cut-stroke.ensures c.before.before.before.if1.true c.before.put.ensures
+    given k.before.before k.cut_stroke-c.ensures c.before.before.before.if-c.true c.before.put.ensures
 
-same-length-2 : tie.Need-same-length-2
+same-length-2 : tie.Need-shape_of-out
 same-length-2 c = search rules
 
-returns-2 : tie.Need-returns-2
+returns-2 : tie.Need-returns-in-Inside
 returns-2 c =
-    let p = c.before.before.before.before.before in
-    given p (all p c.before.before.before.enum_told.given.1) refl c.before.put_whole.ensures
+    let p = c.before.before.before.before in
+    given p (all p c.before.before.before.in-Inside.is) refl c.before.put_whole.ensures
 
-returns-3 : tie.Need-returns-3
-returns-3 c = let p = c.before.before in
-    passed p (left_out_cut (touches p) (none_gives (touches p) (at p c.enum-told2.given.1))) refl
+returns-3 : tie.Need-returns-in-Outside
+returns-3 c = let p = c.before in
+    passed p (left_out_cut (touches p) (none_gives (touches p) (at p c.in-Outside.is))) refl
 
-returns-4 : tie.Need-returns-4
-returns-4 c = passed c.before.before.before.before c.before.cut-stroke.ensures c.if1.false
+returns-4 : tie.Need-returns-else-c
+returns-4 c = passed c.before.before.before c.before.cut_stroke-c.ensures c.if-c.false
 
 pub write_row_spec : {M : Type 1} → statement M
 write_row_spec =
