@@ -17,7 +17,7 @@ use spans::{NO_SIDE, SidedSpan};
 // What the call answers: a refusal's number and place, or whether the stroke is kept, from which fraction of its way to which, and the edges that
 // fixed the two fractions, each by the number of its first corner, or `NO_SIDE`.
 #[repr(C)]
-#[derive(Drop)]
+#[derive(Clone, Copy)]
 pub struct CornerAnswer {
     pub number: u8,
     pub place: usize,

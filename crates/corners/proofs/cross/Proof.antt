@@ -26,25 +26,25 @@ product i j = mul w64 (wide i) (wide j)
 abbrev result : Code
 result = sub w64 (product 0 3) (product 1 2)
 
-cast-result : tie.Need-overflow-cast-result
+cast-result : tie.Need-overflow_cast-result
 cast-result c = let s = c.before.before in need β (env s) (bounds s) (wide 0) tt
 
-cast-result-2 : tie.Need-overflow-cast-result-2
+cast-result-2 : tie.Need-overflow_cast-result-2
 cast-result-2 c = let s = c.before.before.before.before in need β (env s) (bounds s) (wide 3) tt
 
-mul-result : tie.Need-overflow-mul-result
+mul-result : tie.Need-overflow_mul-result
 mul-result c = let s = c.before.before.before.before in need β (env s) (bounds s) (product 0 3) tt
 
-cast-result-3 : tie.Need-overflow-cast-result-3
+cast-result-3 : tie.Need-overflow_cast-result-3
 cast-result-3 c = let s = c.before.before.before.before.before.before in need β (env s) (bounds s) (wide 1) tt
 
-cast-result-4 : tie.Need-overflow-cast-result-4
+cast-result-4 : tie.Need-overflow_cast-result-4
 cast-result-4 c = let s = c.before.before.before.before.before.before.before.before in need β (env s) (bounds s) (wide 2) tt
 
-mul-result-2 : tie.Need-overflow-mul-result-2
+mul-result-2 : tie.Need-overflow_mul-result-2
 mul-result-2 c = let s = c.before.before.before.before.before.before.before.before in need β (env s) (bounds s) (product 1 2) tt
 
-sub-result : tie.Need-overflow-sub-result
+sub-result : tie.Need-overflow_sub-result
 sub-result c = let s = c.before.before.before.before.before.before.before.before in need β (env s) (bounds s) result tt
 
 returns : tie.Need-returns

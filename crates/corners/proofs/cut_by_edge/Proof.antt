@@ -18,16 +18,16 @@ use Rattle.corners.proofs.Edges.{p_is, q_is, p_within, q_within}
 use Rattle.corners.proofs.cut_by_edge.Statement.{statement}
 use Rattle.corners.proofs.cut_by_edge.Tie as tie
 
-way-from-requires : tie.Need-way-from-requires
+way-from-requires : tie.Need-way_from-edge-requires
 way-from-requires c κs = search rules
 
-way-from-requires-2 : tie.Need-way-from-requires-2
+way-from-requires-2 : tie.Need-way_from-run-requires
 way-from-requires-2 c κs = search rules
 
 cross-requires : tie.Need-cross-requires
 cross-requires c κs = search rules
 
-way-from-requires-3 : tie.Need-way-from-requires-3
+way-from-requires-3 : tie.Need-way_from-requires
 way-from-requires-3 c κs = search rules
 
 cross-requires-2 : tie.Need-cross-requires-2
@@ -44,25 +44,25 @@ read : (a : Corner) → mag a.x < 2 ^ 31 → mag a.y < 2 ^ 31 → ◌≡◌ {A =
 read a hx hy = λ i. record { x = back w32 a.x hx i; y = back w32 a.y hy i }
 
 -- the two cross products as they are read
-p_read : (c : tie.After-cross2) → let s = c.before.before.before.before.before.before.before.args in
+p_read : (c : tie.After-cross-2) → let s = c.before.before.before.before.before.before.before.args in
     to_z w64 (of_z w64 c.before.before.cross.result) ≡ edge_p (point_of s.a) (point_of s.b) s.s
 p_read c =
     let r = c.before.before in
     let a = r.before.before.before.before.before.args in
     let s = a.s in
-    let g = r.before.before.before.struct_told.given in
-    let run = r.before.way-from2.ensures.0 ∙ (λ i. way_from (read (start s) g.0.1 g.1.0.1 i) (read (finish s) g.1.1.0.1 g.1.1.1.0.1 i)) in
-    back w64 r.cross.result r.cross.type-inv ∙ r.cross.ensures
-    ∙ (λ i. cross_of (run i) (r.before.before.before.before.way-from.ensures.0 i)) ∙ p_is a.a a.b s
+    let g = r.before.before.before.struct_told-1.given in
+    let run = r.before.way_from-run.ensures.0 ∙ (λ i. way_from (read (start s) g.0.1 g.1.0.1 i) (read (finish s) g.1.1.0.1 g.1.1.1.0.1 i)) in
+    back w64 r.cross.result r.cross.type_inv ∙ r.cross.ensures
+    ∙ (λ i. cross_of (run i) (r.before.before.before.before.way_from-edge.ensures.0 i)) ∙ p_is a.a a.b s
 
-q_read : (c : tie.After-cross2) → let s = c.before.before.before.before.before.before.before.args in
-    to_z w64 (of_z w64 c.cross2.result) ≡ edge_q (point_of s.a) (point_of s.b) s.s
+q_read : (c : tie.After-cross-2) → let s = c.before.before.before.before.before.before.before.args in
+    to_z w64 (of_z w64 c.cross-2.result) ≡ edge_q (point_of s.a) (point_of s.b) s.s
 q_read c =
-    let g = c.before.before.before.before.before.struct_told.given in
+    let g = c.before.before.before.before.before.struct_told-1.given in
     let s = c.before.before.before.before.before.before.before.args in
-    let from = c.before.way-from3.ensures.0 ∙ (λ i. way_from s.a (read (start s.s) g.0.1 g.1.0.1 i)) in
-    back w64 c.cross2.result c.cross2.type-inv ∙ c.cross2.ensures
-    ∙ (λ i. cross_of (c.before.before.before.before.before.before.way-from.ensures.0 i) (from i)) ∙ q_is s.a s.b s.s
+    let from = c.before.way_from.ensures.0 ∙ (λ i. way_from s.a (read (start s.s) g.0.1 g.1.0.1 i)) in
+    back w64 c.cross-2.result c.cross-2.type_inv ∙ c.cross-2.ensures
+    ∙ (λ i. cross_of (c.before.before.before.before.before.before.way_from-edge.ensures.0 i) (from i)) ∙ q_is s.a s.b s.s
 
 cut-requires : tie.Need-cut-requires
 cut-requires c κs =
