@@ -1,6 +1,6 @@
 -- Each way out of the tests is a case of the definitions: the tests before it failed, and its own holds.
 use mathlib.Core.Path.{◌≡◌, refl, sym, ap, ◌∙◌}
-use mathlib.Core.Bool.{Bool, true, false}
+use mathlib.Core.Bool.{true, false}
 use mathlib.Core.List.{List, [], ◌∷◌}
 use Prim.Native.Nat.{ℕ, zero, suc, ◌+◌, ◌-◌, ◌<◌, ◌≤◌}
 use native.Mathlib.Omega.{arith}
@@ -12,7 +12,7 @@ use Rattle.text.specs.Runs.{run, is, is_not, is_in}
 use Rattle.decimal.specs.Decimals.{is_digit}
 use Rattle.pen_line.specs.Lines.{start_of, end_of, word, words_end, spoken}
 use Rattle.pen_line.proofs.Words.{end_is, word_is}
-use Rattle.slips.specs.Slips.{has_mark, unseen, is_capital, of_digits, of_plain, of_number, ◌or-else◌, of_numbers, of_line}
+use Rattle.slips.specs.Slips.{has_mark, unseen, is_capital, of_digits, of_plain, of_number, ◌or_else◌, of_numbers, of_line}
 use Rattle.slips.specs.declared.Slip.{Slip}
 use Rattle.slips.specs.declared.Slip.TheVariants.{Mark, Unseen, Capital, Comma, PointLast, PointFirst, Plus, Exponent, Other}
 
@@ -93,11 +93,11 @@ without_minus w {from} h e =
 -- ---- numbers
 
 or_else_other : {s : Slip} (t : Slip) → s ≡ Other → s or_else t ≡ t
-unfolding ◌or-else◌
+unfolding ◌or_else◌
 or_else_other t e = rw e refl
 
 or_else_known : (s t : Slip) → (s ≡ Other → ⊥) → s or_else t ≡ s
-unfolding ◌or-else◌
+unfolding ◌or_else◌
 or_else_known Mark t f = refl
 or_else_known Unseen t f = refl
 or_else_known Capital t f = refl

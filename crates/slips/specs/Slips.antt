@@ -41,8 +41,8 @@ of_plain w =
 unfoldable pub of_number : List ℕ → Slip
 of_number w = of_plain (drop (run (is 45) w) w)
 
-infixr 30 ◌or-else◌
-unfoldable pub ◌or-else◌ : Slip → Slip → Slip
+infixr 30 ◌or_else◌
+unfoldable pub ◌or_else◌ : Slip → Slip → Slip
 Mark or_else s = Mark
 Unseen or_else s = Unseen
 Capital or_else s = Capital

@@ -9,7 +9,7 @@ ghost use Rattle.slips.specs.Texts.{line_after, slip_for};
 use pen_line::Fault;
 
 // A slip that the answer names, or none of them.
-#[derive(Drop)]
+#[derive(Clone, Copy)]
 pub enum Slip {
     // A byte-order mark before the first word.
     Mark,

@@ -5,14 +5,14 @@ use borrow.Author.Rules.{rules}
 use Rattle.slips.proofs.byte_at.Statement.{statement}
 use Rattle.slips.proofs.byte_at.Tie as tie
 
-shared-slice-read-result : tie.Need-shared-slice-read-result
+shared-slice-read-result : tie.Need-bounds-bytes-i
 shared-slice-read-result c = search rules
 
-returns : tie.Need-returns
+returns : tie.Need-returns-then-i-bytes
 returns c = search rules
 
-returns-2 : tie.Need-returns-2
-returns-2 c = sym (get_or-eq_default c.before.args.bytes.now 0 c.if1.false)
+returns-2 : tie.Need-returns
+returns-2 c = sym (get_or-eq_default c.args.bytes.now 0 c.if-i-bytes.false)
 
 pub byte_at_spec : {M : Type 1} → statement M
 byte_at_spec = tie.close (tie.spec shared-slice-read-result returns returns-2)

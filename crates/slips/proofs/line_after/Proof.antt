@@ -9,60 +9,58 @@ use Rattle.slips.proofs.Lines.{passed, too_few, found}
 use Rattle.slips.proofs.line_after.Statement.{statement}
 use Rattle.slips.proofs.line_after.Tie as tie
 
-abbrev invariant_loop : tie.invariant_loop
+abbrev invariant_loop : tie.invariant-loop-ahead
 invariant_loop text before from₀ ahead₀ from ahead = (from ≤ length text) × (line_after before text ≡ line_after ahead (drop from text))
 
-abbrev decreases_loop : tie.decreases_loop
+abbrev decreases_loop : tie.decreases-loop-ahead
 decreases_loop text before from₀ ahead₀ from ahead = ahead
 
-loop-holds : tie.Need-loop-init invariant_loop decreases_loop
+loop-holds : tie.Need-loop-ahead-init invariant_loop decreases_loop
 loop-holds c = (omega arith, refl)
 
-find-requires : tie.Need-find-requires invariant_loop decreases_loop
+find-requires : tie.Need-find-end-requires invariant_loop decreases_loop
 find-requires c κs = search rules
 
-sub-result : tie.Need-overflow-sub-result invariant_loop decreases_loop
+sub-result : tie.Need-slice_bounds-result-count invariant_loop decreases_loop
 sub-result c = search rules
 
-part-result-start : tie.Need-slice-bounds-result-start invariant_loop decreases_loop
+part-result-start : tie.Need-slice_bounds-result-start invariant_loop decreases_loop
 part-result-start c = search rules
 
-part-result-end : tie.Need-slice-bounds-result-end invariant_loop decreases_loop
+part-result-end : tie.Need-slice_bounds-result-end invariant_loop decreases_loop
 part-result-end c = search rules
 
-returns : tie.Need-returns invariant_loop decreases_loop
+returns : tie.Need-returns-then-end-text invariant_loop decreases_loop
 returns c =
-    let f = c.before.before in
-    too_few _ _ f.find.ensures.0 f.before.before.loop.invariant.1 f.before.loop-test.true c.before.if1.true
+    too_few _ _ c.find-end.ensures.0 c.loop-ahead.invariant.1 c.loop-ahead-test.true c.if-end-text.true
 
-add-from : tie.Need-overflow-add-from invariant_loop decreases_loop
+add-from : tie.Need-overflow_add-from invariant_loop decreases_loop
 add-from c = search rules
 
-sub-ahead : tie.Need-overflow-sub-ahead invariant_loop decreases_loop
+sub-ahead : tie.Need-overflow_sub-ahead invariant_loop decreases_loop
 sub-ahead c = search rules
 
-loop-less : tie.Need-loop-smaller invariant_loop decreases_loop
+loop-less : tie.Need-loop-ahead-smaller invariant_loop decreases_loop
 loop-less c = omega arith
 
-loop-again : tie.Need-loop-preserved invariant_loop decreases_loop
+loop-again : tie.Need-loop-ahead-preserved invariant_loop decreases_loop
 loop-again c =
-    let f = c.before in
-    (omega (arith, f.find.ensures.1), passed _ _ f.find.ensures.0 f.before.before.loop.invariant.1 f.before.loop-test.true)
+    (omega (arith, c.find-end.ensures.1), passed _ _ c.find-end.ensures.0 c.loop-ahead.invariant.1 c.loop-ahead-test.true)
 
-find-requires-2 : tie.Need-find-requires-2 invariant_loop decreases_loop
+find-requires-2 : tie.Need-find-end-requires-2 invariant_loop decreases_loop
 find-requires-2 c κs = search rules
 
-sub-result-2 : tie.Need-overflow-sub-result-2 invariant_loop decreases_loop
+sub-result-2 : tie.Need-slice_bounds-result-count-2 invariant_loop decreases_loop
 sub-result-2 c = search rules
 
-part-result-start-2 : tie.Need-slice-bounds-result-start-2 invariant_loop decreases_loop
+part-result-start-2 : tie.Need-slice_bounds-result-start-2 invariant_loop decreases_loop
 part-result-start-2 c = search rules
 
-part-result-end-2 : tie.Need-slice-bounds-result-end-2 invariant_loop decreases_loop
+part-result-end-2 : tie.Need-slice_bounds-result-end-2 invariant_loop decreases_loop
 part-result-end-2 c = search rules
 
-returns-2 : tie.Need-returns-2 invariant_loop decreases_loop
-returns-2 c = found _ _ c.before.find2.ensures.0 c.before.before.before.loop.invariant.1 c.before.before.loop-test.false
+returns-2 : tie.Need-returns invariant_loop decreases_loop
+returns-2 c = found _ _ c.find-end-2.ensures.0 c.loop-ahead.invariant.1 c.loop-ahead-test.false
 
 pub line_after_spec : {M : Type 1} → statement M
 line_after_spec =

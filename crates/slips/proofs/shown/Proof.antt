@@ -7,14 +7,14 @@ use borrow.Author.Rules.{rules}
 use Rattle.slips.proofs.shown.Statement.{statement}
 use Rattle.slips.proofs.shown.Tie as tie
 
-line-after-requires : tie.Need-line-after-requires
+line-after-requires : tie.Need-line_after-requires
 line-after-requires c κs = search rules
 
-slip-for-requires : tie.Need-slip-for-requires
+slip-for-requires : tie.Need-slip_for-requires
 slip-for-requires c κs = search rules
 
 returns : tie.Need-returns
-returns c = c.slip-for.ensures ∙ ap (λ (l : List ℕ). slip_for l c.before.before.before.args.fault) c.before.line_after.ensures
+returns c = c.slip_for.ensures ∙ ap (λ (l : List ℕ). slip_for l c.args.fault) c.line_after.ensures
 
 pub shown_spec : {M : Type 1} → statement M
 shown_spec = tie.close (tie.spec line-after-requires slip-for-requires returns)

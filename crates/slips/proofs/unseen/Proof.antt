@@ -20,14 +20,14 @@ by_return l e = simp e
 has-requires : tie.Need-has-requires
 has-requires c κs = search rules
 
-returns : tie.Need-returns
-returns c = by_tab _ (sym c.before.has.ensures ∙ c.if1.true)
+returns : tie.Need-returns-then-has
+returns c = by_tab _ (sym c.has.ensures ∙ c.if-has.true)
 
 has-requires-2 : tie.Need-has-requires-2
 has-requires-2 c κs = search rules
 
-returns-2 : tie.Need-returns-2
-returns-2 c = c.has2.ensures ∙ by_return _ (sym c.before.before.has.ensures ∙ c.before.if1.false)
+returns-2 : tie.Need-returns
+returns-2 c = c.has-2.ensures ∙ by_return _ (sym c.has.ensures ∙ c.if-has.false)
 
 pub unseen_spec : {M : Type 1} → statement M
 unseen_spec = tie.close (tie.spec has-requires returns has-requires-2 returns-2)
