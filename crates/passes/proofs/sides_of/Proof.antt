@@ -21,7 +21,7 @@ entry zero o k h = absurd (omega arith)
 entry (suc n) o zero h = ap (λ (k : ℕ). packed (sides_in k)) (omega arith)
 entry (suc n) o (suc k) h = entry n (suc o) k (omega arith) ∙ ap (λ (k : ℕ). packed (sides_in k)) (omega arith)
 
-array-read-result : tie.Need-array-read-result
+array-read-result : tie.Need-bounds-order
 array-read-result c = search rules
 
 returns : tie.Need-returns
