@@ -7,30 +7,30 @@ use borrow.Author.Rules.{rules}
 use Rattle.frames.proofs.pixels_high.Statement.{statement}
 use Rattle.frames.proofs.pixels_high.Tie as tie
 
-extent-requires : tie.Need-extent-requires
+extent-requires : tie.Need-extent-e-requires
 extent-requires c κs = search rules
 
-height-requires : tie.Need-height-requires
+height-requires : tie.Need-height-high-requires
 height-requires c κs = search rules
 
-returns : tie.Need-returns
+returns : tie.Need-returns-then-e-eq0
 unfolding pixels_high
-returns c = rw (← c.before.before.extent.ensures.0, c.if1.true, div-zero)
+returns c = rw (← c.before.before.extent-e.ensures.0, c.if-e-eq0.true, div-zero)
 
-mul-result : tie.Need-overflow-mul-result
+mul-result : tie.Need-overflow_mul-result
 mul-result c = search rules
 
-div-result : tie.Need-nonzero-div-result
+div-result : tie.Need-nonzero_div-result
 div-result c = search rules
 
-add-result : tie.Need-overflow-add-result
+add-result : tie.Need-overflow_add-result
 add-result c =
-    let h = c.before.height in
-    record { fits = omega (arith, h.ensures.1, div-le_self (1000 * h.result) c.before.before.extent.result) }
+    let h = c.before.height-high in
+    record { fits = omega (arith, h.ensures.1, div-le_self (1000 * h.result) c.before.before.extent-e.result) }
 
-returns-2 : tie.Need-returns-2
+returns-2 : tie.Need-returns
 unfolding pixels_high
-returns-2 c = rw (← c.before.before.extent.ensures.0, ← c.before.height.ensures.0)
+returns-2 c = rw (← c.before.before.extent-e.ensures.0, ← c.before.height-high.ensures.0)
 
 pub pixels_high_spec : {M : Type 1} → statement M
 pixels_high_spec =

@@ -8,46 +8,37 @@ use borrow.Author.Rules.{rules}
 use Rattle.frames.proofs.put_placed.Statement.{statement}
 use Rattle.frames.proofs.put_placed.Tie as tie
 
-extent-requires : tie.Need-extent-requires
+extent-requires : tie.Need-extent-e-requires
 extent-requires c κs = search rules
 
-width-requires : tie.Need-width-requires
+width-requires : tie.Need-width-wide-requires
 width-requires c κs = search rules
 
-slice-aggregate-put-labelled-pair : tie.Need-slice-aggregate-put-labelled-pair
-slice-aggregate-put-labelled-pair c = search rules
-
-mul-put-labelled-pair : tie.Need-overflow-mul-put-labelled-pair
+mul-put-labelled-pair : tie.Need-overflow_mul-e
 mul-put-labelled-pair c = search rules
 
-mul-put-labelled-pair-2 : tie.Need-overflow-mul-put-labelled-pair-2
+mul-put-labelled-pair-2 : tie.Need-overflow_mul-wide
 mul-put-labelled-pair-2 c = search rules
 
-sub-put-labelled-pair : tie.Need-overflow-sub-put-labelled-pair
+sub-put-labelled-pair : tie.Need-overflow_sub-e
 sub-put-labelled-pair c = search rules
 
-mul-put-labelled-pair-3 : tie.Need-overflow-mul-put-labelled-pair-3
+mul-put-labelled-pair-3 : tie.Need-overflow_mul-e-2
 mul-put-labelled-pair-3 c = search rules
 
-put-labelled-pair-requires : tie.Need-put-labelled-pair-requires
+put-labelled-pair-requires : tie.Need-put_labelled_pair-a-requires
 put-labelled-pair-requires c κs = search rules
 
-slice-aggregate-put : tie.Need-slice-aggregate-put
-slice-aggregate-put c = search rules
-
-put-requires : tie.Need-put-requires
+put-requires : tie.Need-put-b-requires
 put-requires c κs = search rules
 
-put-point-requires : tie.Need-put-point-requires
+put-point-requires : tie.Need-put_point-c-requires
 put-point-requires c κs = search rules
 
-slice-aggregate-put-2 : tie.Need-slice-aggregate-put-2
-slice-aggregate-put-2 c = search rules
-
-put-requires-2 : tie.Need-put-requires-2
+put-requires-2 : tie.Need-put-requires
 put-requires-2 c κs = search rules
 
-same_length : tie.Need-same-length
+same_length : tie.Need-shape_of-page
 same_length c = search rules
 
 returns : tie.Need-returns
@@ -62,13 +53,13 @@ returns c =
     let at₂ = at₃.before in
     let at₁ = at₂.before.before in
     let v = at₁.args.v in
-    let t = at₆.struct_told.given in
-    let p = at₄.put-labelled-pair.ensures in
-    let q = at₅.put.ensures in
-    let r = at₇.put-point.ensures in
-    let s = at₈.put2.ensures in
+    let t = at₆.struct_told-1.given in
+    let p = at₄.put_labelled_pair-a.ensures in
+    let q = at₅.put-b.ensures in
+    let r = at₇.put_point-c.ensures in
+    let s = at₈.put.ensures in
     let corner = (simp (back w32 v.left t.0.1, back w32 v.top t.1.1.1.0.1) at r.0) in
-    (rw (← at₂.extent.ensures.0, ← at₃.width.ensures.0) (put_then (put_then (put_then p.0 q) corner) s), omega (arith, p.1, q.ends, r.1, s.ends))
+    (rw (← at₂.extent-e.ensures.0, ← at₃.width-wide.ensures.0) (put_then (put_then (put_then p.0 q) corner) s), omega (arith, p.1, q.ends, r.1, s.ends))
 
 pub put_placed_spec : {M : Type 1} → statement M
 put_placed_spec =
@@ -76,16 +67,13 @@ put_placed_spec =
     (tie.spec
     extent-requires
     width-requires
-    slice-aggregate-put-labelled-pair
     mul-put-labelled-pair
     mul-put-labelled-pair-2
     sub-put-labelled-pair
     mul-put-labelled-pair-3
     put-labelled-pair-requires
-    slice-aggregate-put
     put-requires
     put-point-requires
-    slice-aggregate-put-2
     put-requires-2
     same_length
     returns)
