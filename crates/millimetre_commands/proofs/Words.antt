@@ -14,7 +14,6 @@ use Rattle.whole.specs.Choice.{if◌then◌else◌}
 use Rattle.words.specs.Words.{single, with_bits, up_to, as_integer, numeral, has_minus}
 use Rattle.words.specs.Digits.{word_value}
 use Rattle.words.specs.declared.Single.{Single}
-use Rattle.words.specs.declared.Single.TheVariants as Single
 use Rattle.millimetre_commands.specs.Lines.{single_at, Singles, empty, one, AsksBack}
 
 -- only a word of eight bytes is an f32

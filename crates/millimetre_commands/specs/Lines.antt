@@ -18,7 +18,6 @@ use Rattle.intake.specs.declared.WindowMm.{WindowMm}
 use Rattle.words.specs.Words.{single, as_integer, numeral}
 use Rattle.words.specs.declared.Integer.TheVariants as Integer
 use Rattle.words.specs.declared.Single.{Single}
-use Rattle.words.specs.declared.Single.TheVariants as Single
 use Rattle.replies.specs.Replies.{Fields, none, ◌and◌, number, plain, float, with_window, Tells, Replies}
 use Rattle.replies.specs.declared.Reply.{Reply}
 

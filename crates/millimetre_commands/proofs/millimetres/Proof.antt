@@ -7,25 +7,25 @@ use borrow.Author.Rules.{rules}
 use Rattle.millimetre_commands.proofs.millimetres.Statement.{statement}
 use Rattle.millimetre_commands.proofs.millimetres.Tie as tie
 
-to-millimetres-requires : tie.Need-to-millimetres-requires
+to-millimetres-requires : tie.Need-to_millimetres-a-requires
 to-millimetres-requires c κs = search rules
 
 begin-requires : tie.Need-begin-requires
 begin-requires c κs = search rules
 
-float-to-bits-bits : tie.Need-float-to-bits-bits
-float-to-bits-bits c = a_number c.before.before.to-millimetres.ensures
+float-to-bits-bits : tie.Need-float_to_bits-a
+float-to-bits-bits c = a_number c.to_millimetres-a.ensures
 
 bits-requires : tie.Need-bits-requires
 bits-requires c κs = search rules
 
 returns : tie.Need-returns
 returns c =
-    let called = c.before.before.before in (
+    let called = c in (
       search rules,
-      tells called.to-millimetres.result
-          (rw (to_z-of_z called.before.ranges.g) at called.to-millimetres.ensures)
-          (next c.before.before.begin.ensures c.bits.ensures),
+      tells called.to_millimetres-a.result
+          (rw (to_z-of_z called.ranges.g) at called.to_millimetres-a.ensures)
+          (next c.begin.ensures c.bits.ensures),
     )
 
 pub millimetres_spec : {M : Type 1} → statement M

@@ -12,53 +12,53 @@ use Rattle.millimetre_commands.proofs.mm2.Tie as tie
 unknown-requires : tie.Need-unknown-requires
 unknown-requires c κs = search rules
 
-returns : tie.Need-returns
-returns c = (search rules, no_call (λ p s. c.before.if1.true (long s)) c.unknown.ensures)
+returns : tie.Need-returns-then-rest-ne18
+returns c = (search rules, no_call (λ p s. c.if-rest-ne18.true (long s)) c.unknown.ensures)
 
-single-at-requires : tie.Need-single-at-requires
+single-at-requires : tie.Need-single_at-requires
 single-at-requires c κs = search rules
 
-enum-known-x : tie.Need-enum-known-x
+enum-known-x : tie.Need-enum_known-x
 enum-known-x c = search rules
 
-enum_told : tie.Need-enum-told
+enum_told : tie.Need-enum_told-1
 enum_told c = search rules
 
-unknown-requires-2 : tie.Need-unknown-requires-2
+unknown-requires-2 : tie.Need-unknown-requires-in_default
 unknown-requires-2 c κs = search rules
 
-returns-2 : tie.Need-returns-2
+returns-2 : tie.Need-returns-in_default
 returns-2 c =
-    let at = c.before.before.before in
-    let text = at.before.before.before.args.rest.now in (
+    let at = c in
+    let text = at.args.rest.now in (
       search rules,
-      no_call (λ p s. not_bad text 0 (sym at.single-at.ensures ∙ c.before.enum_told.given.1) s)
-          c.unknown2.ensures,
+      no_call (λ p s. not_bad text 0 (sym at.single_at.ensures ∙ c.in_default.is) s)
+          c.unknown-in_default.ensures,
     )
 
-single-at-requires-2 : tie.Need-single-at-requires-2
+single-at-requires-2 : tie.Need-single_at-requires-2
 single-at-requires-2 c κs = search rules
 
-enum-known-y : tie.Need-enum-known-y
+enum-known-y : tie.Need-enum_known-y
 enum-known-y c = search rules
 
-enum-told-2 : tie.Need-enum-told-2
+enum-told-2 : tie.Need-enum_told-in_default-single_at
 enum-told-2 c = search rules
 
-unknown-requires-3 : tie.Need-unknown-requires-3
+unknown-requires-3 : tie.Need-unknown-requires-in_default-single_at
 unknown-requires-3 c κs = search rules
 
-returns-3 : tie.Need-returns-3
+returns-3 : tie.Need-returns-in_default-single_at
 returns-3 c =
-    let at = c.before.before.before in
-    let text = at.before.before.before.before.before.before.before.args.rest.now in (
+    let at = c in
+    let text = at.args.rest.now in (
       search rules,
       no_call
-          (λ p s. not_bad text 9 (sym at.single-at2.ensures ∙ c.before.enum-told2.given.1) (next_at text 0 s))
-          c.unknown3.ensures,
+          (λ p s. not_bad text 9 (sym at.single_at-2.ensures ∙ c.in_default-single_at.is) (next_at text 0 s))
+          c.unknown-in_default-single_at.ensures,
     )
 
-point-to-grid-requires : tie.Need-point-to-grid-requires
+point-to-grid-requires : tie.Need-point_to_grid-a-requires
 point-to-grid-requires c κs = search rules
 
 begin-requires : tie.Need-begin-requires
@@ -70,25 +70,25 @@ integer-requires c κs = search rules
 integer-requires-2 : tie.Need-integer-requires-2
 integer-requires-2 c κs = search rules
 
-returns-4 : tie.Need-returns-4
+returns-4 : tie.Need-returns
 returns-4 c =
-    let a1 = c.before.before in
-    let begun = a1.before.before in
-    let called = begun.before in
-    let y = called.before.before in
-    let at2 = y.before.before in
-    let x = at2.before.before in
-    let at1 = x.before.before in
-    let text = at1.before.before.before.args.rest.now in
-    let a = called.point-to-grid.result in (
+    let a1 = c in
+    let begun = a1 in
+    let called = begun in
+    let y = called in
+    let at2 = y in
+    let x = at2 in
+    let at1 = x in
+    let text = at1.args.rest.now in
+    let a = called.point_to_grid-a.result in (
       search rules,
-      to_call _ (put_at_lem text 0 (search rules) (sym at1.single-at.ensures ∙ x.x.given.1)
-          (put_at_lem text 9 (search rules) (sym at2.single-at2.ensures ∙ y.y.given.1)
+      to_call _ (put_at_lem text 0 (search rules) (sym at1.single_at.ensures ∙ x.in-Is.is)
+          (put_at_lem text 9 (search rules) (sym at2.single_at-2.ensures ∙ y.in-Is-single_at.is)
           (end_at text 18 (search rules))))
-          (tells a called.point-to-grid.ensures
-          (next_signed w32 c.before.struct-told2.given.1.1.1.0.1
-          (next_signed w32 a1.before.struct_told.given.1.1.0.1 begun.begin.ensures
-          a1.integer.ensures) c.integer2.ensures)),
+          (tells a called.point_to_grid-a.ensures
+          (next_signed w32 c.struct_told-2-1.given.1.1.1.0.1
+          (next_signed w32 a1.struct_told-1.given.1.1.0.1 begun.begin.ensures
+          a1.integer.ensures) c.integer-2.ensures)),
     )
 
 pub mm2_spec : {M : Type 1} → statement M

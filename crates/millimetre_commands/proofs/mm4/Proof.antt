@@ -13,97 +13,97 @@ use Rattle.millimetre_commands.proofs.mm4.Tie as tie
 unknown-requires : tie.Need-unknown-requires
 unknown-requires c κs = search rules
 
-returns : tie.Need-returns
-returns c = (search rules, no_call (λ p s. c.before.if1.true (long s)) c.unknown.ensures)
+returns : tie.Need-returns-then-rest-ne36
+returns c = (search rules, no_call (λ p s. c.if-rest-ne36.true (long s)) c.unknown.ensures)
 
-single-at-requires : tie.Need-single-at-requires
+single-at-requires : tie.Need-single_at-requires
 single-at-requires c κs = search rules
 
-enum-known-left : tie.Need-enum-known-left
+enum-known-left : tie.Need-enum_known-left
 enum-known-left c = search rules
 
-enum_told : tie.Need-enum-told
+enum_told : tie.Need-enum_told-1
 enum_told c = search rules
 
-unknown-requires-2 : tie.Need-unknown-requires-2
+unknown-requires-2 : tie.Need-unknown-requires-in_default
 unknown-requires-2 c κs = search rules
 
-returns-2 : tie.Need-returns-2
+returns-2 : tie.Need-returns-in_default
 returns-2 c =
-    let at = c.before.before.before in
-    let text = at.before.before.before.args.rest.now in (
+    let at = c in
+    let text = at.args.rest.now in (
       search rules,
-      no_call (λ p s. not_bad text 0 (sym at.single-at.ensures ∙ c.before.enum_told.given.1) s)
-          c.unknown2.ensures,
+      no_call (λ p s. not_bad text 0 (sym at.single_at.ensures ∙ c.in_default.is) s)
+          c.unknown-in_default.ensures,
     )
 
-single-at-requires-2 : tie.Need-single-at-requires-2
+single-at-requires-2 : tie.Need-single_at-requires-2
 single-at-requires-2 c κs = search rules
 
-enum-known-bottom : tie.Need-enum-known-bottom
+enum-known-bottom : tie.Need-enum_known-bottom
 enum-known-bottom c = search rules
 
-enum-told-2 : tie.Need-enum-told-2
+enum-told-2 : tie.Need-enum_told-in_default-single_at
 enum-told-2 c = search rules
 
-unknown-requires-3 : tie.Need-unknown-requires-3
+unknown-requires-3 : tie.Need-unknown-requires-in_default-single_at
 unknown-requires-3 c κs = search rules
 
-returns-3 : tie.Need-returns-3
+returns-3 : tie.Need-returns-in_default-single_at
 returns-3 c =
-    let at = c.before.before.before in
-    let text = at.before.before.before.before.before.before.before.args.rest.now in (
+    let at = c in
+    let text = at.args.rest.now in (
       search rules,
       no_call
-          (λ p s. not_bad text 9 (sym at.single-at2.ensures ∙ c.before.enum-told2.given.1) (next_at text 0 s))
-          c.unknown3.ensures,
+          (λ p s. not_bad text 9 (sym at.single_at-2.ensures ∙ c.in_default-single_at.is) (next_at text 0 s))
+          c.unknown-in_default-single_at.ensures,
     )
 
-single-at-requires-3 : tie.Need-single-at-requires-3
+single-at-requires-3 : tie.Need-single_at-requires-3
 single-at-requires-3 c κs = search rules
 
-enum-known-right : tie.Need-enum-known-right
+enum-known-right : tie.Need-enum_known-right
 enum-known-right c = search rules
 
-enum-told-3 : tie.Need-enum-told-3
+enum-told-3 : tie.Need-enum_told-in_default-single_at-2
 enum-told-3 c = search rules
 
-unknown-requires-4 : tie.Need-unknown-requires-4
+unknown-requires-4 : tie.Need-unknown-requires-in_default-single_at-2
 unknown-requires-4 c κs = search rules
 
-returns-4 : tie.Need-returns-4
+returns-4 : tie.Need-returns-in_default-single_at-2
 returns-4 c =
-    let at = c.before.before.before in
-    let text = at.before.before.before.before.before.before.before.before.before.before.before.args.rest.now in (
+    let at = c in
+    let text = at.args.rest.now in (
       search rules,
       no_call
-          (λ p s. not_bad text 18 (sym at.single-at3.ensures ∙ c.before.enum-told3.given.1)
-          (next_at text 9 (next_at text 0 s))) c.unknown4.ensures,
+          (λ p s. not_bad text 18 (sym at.single_at-3.ensures ∙ c.in_default-single_at-2.is)
+          (next_at text 9 (next_at text 0 s))) c.unknown-in_default-single_at-2.ensures,
     )
 
-single-at-requires-4 : tie.Need-single-at-requires-4
+single-at-requires-4 : tie.Need-single_at-requires-4
 single-at-requires-4 c κs = search rules
 
-enum-known-top : tie.Need-enum-known-top
+enum-known-top : tie.Need-enum_known-top
 enum-known-top c = search rules
 
-enum-told-4 : tie.Need-enum-told-4
+enum-told-4 : tie.Need-enum_told-in_default-single_at-3
 enum-told-4 c = search rules
 
-unknown-requires-5 : tie.Need-unknown-requires-5
+unknown-requires-5 : tie.Need-unknown-requires-in_default-single_at-3
 unknown-requires-5 c κs = search rules
 
-returns-5 : tie.Need-returns-5
+returns-5 : tie.Need-returns-in_default-single_at-3
 returns-5 c =
-    let at = c.before.before.before in
-    let text = at.before.before.before.before.before.before.before.before.before.before.before.before.before.before.before.args.rest.now in (
+    let at = c in
+    let text = at.args.rest.now in (
       search rules,
       no_call
-          (λ p s. not_bad text 27 (sym at.single-at4.ensures ∙ c.before.enum-told4.given.1)
-          (next_at text 18 (next_at text 9 (next_at text 0 s)))) c.unknown5.ensures,
+          (λ p s. not_bad text 27 (sym at.single_at-4.ensures ∙ c.in_default-single_at-3.is)
+          (next_at text 18 (next_at text 9 (next_at text 0 s)))) c.unknown-in_default-single_at-3.ensures,
     )
 
-window-to-grid-requires : tie.Need-window-to-grid-requires
+window-to-grid-requires : tie.Need-window_to_grid-a-requires
 window-to-grid-requires c κs = search rules
 
 begin-requires : tie.Need-begin-requires
@@ -112,27 +112,27 @@ begin-requires c κs = search rules
 window-requires : tie.Need-window-requires
 window-requires c κs = search rules
 
-returns-6 : tie.Need-returns-6
+returns-6 : tie.Need-returns
 returns-6 c =
-    let called = c.before.before in
-    let t = called.before.before in
-    let at4 = t.before.before in
-    let r = at4.before.before in
-    let at3 = r.before.before in
-    let b = at3.before.before in
-    let at2 = b.before.before in
-    let l = at2.before.before in
-    let at1 = l.before.before in
-    let text = at1.before.before.before.args.rest.now in
-    let a = called.window-to-grid.result in
-    let s = after 4 (λ fs. with_window fs a.window) c.before.begin.ensures c.window.ensures in (
+    let called = c in
+    let t = called in
+    let at4 = t in
+    let r = at4 in
+    let at3 = r in
+    let b = at3 in
+    let at2 = b in
+    let l = at2 in
+    let at1 = l in
+    let text = at1.args.rest.now in
+    let a = called.window_to_grid-a.result in
+    let s = after 4 (λ fs. with_window fs a.window) c.begin.ensures c.window.ensures in (
       omega (arith, s.count),
-      to_call _ (put_at_lem text 0 (search rules) (sym at1.single-at.ensures ∙ l.left.given.1)
-          (put_at_lem text 9 (search rules) (sym at2.single-at2.ensures ∙ b.bottom.given.1)
-          (put_at_lem text 18 (search rules) (sym at3.single-at3.ensures ∙ r.right.given.1)
-          (put_at_lem text 27 (search rules) (sym at4.single-at4.ensures ∙ t.top.given.1)
+      to_call _ (put_at_lem text 0 (search rules) (sym at1.single_at.ensures ∙ l.in-Is.is)
+          (put_at_lem text 9 (search rules) (sym at2.single_at-2.ensures ∙ b.in-Is-single_at.is)
+          (put_at_lem text 18 (search rules) (sym at3.single_at-3.ensures ∙ r.in-Is-single_at-2.is)
+          (put_at_lem text 27 (search rules) (sym at4.single_at-4.ensures ∙ t.in-Is-single_at-3.is)
           (end_at text 36 (search rules))))))
-          (tells a called.window-to-grid.ensures s),
+          (tells a called.window_to_grid-a.ensures s),
     )
 
 pub mm4_spec : {M : Type 1} → statement M

@@ -11,36 +11,36 @@ use borrow.Author.Rules.{rules}
 use Rattle.millimetre_commands.proofs.single_at.Statement.{statement}
 use Rattle.millimetre_commands.proofs.single_at.Tie as tie
 
-shared-slice-read-if1 : tie.Need-shared-slice-read-if1
+shared-slice-read-if1 : tie.Need-bounds-rest-p
 shared-slice-read-if1 c = search rules
 
-returns : tie.Need-returns
-returns c = rw (get_or-drop, add-zero) (simp (ne_eqb _ _ c.if1.true))
+returns : tie.Need-returns-then-rest-p-ne32
+returns c = rw (get_or-drop, add-zero) (simp (ne_eqb _ _ c.if-rest-p-ne32.true))
 
-add-read-single : tie.Need-overflow-add-read-single
+add-read-single : tie.Need-overflow_add-p
 add-read-single c = search rules
 
-add-read-single-2 : tie.Need-overflow-add-read-single-2
+add-read-single-2 : tie.Need-overflow_add-p-2
 add-read-single-2 c = search rules
 
-sub-read-single : tie.Need-overflow-sub-read-single
+sub-read-single : tie.Need-slice_bounds-read_single-count
 sub-read-single c = search rules
 
-part-read-single-start : tie.Need-slice-bounds-read-single-start
+part-read-single-start : tie.Need-slice_bounds-read_single-start
 part-read-single-start c = search rules
 
-part-read-single-end : tie.Need-slice-bounds-read-single-end
+part-read-single-end : tie.Need-slice_bounds-read_single-end
 part-read-single-end c = search rules
 
-read-single-requires : tie.Need-read-single-requires
+read-single-requires : tie.Need-read_single-requires
 read-single-requires c κs = search rules
 
-returns-2 : tie.Need-returns-2
+returns-2 : tie.Need-returns
 returns-2 c =
-    let a = c.before.before.before.before.before.args in
+    let a = c.args in
     let eight : a.p + 9 - (a.p + 1) ≡ 8 = omega arith in
-    rw (get_or-drop, add-zero) (simp (eq-eqb _ _ c.before.before.if1.false)
-    (c.read-single.ensures ∙ ap (λ n. single (take n (drop (a.p + 1) a.rest.now))) eight
+    rw (get_or-drop, add-zero) (simp (eq-eqb _ _ c.if-rest-p-ne32.false)
+    (c.read_single.ensures ∙ ap (λ n. single (take n (drop (a.p + 1) a.rest.now))) eight
     ∙ ap (λ l. single (take 8 l)) (sym (drop-drop 1 a.p a.rest.now))))
 
 pub single_at_spec : {M : Type 1} → statement M
