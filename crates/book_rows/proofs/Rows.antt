@@ -3,13 +3,12 @@
 use mathlib.Core.Path.{◌≡◌, refl, sym, ap, ◌∙◌, subst}
 use mathlib.Core.Bool.{true, false}
 use mathlib.Core.List.{List, [], ◌∷◌, ◌++◌, append_assoc, append-nil}
-use Prim.Native.Nat.{ℕ, suc, ◌+◌, ◌*◌, ◌-◌, ◌<◌, ◌≤◌}
+use Prim.Native.Nat.{ℕ, suc, ◌+◌, ◌*◌, ◌<◌, ◌≤◌}
 use native.Mathlib.Numerals.{add-one}
 use native.Mathlib.Omega.{arith}
 use lib.IntN.{ℤ}
 use lib.ListN.{length}
 use lib.Seq.{slice, slice-cons, slice_empty}
-use Rattle.whole.specs.Choice.{if◌then◌else◌}
 use Rattle.grid.specs.declared.Window.{Window}
 use Rattle.slots.specs.Slots.{Slot, slots_of, slot_at, in_use, free_slot}
 use Rattle.slots.specs.Workers.{strip_in}
