@@ -6,25 +6,25 @@ use borrow.Author.Rules.{rules}
 use Rattle.artwork.proofs.put_artwork.Statement.{statement}
 use Rattle.artwork.proofs.put_artwork.Tie as tie
 
-extent-requires : tie.Need-extent-requires
+extent-requires : tie.Need-extent-e-requires
 extent-requires c κs = search rules
 
-put-strip-requires : tie.Need-put-strip-requires
+put-strip-requires : tie.Need-put_strip-a-requires
 put-strip-requires c κs = search rules
 
-put-drawn-requires : tie.Need-put-drawn-requires
+put-drawn-requires : tie.Need-put_drawn-b-requires
 put-drawn-requires c κs = search rules
 
-put-labels-requires : tie.Need-put-labels-requires
+put-labels-requires : tie.Need-put_labels-c-requires
 put-labels-requires c κs = search rules
 
-put-placed-requires : tie.Need-put-placed-requires
+put-placed-requires : tie.Need-put_placed-d-requires
 put-placed-requires c κs = search rules
 
-put-all-requires : tie.Need-put-all-requires
+put-all-requires : tie.Need-put_all-requires
 put-all-requires c κs = search rules
 
-same_length : tie.Need-same-length
+same_length : tie.Need-shape_of-page
 same_length c = search rules
 
 returns : tie.Need-returns
@@ -36,12 +36,12 @@ returns c =
     let at₃ = at₄.before.before.before.before in
     let at₂ = at₃.before.before.before.before in
     let at₁ = at₂.before.before in
-    let p = at₂.put-strip.ensures in
-    let q = at₃.put-drawn.ensures in
-    let r = at₄.put-labels.ensures in
-    let s = at₅.put-placed.ensures in
-    let t = at₆.put_all_lem.ensures in (
-      rw (← at₁.extent.ensures.0) (put_then (put_then (put_then (put_then p.0 q.0) r.0) s.0) t.0),
+    let p = at₂.put_strip-a.ensures in
+    let q = at₃.put_drawn-b.ensures in
+    let r = at₄.put_labels-c.ensures in
+    let s = at₅.put_placed-d.ensures in
+    let t = at₆.put_all.ensures in (
+      rw (← at₁.extent-e.ensures.0) (put_then (put_then (put_then (put_then p.0 q.0) r.0) s.0) t.0),
       omega (arith, p.1, q.1, r.1, s.1, t.1),
     )
 
