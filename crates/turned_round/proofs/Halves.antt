@@ -5,7 +5,7 @@ use mathlib.Core.Logic.{⊎_elim}
 use Prim.Native.Nat.{◌/◌, ◌%◌}
 use native.Mathlib.Omega.{arith}
 use borrow.Author.Tests.{eqb-true, eqb-false}
-use lib.IntN.{ℤ, pos, negsuc, nat_abs, ◌+ℤ◌, ◌-ℤ◌, ◌*ℤ◌}
+use lib.IntN.{ℤ, pos, negsuc, nat_abs, ◌+ℤ◌, ◌-ℤ◌}
 use lib.Signed.{◌≤ℤ◌, ◌<ℤ◌}
 use Rattle.whole.specs.Rounding.{to_even}
 use Rattle.whole.proofs.Certificates.{ge_by, eqn, ◌⊹◌, eq_by, eq, po, le, nat⁺, ◌⊞◌, ◌⊠◌}
@@ -13,7 +13,6 @@ use Rattle.whole.proofs.Expressions.{Env, Expr, con, ◌⊕◌, ◌⊗◌, x0, x
 use Rattle.whole.proofs.Naturals.{abs_is}
 use Rattle.whole.proofs.Order.{zarith, sub_is, next-≤, ≤_antisym, ≤_total}
 use Rattle.fraction.specs.Fraction.{Divides}
-use Rattle.fraction.specs.Rounding.{Rounded}
 use Rattle.fraction.proofs.Divisors.{abs_divides}
 use Rattle.turned_round.specs.Laws.{HalvesToEven}
 
