@@ -4,13 +4,13 @@ use borrow.Author.Rules.{rules}
 use Rattle.strip_art.proofs.number_size.Statement.{statement}
 use Rattle.strip_art.proofs.number_size.Tie as tie
 
-height-requires : tie.Need-height-requires
+height-requires : tie.Need-height-high-requires
 height-requires c κs = search rules
 
-width-requires : tie.Need-width-requires
+width-requires : tie.Need-width-wide-requires
 width-requires c κs = search rules
 
-mul-lesser : tie.Need-overflow-mul-lesser
+mul-lesser : tie.Need-overflow_mul-high
 mul-lesser c = search rules
 
 lesser-requires : tie.Need-lesser-requires
@@ -25,7 +25,7 @@ returns c =
     let at₃ = c.before in
     let at₂ = at₃.before in
     let at₁ = at₂.before in
-    rw (← at₁.height.ensures.0, ← at₂.width.ensures.0, ← at₃.lesser.ensures) c.lesser2.ensures
+    rw (← at₁.height-high.ensures.0, ← at₂.width-wide.ensures.0, ← at₃.lesser.ensures) c.lesser-2.ensures
 
 pub number_size_spec : {M : Type 1} → statement M
 number_size_spec =

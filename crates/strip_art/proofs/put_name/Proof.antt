@@ -6,25 +6,16 @@ use borrow.Author.Rules.{rules}
 use Rattle.strip_art.proofs.put_name.Statement.{statement}
 use Rattle.strip_art.proofs.put_name.Tie as tie
 
-slice-aggregate-put-labelled : tie.Need-slice-aggregate-put-labelled
-slice-aggregate-put-labelled c = search rules
-
-put-labelled-requires : tie.Need-put-labelled-requires
+put-labelled-requires : tie.Need-put_labelled-a-requires
 put-labelled-requires c κs = search rules
 
-slice-aggregate-put-labelled-2 : tie.Need-slice-aggregate-put-labelled-2
-slice-aggregate-put-labelled-2 c = search rules
-
-put-labelled-requires-2 : tie.Need-put-labelled-requires-2
+put-labelled-requires-2 : tie.Need-put_labelled-b-requires
 put-labelled-requires-2 c κs = search rules
-
-slice-aggregate-put : tie.Need-slice-aggregate-put
-slice-aggregate-put c = search rules
 
 put-requires : tie.Need-put-requires
 put-requires c κs = search rules
 
-same_length : tie.Need-same-length
+same_length : tie.Need-shape_of-page
 same_length c = search rules
 
 returns : tie.Need-returns
@@ -33,8 +24,8 @@ returns c =
     let at₃ = c.before.before in
     let at₂ = at₃.before.before.before.before.before in
     let at₁ = at₂.before.before.before.before.before in
-    let p = at₁.put-labelled.ensures in
-    let q = at₂.put-labelled2.ensures in
+    let p = at₁.put_labelled-a.ensures in
+    let q = at₂.put_labelled-b.ensures in
     let r = at₃.put.ensures in
     (put_then (put_then p.0 q.0) r, omega (arith, p.1, q.1, r.ends))
 
@@ -42,11 +33,8 @@ pub put_name_spec : {M : Type 1} → statement M
 put_name_spec =
     tie.close
     (tie.spec
-    slice-aggregate-put-labelled
     put-labelled-requires
-    slice-aggregate-put-labelled-2
     put-labelled-requires-2
-    slice-aggregate-put
     put-requires
     same_length
     returns)

@@ -6,28 +6,22 @@ use borrow.Author.Rules.{rules}
 use Rattle.strip_art.proofs.put_strip.Statement.{statement}
 use Rattle.strip_art.proofs.put_strip.Tie as tie
 
-put-name-requires : tie.Need-put-name-requires
+put-name-requires : tie.Need-put_name-a-requires
 put-name-requires c κs = search rules
 
-slice-aggregate-put : tie.Need-slice-aggregate-put
-slice-aggregate-put c = search rules
-
-put-requires : tie.Need-put-requires
+put-requires : tie.Need-put-b-requires
 put-requires c κs = search rules
 
-put-round-requires : tie.Need-put-round-requires
+put-round-requires : tie.Need-put_round-c-requires
 put-round-requires c κs = search rules
 
-slice-aggregate-put-2 : tie.Need-slice-aggregate-put-2
-slice-aggregate-put-2 c = search rules
-
-put-requires-2 : tie.Need-put-requires-2
+put-requires-2 : tie.Need-put-d-requires
 put-requires-2 c κs = search rules
 
-put-number-requires : tie.Need-put-number-requires
+put-number-requires : tie.Need-put_number-requires
 put-number-requires c κs = search rules
 
-same_length : tie.Need-same-length
+same_length : tie.Need-shape_of-page
 same_length c = search rules
 
 returns : tie.Need-returns
@@ -38,11 +32,11 @@ returns c =
     let at₃ = at₄.before.before.before.before.before in
     let at₂ = at₃.before.before.before.before in
     let at₁ = at₂.before.before.before.before.before in
-    let p = at₁.put-name.ensures in
-    let q = at₂.put.ensures in
-    let r = at₃.put-round.ensures in
-    let s = at₄.put2.ensures in
-    let t = at₅.put-number.ensures in
+    let p = at₁.put_name-a.ensures in
+    let q = at₂.put-b.ensures in
+    let r = at₃.put_round-c.ensures in
+    let s = at₄.put-d.ensures in
+    let t = at₅.put_number.ensures in
     (put_then (put_then (put_then (put_then p.0 q) r.0) s) t.0, omega (arith, p.1, q.ends, r.1, s.ends, t.1))
 
 pub put_strip_spec : {M : Type 1} → statement M
@@ -50,10 +44,8 @@ put_strip_spec =
     tie.close
     (tie.spec
     put-name-requires
-    slice-aggregate-put
     put-requires
     put-round-requires
-    slice-aggregate-put-2
     put-requires-2
     put-number-requires
     same_length
