@@ -10,7 +10,7 @@ use Rattle.drawing_commands.proofs.read.Tie as tie
 prepare-requires : tie.Need-prepare-requires
 prepare-requires c κs = search rules
 
-read-drawing-requires : tie.Need-read-drawing-requires
+read-drawing-requires : tie.Need-read_drawing-a-requires
 read-drawing-requires c κs = search rules
 
 begin-requires : tie.Need-begin-requires
@@ -22,24 +22,24 @@ window-requires c κs = search rules
 natural-requires : tie.Need-natural-requires
 natural-requires c κs = search rules
 
-same_length : tie.Need-same-length
+same_length : tie.Need-shape_of-lent
 same_length c = search rules
 
 returns : tie.Need-returns
 returns c =
-    let begun = c.before.before in
-    let called = begun.before.before.before in
+    let begun = c in
+    let called = begun in
     let prepared = called.before.before.before in
-    let a = called.read-drawing.result in
-    let s = next (after 4 (λ fs. with_window fs a.window) begun.begin.ensures c.before.window2.ensures)
+    let a = called.read_drawing-a.result in
+    let s = next (after 4 (λ fs. with_window fs a.window) begun.begin.ensures c.window.ensures)
     c.natural.ensures in (
       omega (arith, s.count),
       tells a
           (record {
-            before = prepared.prepare.new.0;
+            before = prepared.prepare.new.lent;
             same = search rules;
             prepared = prepared.prepare.ensures;
-            call = called.read-drawing.ensures;
+            call = called.read_drawing-a.ensures;
           }) s,
     )
 
