@@ -7,16 +7,16 @@ use borrow.Author.Rules.{rules}
 use Rattle.answers.proofs.refuse.Statement.{statement}
 use Rattle.answers.proofs.refuse.Tie as tie
 
-put-count-requires : tie.Need-put-count-requires
+put-count-requires : tie.Need-put_count-a-requires
 put-count-requires c κs = search rules
 
-put-natural-requires : tie.Need-put-natural-requires
+put-natural-requires : tie.Need-put_natural-b-requires
 put-natural-requires c κs = search rules
 
-put-meaning-requires : tie.Need-put-meaning-requires
+put-meaning-requires : tie.Need-put_meaning-end-requires
 put-meaning-requires c κs = search rules
 
-same_length : tie.Need-same-length
+same_length : tie.Need-shape_of-page
 same_length c = search rules
 
 returns : tie.Need-returns
@@ -25,7 +25,7 @@ returns c =
     let at₃ = c.before.before in
     let at₂ = at₃.before.before.before.before in
     let at₁ = at₂.before.before.before.before in
-    put_answers _ (put_then (put_then at₁.put_count.ensures.0 at₂.put-natural.ensures.0) at₃.put-meaning.ensures) refl
+    put_answers _ (put_then (put_then at₁.put_count-a.ensures.0 at₂.put_natural-b.ensures.0) at₃.put_meaning-end.ensures) refl
 
 pub refuse_spec : {M : Type 1} → statement M
 refuse_spec =

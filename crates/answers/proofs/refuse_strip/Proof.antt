@@ -7,19 +7,19 @@ use borrow.Author.Rules.{rules}
 use Rattle.answers.proofs.refuse_strip.Statement.{statement}
 use Rattle.answers.proofs.refuse_strip.Tie as tie
 
-put-count-requires : tie.Need-put-count-requires
+put-count-requires : tie.Need-put_count-a-requires
 put-count-requires c κs = search rules
 
-put-count-requires-2 : tie.Need-put-count-requires-2
+put-count-requires-2 : tie.Need-put_count-b-requires
 put-count-requires-2 c κs = search rules
 
-put-strip-requires : tie.Need-put-strip-requires
+put-strip-requires : tie.Need-put_strip-c-requires
 put-strip-requires c κs = search rules
 
-put-meaning-requires : tie.Need-put-meaning-requires
+put-meaning-requires : tie.Need-put_meaning-end-requires
 put-meaning-requires c κs = search rules
 
-same_length : tie.Need-same-length
+same_length : tie.Need-shape_of-page
 same_length c = search rules
 
 returns : tie.Need-returns
@@ -29,8 +29,8 @@ returns c =
     let at₃ = at₄.before.before.before.before in
     let at₂ = at₃.before.before.before.before in
     let at₁ = at₂.before.before.before.before in
-    let numbers = put_then at₁.put_count.ensures.0 at₂.put-count2.ensures.0 in
-    put_answers _ (put_then (put_then numbers at₃.put-strip.ensures.0) at₄.put-meaning.ensures) refl
+    let numbers = put_then at₁.put_count-a.ensures.0 at₂.put_count-b.ensures.0 in
+    put_answers _ (put_then (put_then numbers at₃.put_strip-c.ensures.0) at₄.put_meaning-end.ensures) refl
 
 pub refuse_strip_spec : {M : Type 1} → statement M
 refuse_strip_spec =
