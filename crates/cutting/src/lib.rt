@@ -7,7 +7,7 @@ ghost use Rattle.cutting.specs.Sheets.{CutDrawing};
 use grid::Window;
 
 // A refusal's number and place; or the window, how many strokes are drawn, and how many of them are kept: those that have a row.
-#[derive(Drop)]
+#[derive(Clone, Copy)]
 pub struct Sheet {
     pub number: u8,
     pub place: usize,

@@ -9,50 +9,50 @@ use borrow.Author.Rules.{rules}
 use Rattle.cutting.proofs.cut_drawing.Statement.{statement}
 use Rattle.cutting.proofs.cut_drawing.Tie as tie
 
-read-drawing-requires : tie.Need-read-drawing-requires
+read-drawing-requires : tie.Need-read_drawing-read-requires
 read-drawing-requires c κs = search rules
 
-same_length : tie.Need-same-length
+same_length : tie.Need-shape_of-strokes-then-read-ne0
 same_length c = search rules
 
-seen : (c : tie.After-strokes) → Read c.before.before.before.before.args.bytes.now c.before.read-drawing.result c.before.read-drawing.new.1.0
-seen c = read c.before.before.before.before.requires.0 c.strokes.given c.before.read-drawing.ensures
+seen : (c : tie.After-strokes-1) → Read c.before.before.before.before.args.bytes.now c.before.read_drawing-read.result c.before.read_drawing-read.new.out
+seen c = read c.before.before.before.before.requires.0 c.strokes-1.given c.before.read_drawing-read.ensures
 
-returns : tie.Need-returns
-returns c = (seen c.before.before.before).refuses (λ z. omega (arith, c.if1.true)) _
+returns : tie.Need-returns-then-read-ne0
+returns c = (seen c.before.before.before).refuses (λ z. omega (arith, c.if-read-ne0.true)) _
 
 -- nothing was refused
-drawn_of : (c : tie.Else1) → let r = c.before.before.before.before in
-    Drawn r.before.before.before.args.bytes.now r.read-drawing.result r.read-drawing.new.1.0
-drawn_of c = (seen c.before.before.before).draws (omega (arith, c.if1.false))
+drawn_of : (c : tie.Else-read-ne0) → let r = c.before.before.before.before in
+    Drawn r.before.before.before.args.bytes.now r.read_drawing-read.result r.read_drawing-read.new.out
+drawn_of c = (seen c.before.before.before).draws (omega (arith, c.if-read-ne0.false))
 
-mul-numbers : tie.Need-overflow-mul-numbers
+mul-numbers : tie.Need-overflow_mul-numbers
 mul-numbers c = omega (arith, (drawn_of c.before).few, (drawn_of c.before).count)
 
-slice-reshare-prefix-batch : tie.Need-slice-reshare-prefix-batch
+slice-reshare-prefix-batch : tie.Need-slice_bounds-batch-end
 slice-reshare-prefix-batch c = (drawn_of c.before).fits
 
-slice-aggregate-batch : tie.Need-slice-aggregate-batch
-slice-aggregate-batch c = sym (length-take-le _ _ (drawn_of c.before.before).fits)
+slice-aggregate-batch : tie.Need-slice_bounds-batch-end-2
+slice-aggregate-batch c = sym (length-take-le _ _ (drawn_of c.before).fits)
 
-batch-requires : tie.Need-batch-requires
+batch-requires : tie.Need-batch-answer-requires
 batch-requires c κs = search rules
 
-same-length-2 : tie.Need-same-length-2
+same-length-2 : tie.Need-shape_of-strokes
 same-length-2 c = search rules
 
-same-length-3 : tie.Need-same-length-3
+same-length-3 : tie.Need-shape_of-rows
 same-length-3 c = search rules
 
-kept_of : (c : tie.After-batch) → let d = drawn_of c.before.before.before.before in
-    Kept c.before.before.before.before.before.before.before.before.read-drawing.result.window (numbers_of d.lines) c.batch.result
-    c.batch.new.1.1.0
+kept_of : (c : tie.After-batch-answer) → let d = drawn_of c.before.before.before in
+    Kept c.read_drawing-read.result.window (numbers_of d.lines) c.batch-answer.result
+    c.batch-answer.new.out
 kept_of c =
-    let d = drawn_of c.before.before.before.before in
-    kept d c.before.before.before.before.before.before.before.before.before.before.before.requires.1 c.batch.ensures
+    let d = drawn_of c.before.before.before in
+    kept d c.requires.1 c.batch-answer.ensures
 
-returns-2 : tie.Need-returns-2
-returns-2 c = let d = drawn_of c.before.before.before.before.before.before in
+returns-2 : tie.Need-returns
+returns-2 c = let d = drawn_of c.before.before.before.before.before in
     let k = kept_of c.before.before in
     cut (record {
       lines = d.lines;
