@@ -1,9 +1,9 @@
 -- A line that stands at a place is found: its six numbers are read, they tell the slot and the strip, and the comparison finds the line.
 use mathlib.Core.Path.{◌≡◌, refl, sym, ap, ap₂, ◌∙◌, subst}
 use mathlib.Core.Bool.{Bool, true, false}
-use mathlib.Core.List.{List, [], ◌∷◌}
+use mathlib.Core.List.{List}
 use mathlib.Core.Option.{Option, some}
-use Prim.Native.Nat.{ℕ, zero, suc, ◌+◌, ◌-◌, ◌*◌, ◌/◌, ◌%◌, ◌<◌, ◌≤◌, ◌^◌, min}
+use Prim.Native.Nat.{ℕ, zero, suc, ◌+◌, ◌-◌, ◌*◌, ◌<◌, ◌≤◌, ◌^◌, min}
 use native.Mathlib.Omega.{arith}
 use borrow.Author.Tests.{eqb-true, eq-eqb}
 use lib.Dec.{eqb}
@@ -16,7 +16,7 @@ use mir.Syntax.{w32}
 use Rattle.whole.proofs.Comparisons.{ff_tt, fits_range}
 use Rattle.whole.proofs.Order.{zarith}
 use Rattle.grid.specs.Refusals.{window_refusal}
-use Rattle.grid.specs.Table.{farthest, sides, WindowOnTable}
+use Rattle.grid.specs.Table.{farthest, WindowOnTable}
 use Rattle.grid.specs.declared.Window.{Window}
 use Rattle.grid.proofs.Refusals.{window_on_table}
 use Rattle.slots.specs.Slots.{good_strip}

@@ -1,10 +1,9 @@
 -- The numbers of a line are its words up to the equals sign, each a number that reads back.
-use mathlib.Core.Path.{◌≡◌, refl, sym, ap, ap₂, ◌∙◌, subst}
-use mathlib.Core.Bool.{true}
+use mathlib.Core.Path.{◌≡◌, refl, sym, ap, ap₂, ◌∙◌}
 use mathlib.Core.Logic.{inl, inr}
 use mathlib.Core.List.{List, [], ◌∷◌, ◌++◌, append_assoc, append-nil}
 use mathlib.Core.Option.{some}
-use Prim.Native.Nat.{ℕ, zero, suc, ◌+◌, ◌-◌, ◌*◌, ◌/◌, ◌%◌, ◌<◌, ◌≤◌, ◌^◌}
+use Prim.Native.Nat.{ℕ, suc, ◌+◌, ◌-◌, ◌/◌, ◌%◌, ◌<◌, ◌≤◌, ◌^◌}
 use native.Mathlib.Nat.{lt_of_lt_of_le}
 use native.Mathlib.Omega.{arith}
 use borrow.Author.Tests.{lt-ltb}
@@ -18,7 +17,7 @@ use Rattle.grid.specs.declared.Window.{Window}
 use Rattle.text.specs.Pages.{integer, ascii}
 use Rattle.text.specs.Runs.{run, is_not}
 use Rattle.text.proofs.Runs.{run_failed, run_passed}
-use Rattle.words.specs.Words.{words, arguments, numeral, as_integer, integers, and_integer}
+use Rattle.words.specs.Words.{words, arguments, numeral, as_integer, integers}
 use Rattle.words.specs.declared.Integer.TheVariants as Integer
 use Rattle.words.proofs.Spaces.{to_space, words_cut}
 use Rattle.words.proofs.Theorems.{integer_back}

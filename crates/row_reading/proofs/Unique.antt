@@ -5,14 +5,14 @@ use mathlib.Core.Option.{some}
 use Prim.Native.Nat.{ℕ, ◌+◌, ◌-◌, ◌≤◌, ◌<◌}
 use native.Mathlib.Omega.{arith}
 use lib.IntN.{ℤ}
-use lib.ListN.{length, take, drop, length-append, length-take, length-drop}
+use lib.ListN.{length, drop, length-append, length-take, length-drop}
 use Rattle.grid.specs.declared.Window.{Window}
 use Rattle.text.specs.Pages.{integer, ascii}
 use Rattle.text.specs.Runs.{run, is_not}
 use Rattle.text.proofs.Runs.{run_le}
 use Rattle.strip_lines.specs.Lines.{listed, row_text}
 use Rattle.row_reading.specs.Laws.{OneRow}
-use Rattle.row_reading.specs.Rows.{StandsAt, IsRow}
+use Rattle.row_reading.specs.Rows.{StandsAt}
 use Rattle.row_reading.specs.Workers.{row_numbers}
 use Rattle.row_reading.proofs.Six.{six_are, row_parts, tail}
 use Rattle.row_reading.proofs.Finding.{small_row, told_slot, told_strip}

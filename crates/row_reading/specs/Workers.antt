@@ -11,7 +11,7 @@ use Rattle.slots.specs.Slots.{good_strip}
 use Rattle.strip_lines.specs.Lines.{row_text}
 use Rattle.row_reading.specs.Rows.{StandsAt, IsRow}
 use Rattle.row_reading.specs.declared.Told.{Told}
-use Rattle.row_reading.specs.declared.Told.TheVariants.{Row, Nothing}
+use Rattle.row_reading.specs.declared.Told.TheVariants.{Row}
 
 abbrev pub row_numbers : ℕ → Window → List ℤ
 row_numbers k w = pos (k / 32) ∷ pos (k % 32) ∷ sides w

@@ -7,46 +7,33 @@ use borrow.Author.Rules.{rules}
 use Rattle.row_reading.proofs.row_at.Statement.{statement}
 use Rattle.row_reading.proofs.row_at.Tie as tie
 
-read-six-requires : tie.Need-read-six-requires
+read-six-requires : tie.Need-read_six-requires
 read-six-requires c κs = search rules
 
-returns : tie.Need-returns
-returns c = no_six (subst (NumbersAt _ _ _) (not-true _ c.if1.true) c.before.read-six.ensures)
+returns : tie.Need-returns-then-not-read_six
+returns c = no_six (subst (NumbersAt _ _ _) (not-true _ c.if-not-read_six.true-raw) c.before.read_six.ensures)
 
-row-of-requires : tie.Need-row-of-requires
+row-of-requires : tie.Need-row_of-requires
 row-of-requires c κs = search rules
 
-enum-known-k : tie.Need-enum-known-k
+enum-known-k : tie.Need-enum_known-k
 enum-known-k c = search rules
 
-enum_told : tie.Need-enum-told
+enum_told : tie.Need-enum_told-1
 enum_told c = search rules
 
-returns-2 : tie.Need-returns-2
-returns-2 c =
-    let o = c.before.before in
-    let n = o.before.before.before in
-    not_of n.read-six.ensures (subst (RowOf _) c.enum_told.given.1 o.row_of.ensures)
+returns-2 : tie.Need-returns-in_default
+returns-2 c = not_of c.read_six.ensures (subst (RowOf _) c.in_default.is c.row_of.ensures)
 
-end-of-requires : tie.Need-end-of-requires
-end-of-requires c κs =
-    let o = c.before.before.before in
-    (o.before.before.before.before.before.before.requires.1, (o.row_of.ensures.sound _ _ c.before.k.given.1).0)
+end-of-requires : tie.Need-end_of-end-requires
+end-of-requires c κs = (c.requires.1, (c.row_of.ensures.sound _ _ c.in-Row.is).0)
 
-returns-3 : tie.Need-returns-3
+returns-3 : tie.Need-returns-then-end-eq0
 returns-3 c =
-    let m = c.before.before.before in
-    let o = m.before.before in
-    let n = o.before.before.before in
-    not_found n.read-six.ensures (subst (RowOf _) m.k.given.1 o.row_of.ensures) n.before.before.before.requires.0 c.if2.true
-    c.before.end_of_lem.ensures
+    not_found c.read_six.ensures (subst (RowOf _) c.in-Row.is c.row_of.ensures) c.requires.0 c.if-end-eq0.true c.end_of-end.ensures
 
-returns-4 : tie.Need-returns-4
-returns-4 c =
-    let m = c.before.before.before in
-    let o = m.before.before in
-    let n = o.before.before.before in
-    found n.read-six.ensures (subst (RowOf _) m.k.given.1 o.row_of.ensures) c.if2.false c.before.end_of_lem.ensures
+returns-4 : tie.Need-returns
+returns-4 c = found c.read_six.ensures (subst (RowOf _) c.in-Row.is c.row_of.ensures) c.if-end-eq0.false c.end_of-end.ensures
 
 pub row_at_spec : {M : Type 1} → statement M
 row_at_spec =

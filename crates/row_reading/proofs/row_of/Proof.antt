@@ -13,12 +13,12 @@ use borrow.Author.Rules.{rules}
 use Rattle.row_reading.proofs.row_of.Statement.{statement}
 use Rattle.row_reading.proofs.row_of.Tie as tie
 
-element-copy-out-size : tie.Need-element-copy-out-size
+element-copy-out-size : tie.Need-bounds-numbers-0
 element-copy-out-size c = search rules
 
-cast-size : tie.Need-overflow-cast-size
+cast-size : tie.Need-overflow_cast-numbers
 cast-size c =
-    let f : SFits w32 (get_or c.before.args.numbers.now 0 (pos 0)) = record { sfits = c.size-arg.given } in
+    let f : SFits w32 (get_or c.before.args.numbers.now 0 (pos 0)) = record { sfits = c.size-arg-1.given } in
     rw (to_z-of_z f) (sfits_widen tt f)
 
 size-requires : tie.Need-size-requires
@@ -27,61 +27,61 @@ size-requires c κs = search rules
 -- the sizes of the first two numbers
 size_is : (c : tie.After-size) → c.size.result ≡ nat_abs (get_or c.before.before.args.numbers.now 0 (pos 0))
 size_is c =
-    let f : SFits w32 (get_or c.before.before.args.numbers.now 0 (pos 0)) = record { sfits = c.before.size-arg.given } in
+    let f : SFits w32 (get_or c.before.before.args.numbers.now 0 (pos 0)) = record { sfits = c.before.size-arg-1.given } in
     simp (to_z-of_z f, to_z-of_z {w = w64} (sfits_widen {w = w32} tt f)) at c.size.ensures
 
 size_few : (c : tie.After-size) → c.size.result ≤ 2 ^ 31
-size_few c = rw (size_is c) (size_fits (get_or c.before.before.args.numbers.now 0 (pos 0)) c.before.size-arg.given)
+size_few c = rw (size_is c) (size_fits (get_or c.before.before.args.numbers.now 0 (pos 0)) c.before.size-arg-1.given)
 
-size2_is : (c : tie.After-size2) → c.size2.result ≡ nat_abs (get_or c.before.before.before.before.args.numbers.now 1 (pos 0))
+size2_is : (c : tie.After-size-2) → c.size-2.result ≡ nat_abs (get_or c.before.before.before.before.args.numbers.now 1 (pos 0))
 size2_is c =
-    let f : SFits w32 (get_or c.before.before.before.before.args.numbers.now 1 (pos 0)) = record { sfits = c.before.size-arg2.given } in
-    simp (to_z-of_z f, to_z-of_z {w = w64} (sfits_widen {w = w32} tt f)) at c.size2.ensures
+    let f : SFits w32 (get_or c.before.before.before.before.args.numbers.now 1 (pos 0)) = record { sfits = c.before.size-arg-2-1.given } in
+    simp (to_z-of_z f, to_z-of_z {w = w64} (sfits_widen {w = w32} tt f)) at c.size-2.ensures
 
-size2_few : (c : tie.After-size2) → c.size2.result ≤ 2 ^ 31
-size2_few c = rw (size2_is c) (size_fits (get_or c.before.before.before.before.args.numbers.now 1 (pos 0)) c.before.size-arg2.given)
+size2_few : (c : tie.After-size-2) → c.size-2.result ≤ 2 ^ 31
+size2_few c = rw (size2_is c) (size_fits (get_or c.before.before.before.before.args.numbers.now 1 (pos 0)) c.before.size-arg-2-1.given)
 
-slot_is : (c : tie.After-size2)
-    → c.before.before.size.result * 32 + c.size2.result ≡ slot_in c.before.before.before.before.args.numbers.now
+slot_is : (c : tie.After-size-2)
+    → c.before.before.size.result * 32 + c.size-2.result ≡ slot_in c.before.before.before.before.args.numbers.now
 slot_is c = ap₂ (λ (a b : ℕ). a * 32 + b) (size_is c.before.before) (size2_is c)
 
-mul-k : tie.Need-overflow-mul-k
+mul-k : tie.Need-overflow_mul-k
 mul-k c = record { fits = omega (arith, size_few c) }
 
-element-copy-out-size-2 : tie.Need-element-copy-out-size-2
+element-copy-out-size-2 : tie.Need-bounds-numbers-1
 element-copy-out-size-2 c = search rules
 
-cast-size-2 : tie.Need-overflow-cast-size-2
+cast-size-2 : tie.Need-overflow_cast-numbers-2
 cast-size-2 c =
-    let f : SFits w32 (get_or c.before.before.before.args.numbers.now 1 (pos 0)) = record { sfits = c.size-arg2.given } in
+    let f : SFits w32 (get_or c.before.before.before.args.numbers.now 1 (pos 0)) = record { sfits = c.size-arg-2-1.given } in
     rw (to_z-of_z f) (sfits_widen tt f)
 
 size-requires-2 : tie.Need-size-requires-2
 size-requires-2 c κs = search rules
 
-add-k : tie.Need-overflow-add-k
+add-k : tie.Need-overflow_add-k
 add-k c = record { fits = omega (arith, size_few c.before.before, size2_few c) }
 
-returns : tie.Need-returns
-returns c = no_slot _ (omega (arith, slot_is c.before, c.if1.true))
+returns : tie.Need-returns-then-k-gt63
+returns c = no_slot _ (omega (arith, slot_is c.before, c.if-k-gt63.true))
 
-strip-at-requires : tie.Need-strip-at-requires
+strip-at-requires : tie.Need-strip_at-w-requires
 strip-at-requires c κs = search rules
 
-window-refusal-requires : tie.Need-window-refusal-requires
+window-refusal-requires : tie.Need-window_refusal-refusal-requires
 window-refusal-requires c κs = search rules
 
-returns-2 : tie.Need-returns-2
+returns-2 : tie.Need-returns-then-refusal-ne0
 returns-2 c =
     let w = c.before.before in
-    no_strip _ (λ e. c.if2.true (ap (λ r. r.number) w.window-refusal.ensures ∙ ap (λ v. (window_refusal v).number) w.before.strip_at.ensures ∙ e))
+    no_strip _ (λ e. c.if-refusal-ne0.true (ap (λ r. r.number) w.window_refusal-refusal.ensures ∙ ap (λ v. (window_refusal v).number) w.before.strip_at-w.ensures ∙ e))
 
-returns-3 : tie.Need-returns-3
+returns-3 : tie.Need-returns
 returns-3 c =
     let w = c.before.before in
     let s = w.before in
     let i = s.before.before in
-    a_row _ _ _ (slot_is i.before) s.strip_at.ensures (omega (arith, i.if1.false)) (ap (λ r. r.number) (sym w.window-refusal.ensures) ∙ c.if2.false)
+    a_row _ _ _ (slot_is i.before) s.strip_at-w.ensures (omega (arith, i.if-k-gt63.false)) (ap (λ r. r.number) (sym w.window_refusal-refusal.ensures) ∙ c.if-refusal-ne0.false)
 
 pub row_of_spec : {M : Type 1} → statement M
 row_of_spec =
