@@ -8,35 +8,35 @@ use borrow.Author.Rules.{rules}
 use Rattle.renter_art.proofs.put_slot.Statement.{statement}
 use Rattle.renter_art.proofs.put_slot.Tie as tie
 
-mul-slot : tie.Need-overflow-mul-slot
+mul-slot : tie.Need-overflow_mul-slot
 mul-slot c = search rules
 
-add-slot : tie.Need-overflow-add-slot
+add-slot : tie.Need-overflow_add-slot
 add-slot c = search rules
 
-in-use-requires : tie.Need-in-use-requires
+in-use-requires : tie.Need-in_use-requires
 in-use-requires c κs = search rules
 
-returns : tie.Need-returns
+returns : tie.Need-returns-then-not-in_use
 returns c =
     let u = c.before in
     let a = u.before.before.args in
-    let free = sym u.in_use.ensures ∙ not-true _ c.if1.true in
+    let free = sym u.in_use.ensures ∙ not-true _ c.if-not-in_use.true-raw in
     (rw (art_free a.renter a.book.now a.k free) (put_nothing _ (omega arith)), omega arith)
 
-mul-strip-at : tie.Need-overflow-mul-strip-at
+mul-strip-at : tie.Need-overflow_mul-slot-2
 mul-strip-at c = search rules
 
-strip-at-requires : tie.Need-strip-at-requires
+strip-at-requires : tie.Need-strip_at-w-requires
 strip-at-requires c κs = search rules
 
-put-strip-requires : tie.Need-put-strip-requires
+put-strip-requires : tie.Need-put_strip-requires
 put-strip-requires c κs = search rules
 
-same_length : tie.Need-same-length
+same_length : tie.Need-shape_of-page
 same_length c = search rules
 
-returns-2 : tie.Need-returns-2
+returns-2 : tie.Need-returns
 returns-2 c =
     let p = c.before.before in
     let w = p.before.before in
@@ -44,9 +44,9 @@ returns-2 c =
     let u = i.before in
     let s = u.before.before in
     let a = s.args in
-    let used = sym u.in_use.ensures ∙ not-false _ i.if1.false in
+    let used = sym u.in_use.ensures ∙ not-false _ i.if-not-in_use.false-raw in
     let e = art_used a.renter a.book.now a.k s.requires.0 s.requires.1.0 s.requires.1.1.0 used in
-    (rw (e, ← w.strip_at.ensures) p.put-strip.ensures.0, p.put-strip.ensures.1)
+    (rw (e, ← w.strip_at-w.ensures) p.put_strip.ensures.0, p.put_strip.ensures.1)
 
 pub put_slot_spec : {M : Type 1} → statement M
 put_slot_spec =

@@ -9,42 +9,42 @@ use Rattle.renter_art.proofs.Arts.{arts_on, arts_end}
 use Rattle.renter_art.proofs.put_slots.Statement.{statement}
 use Rattle.renter_art.proofs.put_slots.Tie as tie
 
-abbrev invariant_loop : tie.invariant_loop
+abbrev invariant_loop : tie.invariant-loop-k
 invariant_loop page₀ at book renter end₀ k₀ page end k =
     (k ≤ 32) × ((end ≤ at + 500 * k) × Put page₀ page at end (slot_arts renter book k))
 
-abbrev decreases_loop : tie.decreases_loop
+abbrev decreases_loop : tie.decreases-loop-k
 decreases_loop page₀ at book renter end₀ k₀ page end k = 32 - k
 
-loop-holds : tie.Need-loop-init invariant_loop decreases_loop
+loop-holds : tie.Need-loop-k-init invariant_loop decreases_loop
 unfolding slot_arts
 loop-holds c = (omega arith, (omega arith, put_nothing _ (omega arith)))
 
-put-slot-requires : tie.Need-put-slot-requires invariant_loop decreases_loop
+put-slot-requires : tie.Need-put_slot-end-requires invariant_loop decreases_loop
 put-slot-requires c κs =
-    let i = c.before.before.loop.invariant in
-    let t = c.before.loop-test.true in
+    let i = c.before.before.loop-k.invariant in
+    let t = c.before.loop-k-test.true in
     let a = c.before.before.before.before in
     (a.requires.0, (omega arith, (a.requires.1.0, omega (arith, i.1.0, i.1.1.same))))
 
-add-k : tie.Need-overflow-add-k invariant_loop decreases_loop
+add-k : tie.Need-overflow_add-k invariant_loop decreases_loop
 add-k c = omega arith
 
-loop-less : tie.Need-loop-smaller invariant_loop decreases_loop
+loop-less : tie.Need-loop-k-smaller invariant_loop decreases_loop
 loop-less c = omega arith
 
-loop-again : tie.Need-loop-preserved invariant_loop decreases_loop
+loop-again : tie.Need-loop-k-preserved invariant_loop decreases_loop
 loop-again c =
-    let l = c.before.before.before.before.before.loop in
-    let p = c.before.before.put-slot.ensures in
+    let l = c.before.before.before.before.before.loop-k in
+    let p = c.before.before.put_slot-end.ensures in
     (omega arith, (omega (arith, l.invariant.1.0, p.1), arts_on _ _ l.k l.invariant.1.1 p.0))
 
-same_length : tie.Need-same-length invariant_loop decreases_loop
-same_length c = c.before.loop.invariant.1.1.same
+same_length : tie.Need-shape_of-page invariant_loop decreases_loop
+same_length c = c.before.loop-k.invariant.1.1.same
 
 returns : tie.Need-returns invariant_loop decreases_loop
 returns c =
-    let l = c.before.loop in
+    let l = c.before.loop-k in
     let e : l.k ≡ 32 = omega (arith, l.invariant.0) in
     (arts_end _ _ e l.invariant.1.1, omega (arith, l.invariant.1.0))
 

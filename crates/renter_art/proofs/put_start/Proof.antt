@@ -6,28 +6,22 @@ use borrow.Author.Rules.{rules}
 use Rattle.renter_art.proofs.put_start.Statement.{statement}
 use Rattle.renter_art.proofs.put_start.Tie as tie
 
-put-look-requires : tie.Need-put-look-requires
+put-look-requires : tie.Need-put_look-a-requires
 put-look-requires c κs = search rules
 
-slice-aggregate-put-labelled : tie.Need-slice-aggregate-put-labelled
-slice-aggregate-put-labelled c = search rules
-
-mul-put-labelled : tie.Need-overflow-mul-put-labelled
+mul-put-labelled : tie.Need-overflow_mul-renter
 mul-put-labelled c = search rules
 
-add-put-labelled : tie.Need-overflow-add-put-labelled
+add-put-labelled : tie.Need-overflow_add-renter
 add-put-labelled c = search rules
 
-put-labelled-requires : tie.Need-put-labelled-requires
+put-labelled-requires : tie.Need-put_labelled-b-requires
 put-labelled-requires c κs = search rules
-
-slice-aggregate-put : tie.Need-slice-aggregate-put
-slice-aggregate-put c = search rules
 
 put-requires : tie.Need-put-requires
 put-requires c κs = search rules
 
-same_length : tie.Need-same-length
+same_length : tie.Need-shape_of-page
 same_length c = search rules
 
 returns : tie.Need-returns
@@ -36,8 +30,8 @@ returns c =
     let at₃ = c.before.before in
     let at₂ = at₃.before.before.before.before.before in
     let at₁ = at₂.before.before.before.before.before in
-    let p = at₁.put-look.ensures in
-    let q = at₂.put-labelled.ensures in
+    let p = at₁.put_look-a.ensures in
+    let q = at₂.put_labelled-b.ensures in
     let r = at₃.put.ensures in
     (put_then (put_then p.0 q.0) r, omega (arith, p.1, q.1, r.ends))
 
@@ -46,11 +40,9 @@ put_start_spec =
     tie.close
     (tie.spec
     put-look-requires
-    slice-aggregate-put-labelled
     mul-put-labelled
     add-put-labelled
     put-labelled-requires
-    slice-aggregate-put
     put-requires
     same_length
     returns)
