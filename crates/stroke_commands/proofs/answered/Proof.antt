@@ -9,7 +9,7 @@ use Rattle.stroke_commands.proofs.answered.Tie as tie
 begin-requires : tie.Need-begin-requires
 begin-requires c κs = search rules
 
-part-requires : tie.Need-part-requires
+part-requires : tie.Need-part-reply-requires
 part-requires c κs = search rules
 
 integer-requires : tie.Need-integer-requires
@@ -31,11 +31,11 @@ returns c =
     let c1 = c2.before.before in
     let p = c1.before.before in
     let a = p.before.before.before.before.args.a in
-    let n0 = after 5 (λ fs. with_part fs a.kept a.t0 a.t1) p.before.begin.ensures p.part.ensures in
-    let n1 = next_signed w32 c1.before.struct_told.given.1.1.1.1.1.0.1 n0 c1.integer.ensures in
-    let n2 = next_signed w32 c2.before.struct-told2.given.1.1.1.1.1.1.0.1 n1 c2.integer2.ensures in
-    let n3 = next_signed w32 c3.before.struct-told3.given.1.1.1.1.1.1.1.0.1 n2 c3.integer3.ensures in
-    next_signed w32 c.before.struct-told4.given.1.1.1.1.1.1.1.1.0.1 n3 c.integer4.ensures
+    let n0 = after 5 (λ fs. with_part fs a.kept a.t0 a.t1) p.before.begin.ensures p.part-reply.ensures in
+    let n1 = next_signed w32 c1.before.struct_told-1.given.1.1.1.1.1.0.1 n0 c1.integer.ensures in
+    let n2 = next_signed w32 c2.before.struct_told-2-1.given.1.1.1.1.1.1.0.1 n1 c2.integer-2.ensures in
+    let n3 = next_signed w32 c3.before.struct_told-3-1.given.1.1.1.1.1.1.1.0.1 n2 c3.integer-3.ensures in
+    next_signed w32 c.before.struct_told-4-1.given.1.1.1.1.1.1.1.1.0.1 n3 c.integer-4.ensures
 
 pub answered_spec : {M : Type 1} → statement M
 answered_spec =

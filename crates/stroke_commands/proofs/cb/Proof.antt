@@ -12,86 +12,82 @@ use Rattle.stroke_commands.proofs.Corners.{too_few, other_count, asks_corners}
 use Rattle.stroke_commands.proofs.cb.Statement.{statement}
 use Rattle.stroke_commands.proofs.cb.Tie as tie
 
-slice-aggregate-read-numbers : tie.Need-slice-aggregate-read-numbers
+slice-aggregate-read-numbers : tie.Need-slice_bounds-read_numbers-end
 slice-aggregate-read-numbers c = search rules
 
-read-numbers-requires : tie.Need-read-numbers-requires
+read-numbers-requires : tie.Need-read_numbers-n-requires
 read-numbers-requires c κs = search rules
 
 unknown-requires : tie.Need-unknown-requires
 unknown-requires c κs = search rules
 
-returns : tie.Need-returns
+returns : tie.Need-returns-then-n-lt5
 returns c =
     let read = c.before.before.before in (
       search rules,
-      no_call (too_few _ read.read-numbers.ensures.1 (search rules) (search rules))
+      no_call (too_few _ read.read_numbers-n.ensures.1 (search rules) (search rules))
           c.unknown.ensures,
     )
 
-sub-end : tie.Need-overflow-sub-end
+sub-end : tie.Need-overflow_sub-end
 sub-end c = search rules
 
-array-copy-out-if2 : tie.Need-array-copy-out-if2
+array-copy-out-if2 : tie.Need-bounds-numbers-0
 array-copy-out-if2 c = search rules
 
-sub-if2 : tie.Need-overflow-sub-if2
+sub-if2 : tie.Need-overflow_sub-end-2
 sub-if2 c = search rules
 
-cast-if2 : tie.Need-overflow-cast-if2
+cast-if2 : tie.Need-overflow_cast-end
 cast-if2 c = search rules
 
-unknown-requires-2 : tie.Need-unknown-requires-2
+unknown-requires-2 : tie.Need-unknown-requires-then-numbers-end
 unknown-requires-2 c κs = search rules
 
-returns-2 : tie.Need-returns-2
+returns-2 : tie.Need-returns-then-numbers-end
 returns-2 c =
     let read = c.before.before.before.before.before in (
       search rules,
       no_call
-          (other_count _ read.read-numbers.ensures.1 (search rules)
-          (λ e. count_no _ _ c.before.if2.true (e ∙ ap pos (omega arith)))) c.unknown2.ensures,
+          (other_count _ read.read_numbers-n.ensures.1 (search rules)
+          (λ e. count_no _ _ c.before.if-numbers-end.true (e ∙ ap pos (omega arith)))) c.unknown-then-numbers-end.ensures,
     )
 
-slice-aggregate-stroke-at : tie.Need-slice-aggregate-stroke-at
+slice-aggregate-stroke-at : tie.Need-slice_bounds-stroke_at-end
 slice-aggregate-stroke-at c = search rules
 
-stroke-at-requires : tie.Need-stroke-at-requires
+stroke-at-requires : tie.Need-stroke_at-stroke-requires
 stroke-at-requires c κs = search rules
 
-sub-cyrus-beck : tie.Need-overflow-sub-cyrus-beck
+sub-cyrus-beck : tie.Need-slice_bounds-cyrus_beck-count
 sub-cyrus-beck c = search rules
 
-part-cyrus-beck-start : tie.Need-slice-bounds-cyrus-beck-start
+part-cyrus-beck-start : tie.Need-slice_bounds-cyrus_beck-start
 part-cyrus-beck-start c = search rules
 
-part-cyrus-beck-end : tie.Need-slice-bounds-cyrus-beck-end
+part-cyrus-beck-end : tie.Need-slice_bounds-cyrus_beck-end
 part-cyrus-beck-end c = search rules
 
-cyrus-beck-requires : tie.Need-cyrus-beck-requires
+cyrus-beck-requires : tie.Need-cyrus_beck-a-requires
 cyrus-beck-requires c κs = search rules
 
 begin-requires : tie.Need-begin-requires
 begin-requires c κs = search rules
 
-part-requires : tie.Need-part-requires
+part-requires : tie.Need-part-reply-requires
 part-requires c κs = search rules
 
 sides-requires : tie.Need-sides-requires
 sides-requires c κs = search rules
 
-returns-3 : tie.Need-returns-3
+returns-3 : tie.Need-returns
 returns-3 c =
-    let called = c.before.before.before.before.before in
-    let a = called.cyrus-beck.result in
-    let there = called.before.before.before in
-    let tested = there.before.before in
-    let read = tested.before.before.before.before in
-    let parted = after 5 (λ fs. with_part fs a.kept a.t0 a.t1) c.before.before.begin.ensures c.before.part.ensures in (
+    let a = c.cyrus_beck-a.result in
+    let parted = after 5 (λ fs. with_part fs a.kept a.t0 a.t1) c.begin.ensures c.part-reply.ensures in (
       search rules,
-      to_call _ (asks_corners _ read.read-numbers.ensures.1 (search rules) (omega arith)
-          (count_yes _ _ (search rules) (omega arith) tested.if2.false ∙ ap pos (omega arith)))
-          (tells a (rw there.stroke-at.ensures at called.cyrus-beck.ensures)
+      to_call _ (asks_corners _ c.read_numbers-n.ensures.1 (search rules) (omega arith)
+          (count_yes _ _ (search rules) (omega arith) c.if-numbers-end.false ∙ ap pos (omega arith)))
+          (tells a (rw c.stroke_at-stroke.ensures at c.cyrus_beck-a.ensures)
           (after 2 (λ fs. with_sides fs a.side0 a.side1) parted c.sides.ensures)),
     )
 

@@ -9,41 +9,41 @@ use Rattle.stroke_commands.proofs.Pairs.{not_read}
 use Rattle.stroke_commands.proofs.cs.Statement.{statement}
 use Rattle.stroke_commands.proofs.cs.Tie as tie
 
-read-pair-requires : tie.Need-read-pair-requires
+read-pair-requires : tie.Need-read_pair-pair-requires
 read-pair-requires c κs = search rules
 
 unknown-requires : tie.Need-unknown-requires
 unknown-requires c κs = search rules
 
-returns : tie.Need-returns
+returns : tie.Need-returns-then-not-pair
 returns c =
     let read = c.before.before.before in
-    (search rules, not_read read.read-pair.ensures (not-true _ c.before.if1.true) c.unknown.ensures)
+    (search rules, not_read read.read_pair-pair.ensures (not-true _ c.before.if-not-pair.true) c.unknown.ensures)
 
-cohen-sutherland-requires : tie.Need-cohen-sutherland-requires
+cohen-sutherland-requires : tie.Need-cohen_sutherland-counted-requires
 cohen-sutherland-requires c κs = search rules
 
 answered-requires : tie.Need-answered-requires
 answered-requires c κs = search rules
 
-cast-natural : tie.Need-overflow-cast-natural
+cast-natural : tie.Need-overflow_cast-counted
 cast-natural c = search rules
 
-natural-requires : tie.Need-natural-requires
+natural-requires : tie.Need-natural-reply-requires
 natural-requires c κs = search rules
 
 sides-requires : tie.Need-sides-requires
 sides-requires c κs = search rules
 
-returns-2 : tie.Need-returns-2
+returns-2 : tie.Need-returns
 returns-2 c =
     let called = c.before.before.before.before.before in
-    let a = called.cohen_sutherland.result.answer in
+    let a = called.cohen_sutherland-counted.result.answer in
     let done = called.before in (
       search rules,
-      to_call _ (done.before.before.read-pair.ensures.pair (not-false _ done.if1.false))
-          (tells called.cohen_sutherland.result called.cohen_sutherland.ensures
-          (after 2 (λ fs. with_sides fs a.side0 a.side1) (next c.before.before.before.answered.ensures c.before.natural.ensures) c.sides.ensures)),
+      to_call _ (done.before.before.read_pair-pair.ensures.pair (not-false _ done.if-not-pair.false))
+          (tells called.cohen_sutherland-counted.result called.cohen_sutherland-counted.ensures
+          (after 2 (λ fs. with_sides fs a.side0 a.side1) (next c.before.before.before.answered.ensures c.before.natural-reply.ensures) c.sides.ensures)),
     )
 
 pub cs_spec : {M : Type 1} → statement M

@@ -5,29 +5,29 @@ use Rattle.stroke_commands.proofs.Pairs.{not_read, clipped_as_read}
 use Rattle.stroke_commands.proofs.lb.Statement.{statement}
 use Rattle.stroke_commands.proofs.lb.Tie as tie
 
-read-pair-requires : tie.Need-read-pair-requires
+read-pair-requires : tie.Need-read_pair-pair-requires
 read-pair-requires c κs = search rules
 
 unknown-requires : tie.Need-unknown-requires
 unknown-requires c κs = search rules
 
-returns : tie.Need-returns
+returns : tie.Need-returns-then-not-pair
 returns c =
     let read = c.before.before.before in
-    (search rules, not_read read.read-pair.ensures (not-true _ c.before.if1.true) c.unknown.ensures)
+    (search rules, not_read read.read_pair-pair.ensures (not-true _ c.before.if-not-pair.true) c.unknown.ensures)
 
-liang-barsky-requires : tie.Need-liang-barsky-requires
+liang-barsky-requires : tie.Need-liang_barsky-requires
 liang-barsky-requires c κs = search rules
 
 clipped-requires : tie.Need-clipped-requires
 clipped-requires c κs = search rules
 
-returns-2 : tie.Need-returns-2
+returns-2 : tie.Need-returns
 returns-2 c =
     let called = c.before in
     let done = called.before in (
       search rules,
-      clipped_as_read done.before.before.read-pair.ensures (not-false _ done.if1.false) called.liang_barsky.ensures
+      clipped_as_read done.before.before.read_pair-pair.ensures (not-false _ done.if-not-pair.false) called.liang_barsky.ensures
           c.clipped.ensures,
     )
 

@@ -6,7 +6,7 @@ use Rattle.replies.proofs.Fields.{itself, counted, next_flag, next_signed}
 use Rattle.stroke_commands.proofs.part.Statement.{statement}
 use Rattle.stroke_commands.proofs.part.Tie as tie
 
-cast-natural : tie.Need-overflow-cast-natural
+cast-natural : tie.Need-overflow_cast-kept
 cast-natural c = search rules
 
 natural-requires : tie.Need-natural-requires
@@ -31,10 +31,10 @@ returns c =
     let c1 = c2.before.before in
     let c0 = c1.before.before in
     let n0 = next_flag c0.before.args.kept (itself c0.before.args.reply) c0.natural.ensures in
-    let n1 = next_signed w64 c1.before.struct_told.given.0.1 n0 c1.wide.ensures in
-    let n2 = next_signed w64 c2.before.struct-told2.given.1.0.1 n1 c2.wide2.ensures in
-    let n3 = next_signed w64 c3.before.struct-told3.given.0.1 n2 c3.wide3.ensures in
-    counted (omega arith) (next_signed w64 c.before.struct-told4.given.1.0.1 n3 c.wide4.ensures)
+    let n1 = next_signed w64 c1.before.struct_told-1.given.0.1 n0 c1.wide.ensures in
+    let n2 = next_signed w64 c2.before.struct_told-2-1.given.1.0.1 n1 c2.wide-2.ensures in
+    let n3 = next_signed w64 c3.before.struct_told-3-1.given.0.1 n2 c3.wide-3.ensures in
+    counted (omega arith) (next_signed w64 c.before.struct_told-4-1.given.1.0.1 n3 c.wide-4.ensures)
 
 pub part_spec : {M : Type 1} → statement M
 part_spec =
