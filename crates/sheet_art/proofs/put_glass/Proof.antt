@@ -6,31 +6,28 @@ use borrow.Author.Rules.{rules}
 use Rattle.sheet_art.proofs.put_glass.Statement.{statement}
 use Rattle.sheet_art.proofs.put_glass.Tie as tie
 
-table-requires : tie.Need-table-requires
+table-requires : tie.Need-table-v-requires
 table-requires c κs = search rules
 
-extent-requires : tie.Need-extent-requires
+extent-requires : tie.Need-extent-e-requires
 extent-requires c κs = search rules
 
-put-placed-requires : tie.Need-put-placed-requires
+put-placed-requires : tie.Need-put_placed-a-requires
 put-placed-requires c κs = search rules
 
-put-strip-requires : tie.Need-put-strip-requires
+put-strip-requires : tie.Need-put_strip-b-requires
 put-strip-requires c κs = search rules
 
-put-renter-requires : tie.Need-put-renter-requires
+put-renter-requires : tie.Need-put_renter-c-requires
 put-renter-requires c κs = search rules
 
-put-renter-requires-2 : tie.Need-put-renter-requires-2
+put-renter-requires-2 : tie.Need-put_renter-d-requires
 put-renter-requires-2 c κs = search rules
-
-slice-aggregate-put : tie.Need-slice-aggregate-put
-slice-aggregate-put c = search rules
 
 put-requires : tie.Need-put-requires
 put-requires c κs = search rules
 
-same_length : tie.Need-same-length
+same_length : tie.Need-shape_of-page
 same_length c = search rules
 
 returns : tie.Need-returns
@@ -43,12 +40,12 @@ returns c =
     let at₃ = at₄.before.before.before.before in
     let at₂ = at₃.before.before in
     let at₁ = at₂.before in
-    let p = at₃.put-placed.ensures in
-    let q = at₄.put-strip.ensures in
-    let r = at₅.put-renter.ensures in
-    let s = at₆.put-renter2.ensures in
+    let p = at₃.put_placed-a.ensures in
+    let q = at₄.put_strip-b.ensures in
+    let r = at₅.put_renter-c.ensures in
+    let s = at₆.put_renter-d.ensures in
     let t = at₇.put.ensures in (
-      rw (← at₁.table.ensures, ← at₂.extent.ensures.0) (put_then (put_then (put_then (put_then p.0 q.0) r.0) s.0) t),
+      rw (← at₁.table-v.ensures, ← at₂.extent-e.ensures.0) (put_then (put_then (put_then (put_then p.0 q.0) r.0) s.0) t),
       omega (arith, p.1, q.1, r.1, s.1, t.ends),
     )
 
@@ -62,7 +59,6 @@ put_glass_spec =
     put-strip-requires
     put-renter-requires
     put-renter-requires-2
-    slice-aggregate-put
     put-requires
     same_length
     returns)

@@ -6,31 +6,22 @@ use borrow.Author.Rules.{rules}
 use Rattle.sheet_art.proofs.put_head.Statement.{statement}
 use Rattle.sheet_art.proofs.put_head.Tie as tie
 
-table-requires : tie.Need-table-requires
+table-requires : tie.Need-table-v-requires
 table-requires c κs = search rules
 
-put-size-requires : tie.Need-put-size-requires
+put-size-requires : tie.Need-put_size-a-requires
 put-size-requires c κs = search rules
 
-slice-aggregate-put-labelled : tie.Need-slice-aggregate-put-labelled
-slice-aggregate-put-labelled c = search rules
-
-put-labelled-requires : tie.Need-put-labelled-requires
+put-labelled-requires : tie.Need-put_labelled-b-requires
 put-labelled-requires c κs = search rules
 
-slice-aggregate-put-labelled-2 : tie.Need-slice-aggregate-put-labelled-2
-slice-aggregate-put-labelled-2 c = search rules
-
-put-labelled-requires-2 : tie.Need-put-labelled-requires-2
+put-labelled-requires-2 : tie.Need-put_labelled-c-requires
 put-labelled-requires-2 c κs = search rules
-
-slice-aggregate-put : tie.Need-slice-aggregate-put
-slice-aggregate-put c = search rules
 
 put-requires : tie.Need-put-requires
 put-requires c κs = search rules
 
-same_length : tie.Need-same-length
+same_length : tie.Need-shape_of-page
 same_length c = search rules
 
 returns : tie.Need-returns
@@ -41,11 +32,11 @@ returns c =
     let at₃ = at₄.before.before.before.before.before in
     let at₂ = at₃.before.before.before.before.before in
     let at₁ = at₂.before.before in
-    let p = at₂.put-size.ensures in
-    let q = at₃.put-labelled.ensures in
-    let r = at₄.put-labelled2.ensures in
+    let p = at₂.put_size-a.ensures in
+    let q = at₃.put_labelled-b.ensures in
+    let r = at₄.put_labelled-c.ensures in
     let s = at₅.put.ensures in
-    (rw (← at₁.table.ensures) (put_then (put_then (put_then p.0 q.0) r.0) s), omega (arith, p.1, q.1, r.1, s.ends))
+    (rw (← at₁.table-v.ensures) (put_then (put_then (put_then p.0 q.0) r.0) s), omega (arith, p.1, q.1, r.1, s.ends))
 
 pub put_head_spec : {M : Type 1} → statement M
 put_head_spec =
@@ -53,11 +44,8 @@ put_head_spec =
     (tie.spec
     table-requires
     put-size-requires
-    slice-aggregate-put-labelled
     put-labelled-requires
-    slice-aggregate-put-labelled-2
     put-labelled-requires-2
-    slice-aggregate-put
     put-requires
     same_length
     returns)

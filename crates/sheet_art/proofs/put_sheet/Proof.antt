@@ -5,22 +5,22 @@ use borrow.Author.Rules.{rules}
 use Rattle.sheet_art.proofs.put_sheet.Statement.{statement}
 use Rattle.sheet_art.proofs.put_sheet.Tie as tie
 
-count-strips-requires : tie.Need-count-strips-requires
+count-strips-requires : tie.Need-count_strips-n-requires
 count-strips-requires c κs = search rules
 
-count-strips-requires-2 : tie.Need-count-strips-requires-2
+count-strips-requires-2 : tie.Need-count_strips-m-requires
 count-strips-requires-2 c κs = search rules
 
-put-head-requires : tie.Need-put-head-requires
+put-head-requires : tie.Need-put_head-a-requires
 put-head-requires c κs = search rules
 
-put-glass-requires : tie.Need-put-glass-requires
+put-glass-requires : tie.Need-put_glass-b-requires
 put-glass-requires c κs = search rules
 
-put-foot-requires : tie.Need-put-foot-requires
+put-foot-requires : tie.Need-put_foot-requires
 put-foot-requires c κs = search rules
 
-same_length : tie.Need-same-length
+same_length : tie.Need-shape_of-page
 same_length c = search rules
 
 returns : tie.Need-returns
@@ -31,10 +31,10 @@ returns c =
     let at₃ = at₄.before.before.before.before in
     let at₂ = at₃.before.before in
     let at₁ = at₂.before in
-    let p = at₃.put-head.ensures in
-    let q = at₄.put-glass.ensures in
-    let r = at₅.put-foot.ensures in
-    rw (← at₁.count-strips.ensures, ← at₂.count-strips2.ensures) (put_then (put_then p.0 q.0) r)
+    let p = at₃.put_head-a.ensures in
+    let q = at₄.put_glass-b.ensures in
+    let r = at₅.put_foot.ensures in
+    rw (← at₁.count_strips-n.ensures, ← at₂.count_strips-m.ensures) (put_then (put_then p.0 q.0) r)
 
 pub put_sheet_spec : {M : Type 1} → statement M
 put_sheet_spec =
