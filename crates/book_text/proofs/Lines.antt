@@ -30,7 +30,7 @@ row_starts k w h = rw (lt-ltb (k / 32) 10 (omega arith)) refl
 module _ (t : List ℕ) (i : ℕ) where
   -- ---- a line that is found, and one that is not
 
-  pub is_row : {k end : ℕ} {w : Window} → RowAt t i (Row k w end) → IsRow t i k w × (end ≡ i + length (row_text k w))
+  pub is_row : {k : ℕ} {w : Window} {end : ℕ} → RowAt t i (Row k w end) → IsRow t i k w × (end ≡ i + length (row_text k w))
   is_row (row r) = (r, refl)
 
   pub no_row : RowAt t i Nothing → (next : ℕ) (zs : List ℤ) (k : ℕ) (w : Window) → Follows t i next zs k w → ⊥

@@ -19,28 +19,24 @@ use Rattle.book_text.proofs.ends_at.Tie as tie
 part_is : (t : List ℕ) (at : ℕ) → take (at + 4 - at) (drop at t) ≡ take 4 (drop at t)
 part_is t at = let size : at + 4 - at ≡ 4 = omega arith in ap (λ (n : ℕ). take n (drop at t)) size
 
-sub-left : tie.Need-overflow-sub-left
+sub-left : tie.Need-overflow_sub-left
 sub-left c = search rules
 
-returns : tie.Need-returns
+returns : tie.Need-returns-then-left-lt-END
 returns c =
-    let s = c.before.before in
-    another (no_room s.args.text.now s.args.at (omega (arith, c.if1.true, s.requires.0)))
+    another (no_room c.args.text.now c.args.at (omega (arith, c.if-left-lt-END.true, c.requires.0)))
 
-add_same : tie.Need-overflow-add-same
+add_same : tie.Need-overflow_add-at
 add_same c = search rules
 
-sub_same : tie.Need-overflow-sub-same
+sub_same : tie.Need-slice_bounds-same-count
 sub_same c = search rules
 
-part-same-start : tie.Need-slice-bounds-same-start
+part-same-start : tie.Need-slice_bounds-same-start
 part-same-start c = search rules
 
-part-same-end : tie.Need-slice-bounds-same-end
+part-same-end : tie.Need-slice_bounds-same-end
 part-same-end c = search rules
-
-slice-aggregate-same : tie.Need-slice-aggregate-same
-slice-aggregate-same c = search rules
 
 same-requires : tie.Need-same-requires
 same-requires c κs = search rules
@@ -48,31 +44,27 @@ same-requires c κs = search rules
 -- what the comparison tells
 stands : (c : tie.After-same) → c.same.result ≡ true
     → let s = c.before.before.before.before.before in
-    StandsAt s.args.text.now s.args.at end_text
+    StandsAt c.args.text.now c.args.at end_text
 stands c e =
-    let s = c.before.before.before.before.before in
-    sym (part_is s.args.text.now s.args.at) ∙ c.same.ensures.0 e
+    sym (part_is c.args.text.now c.args.at) ∙ c.same.ensures.0 e
 
-returns-2 : tie.Need-returns-2
+returns-2 : tie.Need-returns-then-not-same
 returns-2 c =
-    let s = c.before.before.before.before.before.before in
-    let part = part_is s.args.text.now s.args.at in
-    another (λ e. ff_tt (sym (not-true _ c.if2.true) ∙ c.before.same.ensures.1 (part ∙ e)))
+    let part = part_is c.args.text.now c.args.at in
+    another (λ e. ff_tt (sym (not-true _ c.if-not-same.true-raw) ∙ c.same.ensures.1 (part ∙ e)))
 
-add-t15 : tie.Need-overflow-add-t15
+add-t15 : tie.Need-overflow_add-result
 add-t15 c = search rules
 
-returns-3 : tie.Need-returns-3
+returns-3 : tie.Need-returns-then-left-gt-END
 returns-3 c =
-    let s = c.before.before.before.before.before.before.before in
-    let found = stands c.before.before (not-false _ c.before.if2.false) in
-    goes_on found (not_last s.args.text.now s.args.at (omega (arith, c.if3.true)))
+    let found = stands c.before.before (not-false _ c.if-not-same.false-raw) in
+    goes_on found (not_last c.args.text.now c.args.at (omega (arith, c.if-left-gt-END.true)))
 
-returns-4 : tie.Need-returns-4
+returns-4 : tie.Need-returns
 returns-4 c =
-    let s = c.before.before.before.before.before.before.before in
-    let found = stands c.before.before (not-false _ c.before.if2.false) in
-    ends (is_last s.args.text.now s.args.at (omega (arith, c.if3.false, s.requires.0)) found)
+    let found = stands c.before.before (not-false _ c.if-not-same.false-raw) in
+    ends (is_last c.args.text.now c.args.at (omega (arith, c.if-left-gt-END.false, c.requires.0)) found)
 
 pub ends_at_spec : {M : Type 1} → statement M
 ends_at_spec =
@@ -84,7 +76,6 @@ ends_at_spec =
     sub_same
     part-same-start
     part-same-end
-    slice-aggregate-same
     same-requires
     returns-2
     add-t15
