@@ -4,28 +4,28 @@ use borrow.Author.Rules.{rules}
 use Rattle.batch_commands.proofs.asked.Statement.{statement}
 use Rattle.batch_commands.proofs.asked.Tie as tie
 
-slice-aggregate-listed : tie.Need-slice-aggregate-listed
+slice-aggregate-listed : tie.Need-slice_bounds-listed-end
 slice-aggregate-listed c = search rules
 
 listed-requires : tie.Need-listed-requires
 listed-requires c κs = search rules
 
-same_length : tie.Need-same-length
+same_length : tie.Need-shape_of-lent-then-rest-lt512
 same_length c = search rules
 
-returns : tie.Need-returns
-returns c = (search rules, widened (search rules) c.before.before.listed.ensures.1)
+returns : tie.Need-returns-then-rest-lt512
+returns c = (search rules, widened (search rules) c.listed.ensures.1)
 
-slice-aggregate-listed-2 : tie.Need-slice-aggregate-listed-2
+slice-aggregate-listed-2 : tie.Need-slice_bounds-listed-end-2
 slice-aggregate-listed-2 c = search rules
 
 listed-requires-2 : tie.Need-listed-requires-2
 listed-requires-2 c κs = search rules
 
-same-length-2 : tie.Need-same-length-2
+same-length-2 : tie.Need-shape_of-lent
 same-length-2 c = search rules
 
-returns-2 : tie.Need-returns-2
+returns-2 : tie.Need-returns
 returns-2 c = search rules
 
 pub asked_spec : {M : Type 1} → statement M

@@ -9,7 +9,7 @@ use Rattle.batch_commands.proofs.cut.Tie as tie
 prepare-requires : tie.Need-prepare-requires
 prepare-requires c κs = search rules
 
-batch-with-touches-requires : tie.Need-batch-with-touches-requires
+batch-with-touches-requires : tie.Need-batch_with_touches-a-requires
 batch-with-touches-requires c κs = search rules
 
 begin-requires : tie.Need-begin-requires
@@ -18,25 +18,24 @@ begin-requires c κs = search rules
 natural-requires : tie.Need-natural-requires
 natural-requires c κs = search rules
 
-same_length : tie.Need-same-length
+same_length : tie.Need-shape_of-lent-then-touches
 same_length c = search rules
 
-returns : tie.Need-returns
+returns : tie.Need-returns-then-touches
 returns c =
-    let called = c.before.before.before in
     let prepared = c.before.before.before.before.before.before.before in
-    let s = next c.before.begin.ensures c.natural.ensures in (
+    let s = next c.begin.ensures c.natural.ensures in (
       omega (arith, s.count),
-      tells called.batch-with-touches.result
+      tells c.batch_with_touches-a.result
           (record {
-            before = prepared.prepare.new.0;
+            before = prepared.prepare.new.lent;
             same = search rules;
             prepared = prepared.prepare.ensures;
-            call = rw c.before.before.before.before.before.if1.true called.batch-with-touches.ensures;
+            call = rw c.if-touches.true c.batch_with_touches-a.ensures;
           }) s,
     )
 
-batch-requires : tie.Need-batch-requires
+batch-requires : tie.Need-batch-a-requires
 batch-requires c κs = search rules
 
 begin-requires-2 : tie.Need-begin-requires-2
@@ -45,21 +44,20 @@ begin-requires-2 c κs = search rules
 natural-requires-2 : tie.Need-natural-requires-2
 natural-requires-2 c κs = search rules
 
-same-length-2 : tie.Need-same-length-2
+same-length-2 : tie.Need-shape_of-lent
 same-length-2 c = search rules
 
-returns-2 : tie.Need-returns-2
+returns-2 : tie.Need-returns
 returns-2 c =
-    let called = c.before.before.before in
     let prepared = c.before.before.before.before.before.before.before in
-    let s = next c.before.begin2.ensures c.natural2.ensures in (
+    let s = next c.begin-2.ensures c.natural-2.ensures in (
       omega (arith, s.count),
-      tells called.batch.result
+      tells c.batch-a.result
           (record {
-            before = prepared.prepare.new.0;
+            before = prepared.prepare.new.lent;
             same = search rules;
             prepared = prepared.prepare.ensures;
-            call = rw c.before.before.before.before.before.if1.false called.batch.ensures;
+            call = rw c.if-touches.false c.batch-a.ensures;
           }) s,
     )
 
