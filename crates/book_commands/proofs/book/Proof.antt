@@ -8,7 +8,7 @@ use borrow.Author.Rules.{rules}
 use Rattle.book_commands.proofs.book.Statement.{statement}
 use Rattle.book_commands.proofs.book.Tie as tie
 
-book-strip-requires : tie.Need-book-strip-requires
+book-strip-requires : tie.Need-book_strip-a-requires
 book-strip-requires c κs = search rules
 
 begin-requires : tie.Need-begin-requires
@@ -17,15 +17,14 @@ begin-requires c κs = search rules
 integer-requires : tie.Need-integer-requires
 integer-requires c κs = search rules
 
-same_length : tie.Need-same-length
+same_length : tie.Need-shape_of-table
 same_length c = search rules
 
 returns : tie.Need-returns
 returns c =
-    let called = c.before.before.before.before in
-    let renter = to_z-of_z called.before.before.ranges.renter in
-    let s = next_signed {z = called.book-strip.result.slot} w32 (search rules) c.before.before.begin.ensures c.integer.ensures in
-    (omega (arith, s.count), tells called.book-strip.result (rw renter at called.book-strip.ensures) s)
+    let renter = to_z-of_z c.ranges.renter in
+    let s = next_signed {z = c.book_strip-a.result.slot} w32 (search rules) c.begin.ensures c.integer.ensures in
+    (omega (arith, s.count), tells c.book_strip-a.result (rw renter at c.book_strip-a.ensures) s)
 
 pub book_spec : {M : Type 1} → statement M
 book_spec =

@@ -6,22 +6,21 @@ use borrow.Author.Rules.{rules}
 use Rattle.book_commands.proofs.free.Statement.{statement}
 use Rattle.book_commands.proofs.free.Tie as tie
 
-release-slot-requires : tie.Need-release-slot-requires
+release-slot-requires : tie.Need-release_slot-a-requires
 release-slot-requires c κs = search rules
 
 begin-requires : tie.Need-begin-requires
 begin-requires c κs = search rules
 
-same_length : tie.Need-same-length
+same_length : tie.Need-shape_of-table
 same_length c = search rules
 
 returns : tie.Need-returns
 returns c =
-    let called = c.before.before in
-    let fits = called.before.before.ranges in
+    let fits = c.ranges in
     let s = c.begin.ensures in (
       omega (arith, s.count),
-      tells called.release-slot.result (rw (to_z-of_z fits.renter, to_z-of_z fits.slot) at called.release-slot.ensures) s,
+      tells c.release_slot-a.result (rw (to_z-of_z fits.renter, to_z-of_z fits.slot) at c.release_slot-a.ensures) s,
     )
 
 pub free_spec : {M : Type 1} → statement M

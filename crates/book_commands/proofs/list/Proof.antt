@@ -10,7 +10,7 @@ use Rattle.book_commands.proofs.list.Tie as tie
 prepare-requires : tie.Need-prepare-requires
 prepare-requires c κs = search rules
 
-list-strips-requires : tie.Need-list-strips-requires
+list-strips-requires : tie.Need-list_strips-a-requires
 list-strips-requires c κs = search rules
 
 begin-requires : tie.Need-begin-requires
@@ -19,22 +19,21 @@ begin-requires c κs = search rules
 natural-requires : tie.Need-natural-requires
 natural-requires c κs = search rules
 
-same_length : tie.Need-same-length
+same_length : tie.Need-shape_of-lent
 same_length c = search rules
 
 returns : tie.Need-returns
 returns c =
-    let called = c.before.before.before in
-    let prepared = called.before.before.before in
-    let renter = to_z-of_z prepared.before.before.ranges.renter in
-    let s = next c.before.begin.ensures c.natural.ensures in (
+    let prepared = c.before.before.before in
+    let renter = to_z-of_z prepared.ranges.renter in
+    let s = next c.begin.ensures c.natural.ensures in (
       omega (arith, s.count),
-      tells called.list-strips.result
+      tells c.list_strips-a.result
           (record {
-            before = prepared.prepare.new.0;
+            before = prepared.prepare.new.lent;
             same = search rules;
             prepared = prepared.prepare.ensures;
-            call = rw renter at called.list-strips.ensures;
+            call = rw renter at c.list_strips-a.ensures;
           }) s,
     )
 

@@ -15,45 +15,45 @@ use borrow.Author.Rules.{rules}
 use Rattle.book_commands.proofs.release.Statement.{statement}
 use Rattle.book_commands.proofs.release.Tie as tie
 
-read-table-requires : tie.Need-read-table-requires
+read-table-requires : tie.Need-read_table-m-requires
 read-table-requires c κs = search rules
 
 unknown-requires : tie.Need-unknown-requires
 unknown-requires c κs = search rules
 
-same_length : tie.Need-same-length
+same_length : tie.Need-shape_of-lent-then-m-gt-MOST_TABLE
 same_length c = search rules
 
-returns : tie.Need-returns
+returns : tie.Need-returns-then-m-gt-MOST_TABLE
 returns c =
-    let read = c.before.before.before.read_table in (
+    let read = c.read_table-m in (
       search rules,
-      no_call (λ x a. read.ensures.no_table c.before.if1.true x.table (x.renter ∷ x.slot ∷ []) refl a)
+      no_call (λ x a. read.ensures.no_table c.if-m-gt-MOST_TABLE.true x.table (x.renter ∷ x.slot ∷ []) refl a)
           c.unknown.ensures,
     )
 
-mul-renter : tie.Need-overflow-mul-renter
+mul-renter : tie.Need-offset_bounds-lent-m
 mul-renter c = search rules
 
-slice-copy-out-renter : tie.Need-slice-copy-out-renter
+slice-copy-out-renter : tie.Need-slice_copy_out-renter
 slice-copy-out-renter c = search rules
 
-add-slot : tie.Need-overflow-add-slot
+add-slot : tie.Need-overflow_add-slot
 add-slot c = search rules
 
-mul-slot : tie.Need-overflow-mul-slot
+mul-slot : tie.Need-offset_bounds-lent-m-2
 mul-slot c = search rules
 
-slice-copy-out-slot : tie.Need-slice-copy-out-slot
+slice-copy-out-slot : tie.Need-slice_copy_out-slot
 slice-copy-out-slot c = search rules
 
-sub-free : tie.Need-overflow-sub-free
+sub-free : tie.Need-slice_bounds-free-count
 sub-free c = search rules
 
-part-free-start : tie.Need-slice-bounds-free-start
+part-free-start : tie.Need-slice_bounds-free-start
 part-free-start c = search rules
 
-part-free-end : tie.Need-slice-bounds-free-end
+part-free-end : tie.Need-slice_bounds-free-end
 part-free-end c = search rules
 
 free-requires : tie.Need-free-requires
@@ -62,26 +62,22 @@ free-requires c κs = search rules
 lent-requires : tie.Need-lent-requires
 lent-requires c κs = search rules
 
-same-length-2 : tie.Need-same-length-2
+same-length-2 : tie.Need-shape_of-lent
 same-length-2 c = search rules
 
-returns-2 : tie.Need-returns-2
+returns-2 : tie.Need-returns
 returns-2 c =
-    let called = c.before.before in
-    let copied = called.before.before in
-    let reading = copied.before.before.before.before in
-    let read = reading.read_table in
-    let start = reading.before.before.before in
+    let read = c.read_table-m in
     let m = read.result in
-    let out = read.new.1.1.0 in
-    let h = copied.before.before.if1.false in
-    let room : 40960 ≤ length out = omega (arith, read.auto.1.1.0, start.requires) in
-    let renter = back w32 (get_or out m (pos 0)) copied.before.renter.given in
-    let slot = back w32 (get_or out (m + 1) (pos 0)) copied.slot.given in (
+    let out = read.new.lent in
+    let h = c.if-m-gt-MOST_TABLE.false in
+    let room : 40960 ≤ length out = omega (arith, read.auto.lent, c.requires) in
+    let renter = back w32 (get_or out m (pos 0)) c.renter-1.given in
+    let slot = back w32 (get_or out (m + 1) (pos 0)) c.slot-1.given in (
       search rules,
       to_call _ (asks_release read.ensures h (omega arith))
-          (with_table (ReleaseSlot _ _) out called.free.new.0 _ (omega arith) called.free.auto.0
-          (rw (renter, slot) at called.free.ensures.1) c.lent3.ensures),
+          (with_table (ReleaseSlot _ _) out c.free.new.table _ (omega arith) c.free.auto.table
+          (rw (renter, slot) at c.free.ensures.1) c.lent.ensures),
     )
 
 pub release_spec : {M : Type 1} → statement M

@@ -19,90 +19,90 @@ use borrow.Author.Rules.{rules}
 use Rattle.book_commands.proofs.strips.Statement.{statement}
 use Rattle.book_commands.proofs.strips.Tie as tie
 
-abbrev text_of : tie.After-read-room → List ℕ
-text_of c = c.before.before.before.before.args.rest.now
+abbrev text_of : tie.After-read_room-room → List ℕ
+text_of c = c.args.rest.now
 
-room : (c : tie.After-read-room) → c.read-room.result ≡ as_room (unsigned most_room (numeral (first_word (text_of c))))
-room c = room_read (text_of c) c.before.before.first-end.ensures.1 c.read-room.ensures
+room : (c : tie.After-read_room-room) → c.read_room-room.result ≡ as_room (unsigned most_room (numeral (first_word (text_of c))))
+room c = room_read (text_of c) c.first_end-first.ensures.1 c.read_room-room.ensures
 
-table : (c : tie.After-read-table) → ReadTable 1 (behind_first (text_of c.before.before.before.before))
-    c.read_table.new.1.1.0 c.read_table.result
+table : (c : tie.After-read_table-m) → ReadTable 1 (behind_first c.args.rest.now)
+    c.read_table-m.new.lent c.read_table-m.result
 table c =
-    let lent = c.before.before.before.before in
-    let first = lent.before.before.first-end in
-    rw (rest_of first.result (text_of lent), first.ensures.1) at c.read_table.ensures
+    let first = c.first_end-first in
+    let text = c.args.rest.now in
+    rw (rest_of first.result text, first.ensures.1) at c.read_table-m.ensures
 
-first-end-requires : tie.Need-first-end-requires
+first-end-requires : tie.Need-first_end-first-requires
 first-end-requires c κs = search rules
 
-sub-read-room : tie.Need-overflow-sub-read-room
+sub-read-room : tie.Need-slice_bounds-read_room-count
 sub-read-room c = search rules
 
-part-read-room-start : tie.Need-slice-bounds-read-room-start
+part-read-room-start : tie.Need-slice_bounds-read_room-start
 part-read-room-start c = search rules
 
-part-read-room-end : tie.Need-slice-bounds-read-room-end
+part-read-room-end : tie.Need-slice_bounds-read_room-end
 part-read-room-end c = search rules
 
-read-room-requires : tie.Need-read-room-requires
+read-room-requires : tie.Need-read_room-room-requires
 read-room-requires c κs = search rules
 
 unknown-requires : tie.Need-unknown-requires
 unknown-requires c κs = search rules
 
-returns : tie.Need-returns
+returns : tie.Need-returns-then-room-gt-MOST_ROOM
 returns c = (
   search rules,
-  no_call (λ x a. no_room (text_of c.before.before) (room c.before.before) c.before.if1.true a.room) c.unknown.ensures,
+  no_call (λ x a. no_room (text_of c.before.before) (room c.before.before) c.if-room-gt-MOST_ROOM.true a.room) c.unknown.ensures,
 )
 
-sub-read-table : tie.Need-overflow-sub-read-table
+sub-read-table : tie.Need-slice_bounds-read_table-count
 sub-read-table c = search rules
 
-part-read-table-start : tie.Need-slice-bounds-read-table-start
+part-read-table-start : tie.Need-slice_bounds-read_table-start
 part-read-table-start c = search rules
 
-part-read-table-end : tie.Need-slice-bounds-read-table-end
+part-read-table-end : tie.Need-slice_bounds-read_table-end
 part-read-table-end c = search rules
 
-slice-aggregate-read-table : tie.Need-slice-aggregate-read-table
+slice-aggregate-read-table : tie.Need-slice_bounds-read_table-end-2
 slice-aggregate-read-table c = search rules
 
-read-table-requires : tie.Need-read-table-requires
+read-table-requires : tie.Need-read_table-m-requires
 read-table-requires c κs = search rules
 
-unknown-requires-2 : tie.Need-unknown-requires-2
+unknown-requires-2 : tie.Need-unknown-requires-then-m-gt-MOST_TABLE
 unknown-requires-2 c κs = search rules
 
-returns-2 : tie.Need-returns-2
+returns-2 : tie.Need-returns-then-m-gt-MOST_TABLE
 returns-2 c =
     let read = c.before.before.before in (
       search rules,
-      no_call (λ x a. (table read).no_table c.before.if2.true x.table (x.renter ∷ []) refl a.table) c.unknown2.ensures,
+      no_call (λ x a. (table read).no_table c.if-m-gt-MOST_TABLE.true x.table (x.renter ∷ []) refl a.table) c.unknown-then-m-gt-MOST_TABLE.ensures,
     )
 
-mul-renter : tie.Need-overflow-mul-renter
+mul-renter : tie.Need-offset_bounds-numbers-m
 mul-renter c = search rules
 
-array-copy-out-renter : tie.Need-array-copy-out-renter
+array-copy-out-renter : tie.Need-bounds-numbers-m
 array-copy-out-renter c = search rules
 
-sub-list : tie.Need-overflow-sub-list
+sub-list : tie.Need-slice_bounds-list-count
 sub-list c = search rules
 
-part-list-start : tie.Need-slice-bounds-list-start
+part-list-start : tie.Need-slice_bounds-list-start
 part-list-start c = search rules
 
-part-list-end : tie.Need-slice-bounds-list-end
+part-list-end : tie.Need-slice_bounds-list-end
 part-list-end c = search rules
 
-sub-list-2 : tie.Need-overflow-sub-list-2
+sub-list-2 : tie.Need-slice_bounds-list-count-2
 sub-list-2 c = search rules
 
-part-list-start-2 : tie.Need-slice-bounds-list-start-2
+part-list-start-2 : tie.Need-slice_bounds-list-start-2
 part-list-start-2 c = search rules
 
-part-list-end-2 : tie.Need-slice-bounds-list-end-2
+part-list-end-2 : tie.Need-slice_bounds-list-end-2
 part-list-end-2 c = search rules
 
 list-requires : tie.Need-list-requires
@@ -111,32 +111,29 @@ list-requires c κs = search rules
 lent-requires : tie.Need-lent-requires
 lent-requires c κs = search rules
 
-same_length : tie.Need-same-length
+same_length : tie.Need-shape_of-lent
 same_length c = search rules
 
-returns-3 : tie.Need-returns-3
+returns-3 : tie.Need-returns
 returns-3 c =
-    let called = c.before.before in
-    let copied = called.before.before.before.before in
-    let read = copied.before.before.before in
+    let read = c.before.before.before.before.before.before.before.before in
     let lent = read.before.before.before.before in
-    let start = lent.before.before.before.before in
-    let small = read.before.before.before.if1.false in
-    let m = read.read_table.result in
-    let h = copied.before.if2.false in
-    let out = read.read_table.new.1.1.0 in
+    let small = read.if-room-gt-MOST_ROOM.false in
+    let m = read.read_table-m.result in
+    let h = c.if-m-gt-MOST_TABLE.false in
+    let out = read.read_table-m.new.lent in
     let all : m - 0 ≡ m = omega arith in
-    let renter = back w32 (get_or out m (pos 0)) copied.renter.given in
-    let long : length called.list.new.1.1.0 ≡ lent.read-room.result =
-    called.list.auto.1.1.0 ∙ part_length lent.read-room.result start.args.lent.now
-    (omega (arith, small, start.requires)) in (
+    let renter = back w32 (get_or out m (pos 0)) c.renter-1.given in
+    let long : length c.list.new.lent ≡ lent.read_room-room.result =
+    c.list.auto.lent ∙ part_length lent.read_room-room.result lent.args.lent.now
+    (omega (arith, small, lent.requires)) in (
       search rules,
       to_call _
           (record {
             room = asks_room (text_of lent) (room lent) small;
-            table = asks_renter (table read) h (omega (arith, h, read.read_table.auto.1.1.0));
+            table = asks_renter (table read) h (omega (arith, h, read.read_table-m.auto.lent));
           })
-          (with_lent (λ a h. lent_front _ _ long (rw (all, renter) at h)) called.list.ensures.1 c.lent2.ensures),
+          (with_lent (λ a h. lent_front _ _ long (rw (all, renter) at h)) c.list.ensures.1 c.lent.ensures),
     )
 
 pub strips_spec : {M : Type 1} → statement M
