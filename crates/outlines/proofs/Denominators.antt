@@ -3,7 +3,7 @@
 use mathlib.Core.Path.{subst}
 use mathlib.Core.List.{List, [], ◌∷◌}
 use mathlib.Core.Option.{Option, none, some}
-use Prim.Native.Nat.{suc, ◌<◌, ◌≤◌}
+use Prim.Native.Nat.{suc, ◌≤◌}
 use native.Mathlib.Omega.{arith}
 use lib.IntN.{ℤ, pos}
 use lib.ListN.{length}
@@ -35,7 +35,7 @@ use Rattle.passes.specs.Orders.{lines_in}
 use Rattle.passes.proofs.Orders.{lines_arranged}
 use Rattle.writing.specs.Numbers.{RingNumbers, no_corner, corner}
 use Rattle.outlines.specs.Outlines.{OutlineGives, SmallDenominators, no_fraction, fraction}
-use Rattle.writing.proofs.Numbers.{lowest_same, numbers_of}
+use Rattle.writing.proofs.Numbers.{lowest_same, numbers_of_lem}
 use Rattle.outlines.proofs.Unique.{gives_unique}
 use Rattle.outlines.proofs.Passes.{lines_real, ring_gives, none_gives}
 use Rattle.outlines.proofs.Traces.{Traced, cuts_traced}
@@ -158,5 +158,5 @@ small_given {w} {zs} {xs} on g p = let c = some_result (lines_in 0 w) (corners_o
     go (some s) (started c t st) =
         let traced = all_order (lines_arranged 0 w (omega arith)) (sides_traced w.left w.bottom w.right w.top) in
         let fine = turned_all t (all_fine (cuts_traced Along Fine traced (outline_along zs on g) c)) in
-        let numbers = numbers_of (all_map (λ v f. f.proper) fine) in
+        let numbers = numbers_of_lem (all_map (λ v f. f.proper) fine) in
         subst SmallDenominators (gives_unique (ring_gives {o = 0} w (omega arith) zs g c t st numbers) p) (small_numbers fine numbers)

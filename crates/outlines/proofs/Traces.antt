@@ -1,5 +1,5 @@
 -- What holds of every edge is kept by a cut: each new edge is part of an old one, or joins two corners on the line of the cut.
-use mathlib.Core.Path.{sym, subst}
+use mathlib.Core.Path.{◌≡◌, refl, sym, subst}
 use mathlib.Core.List.{List, [], ◌∷◌, ◌++◌, append-nil}
 use mathlib.Core.Logic.{◌⊎◌, inl, inr}
 use mathlib.Core.Option.{some}
@@ -99,23 +99,23 @@ module _ (R : Point → Point → Type 0) (Q : Point → Type 0) where
     pass_leaves (step r w) (goes_on k d p) = further r k d (pass_leaves w p)
 
     -- ---- all round
-    back_in : {a z : Point} {xs : List Point} → In h z → Led z a xs → Walk R a xs z
+    back_in : {z a : Point} {xs : List Point} → In h z → Led z a xs → Walk R a xs z
     back_in i (arrives j r) = last r
     back_in i (halts o s) = clash_ℤ o i
     back_in i (on_to r l) = step r (back_in i l)
 
-    back_on : {a b z : Point} {xs : List Point} → Out h z → Stop b → Led z a xs → Walk R a xs b
+    back_on : {z b a : Point} {xs : List Point} → Out h z → Stop b → Led z a xs → Walk R a xs b
     back_on o e (arrives i r) = clash_ℤ o i
-    back_on {a} {b} o e (halts k s) = last (t.runs a b s.is e.is s.on e.on)
+    back_on {b = b} {a = a} o e (halts k s) = last (t.runs a b s.is e.is s.on e.on)
     back_on o e (on_to r l) = step r (back_on o e l)
 
     pub cut_traced : {r s : List Point} → Edges R r → CutBy h r s → Edges R s
     cut_traced nothing empty = nothing
     cut_traced {s} (closed w) (round {v} p) = go (in_out h v) (pass_leaves w p)
       where
-        from_in : {s : List Point} → In h v → Inside v v s → Edges R s
-        from_in i at_end = nothing
-        from_in i (kept l) = closed (back_in i l)
+        from_in : {u : Point} {s : List Point} → u ≡ v → In h v → Inside v u s → Edges R s
+        from_in e i at_end = nothing
+        from_in {u} e i (kept {xs = xs} l) = closed (subst (λ (z : Point). Walk R u xs z) (sym e) (back_in i l))
 
         from_out : {s : List Point} → Out h v → Outside v s → Edges R s
         from_out o (stays_out k) = nothing
@@ -123,7 +123,7 @@ module _ (R : Point → Point → Type 0) (Q : Point → Type 0) where
         from_out o (comes_in e l) = closed (back_on o e l)
 
         go : In h v ⊎ Out h v → Leaves v v s → Edges R s
-        go (inl i) k = from_in i (k.0 i)
+        go (inl i) k = from_in refl i (k.0 i)
         go (inr o) k = from_out o (k.1 o)
 
   pub cuts_traced : {hs : List Line} {r s : List Point} → All Traced hs → Edges R r → Cuts hs r (some s) → Edges R s

@@ -21,7 +21,7 @@ const MOST_CORNERS: usize = 64;
 // What the call returns: number and place of a refusal, or how many numbers it wrote; and how many corners each pass left, in the order
 // given, all 0 where there is no area.
 #[repr(C)]
-#[derive(Drop)]
+#[derive(Clone, Copy)]
 pub struct OutlineAnswer {
     pub number: u8,
     pub place: usize,
@@ -111,7 +111,7 @@ fn given(need: usize, passes: [u8; 4], room: usize) -> OutlineAnswer
 }
 
 // How many numbers a ring has, and how many corners each pass left.
-#[derive(Drop)]
+#[derive(Clone, Copy)]
 struct Counts {
     numbers: usize,
     passes: [u8; 4],

@@ -14,55 +14,55 @@ use Rattle.outlines.proofs.refusal.Statement.{statement}
 use Rattle.outlines.proofs.refusal.Tie as tie
 
 -- the window is not refused: then the others decide
-good_window : (c : tie.Else1) → (window_refusal c.before.before.before.args.w).number ≡ 0
-good_window c = ap (λ (r : Refusal). r.number) (sym c.before.before.window-refusal.ensures) ∙ c.if1.false
+good_window : (c : tie.Else-first-ne0) → (window_refusal c.before.before.before.args.w).number ≡ 0
+good_window c = ap (λ (r : Refusal). r.number) (sym c.before.before.window_refusal-first.ensures) ∙ c.if-first-ne0.false
 
-past_window : (c : tie.Else1) {r : Refusal} → let a = c.before.before.before.args in let zs = a.outline.now in
+past_window : (c : tie.Else-first-ne0) {r : Refusal} → let a = c.before.before.before.args in let zs = a.outline.now in
     r ≡ first (bad_order a.order ∷ count_refusal most_corners wrong_length zs ∷ off_table number_off zs ∷ convex_refusal not_convex zs ∷ [])
     → r ≡ outline_refusal a.w a.order zs
 unfolding outline_refusal
 past_window c h = h ∙ sym (goes_on _ _ (good_window c))
 
-window-refusal-requires : tie.Need-window-refusal-requires
+window-refusal-requires : tie.Need-window_refusal-first-requires
 window-refusal-requires c κs = search rules
 
-returns : tie.Need-returns
+returns : tie.Need-returns-then-first-ne0
 unfolding outline_refusal
 returns c =
-    let e = c.before.before.window-refusal.ensures in
-    e ∙ sym (stops _ _ (subst (λ (r : Refusal). r.number ≡ 0 → ⊥) e c.if1.true))
+    let e = c.before.before.window_refusal-first.ensures in
+    e ∙ sym (stops _ _ (subst (λ (r : Refusal). r.number ≡ 0 → ⊥) e c.if-first-ne0.true))
 
-returns-2 : tie.Need-returns-2
+returns-2 : tie.Need-returns-then-order-gt23
 unfolding first bad_order
-returns-2 c = past_window c.before (simp (lt-leb _ _ c.if2.true))
+returns-2 c = past_window c.before (simp (lt-leb _ _ c.if-order-gt23.true))
 
-right-count-requires : tie.Need-right-count-requires
+right-count-requires : tie.Need-right_count-requires
 right-count-requires c κs = omega arith
 
-returns-3 : tie.Need-returns-3
+returns-3 : tie.Need-returns-then-not-right_count
 unfolding first bad_order count_refusal
 returns-3 c =
     let b = c.before.before in
-    past_window b.before (simp (le-leb _ _ b.if2.false, sym c.before.right-count.ensures ∙ not-true _ c.if3.true))
+    past_window b.before (simp (le-leb _ _ b.if-order-gt23.false, sym c.before.right_count.ensures ∙ not-true _ c.if-not-right_count.true-raw))
 
-first-off-requires : tie.Need-first-off-requires
+first-off-requires : tie.Need-first_off-off-requires
 first-off-requires c κs = search rules
 
-returns-4 : tie.Need-returns-4
+returns-4 : tie.Need-returns-then-off-outline
 unfolding first bad_order count_refusal off_table
 returns-4 c =
     let f = c.before.before in
     let b = f.before.before in
     past_window b.before
-    (simp (le-leb _ _ b.if2.false, sym f.before.right-count.ensures ∙ not-false _ f.if3.false, ← c.before.first_off.ensures, lt-ltb _ _ c.if4.true))
+    (simp (le-leb _ _ b.if-order-gt23.false, sym f.before.right_count.ensures ∙ not-false _ f.if-not-right_count.false-raw, ← c.before.first_off-off.ensures, lt-ltb _ _ c.if-off-outline.true))
 
-returns-5 : tie.Need-returns-5
+returns-5 : tie.Need-returns
 returns-5 c =
     let f = c.before.before in
     let b = f.before.before in
     let s = b.before.before.before.before in
-    sym (not_convex_lem _ _ _ (good_window b.before) (omega (arith, b.if2.false)) (sym f.before.right-count.ensures ∙ not-false _ f.if3.false)
-    (omega (arith, c.before.first_off.ensures, c.if4.false)) s.requires)
+    sym (not_convex_lem _ _ _ (good_window b.before) (omega (arith, b.if-order-gt23.false)) (sym f.before.right_count.ensures ∙ not-false _ f.if-not-right_count.false-raw)
+    (omega (arith, c.before.first_off-off.ensures, c.if-off-outline.false)) s.requires)
 
 pub refusal_spec : {M : Type 1} → statement M
 refusal_spec =
