@@ -20,9 +20,7 @@ use Rattle.pen_line.proofs.Unique.{number_or_not}
 use Rattle.orders.specs.Orders.{place_after, Over, IsWhole, IsLength, nearest}
 use Rattle.orders.specs.Workers.{WholeFrom, LengthFrom}
 use Rattle.orders.specs.declared.Whole.{Whole}
-use Rattle.orders.specs.declared.Whole.TheVariants as Whole
 use Rattle.orders.specs.declared.Length.{Length}
-use Rattle.orders.specs.declared.Length.TheVariants as Length
 
 -- ---- the word from s to e, which is the next from i on
 

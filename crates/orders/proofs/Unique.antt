@@ -14,7 +14,6 @@ use Rattle.orders.specs.Orders.{Orders, blank, unknown, book, no_book, release, 
 use Rattle.orders.specs.Laws.{OneOrder}
 use Rattle.orders.specs.declared.Fault.TheVariants as Fault
 use Rattle.orders.specs.declared.Order.{Order}
-use Rattle.orders.specs.declared.Order.TheVariants as Order
 
 -- ---- a word is one number
 

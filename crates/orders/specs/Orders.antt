@@ -21,7 +21,6 @@ use Rattle.intake.specs.declared.WindowMm.{WindowMm}
 use Rattle.pen_line.specs.Lines.{start_of, end_of, word}
 use Rattle.orders.specs.declared.Fault.TheVariants as Fault
 use Rattle.orders.specs.declared.Order.{Order}
-use Rattle.orders.specs.declared.Order.TheVariants as Order
 
 -- ---- words
 

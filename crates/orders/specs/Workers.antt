@@ -9,11 +9,8 @@ use Rattle.text.specs.Pages.{ascii}
 use Rattle.pen_line.specs.Lines.{end_of, word}
 use Rattle.orders.specs.Orders.{place_after, word_after, IsWhole, IsLength, Unknown}
 use Rattle.orders.specs.declared.Command.{Command}
-use Rattle.orders.specs.declared.Command.TheVariants as Command
 use Rattle.orders.specs.declared.Whole.{Whole}
-use Rattle.orders.specs.declared.Whole.TheVariants as Whole
 use Rattle.orders.specs.declared.Length.{Length}
-use Rattle.orders.specs.declared.Length.TheVariants as Length
 
 pub record Begins (l w : List ℕ) (i : ℕ) : Type 0 where
   pub says : word_after l 0 ≡ w

@@ -12,7 +12,7 @@ use intake::WindowMm;
 use words::Integer;
 
 // Whose words are wrong: a line's first word, or those after a command.
-#[derive(Drop)]
+#[derive(Clone, Copy)]
 pub enum Fault {
     Word,
     Book,
@@ -22,7 +22,7 @@ pub enum Fault {
 }
 
 // What a line orders. Book has the renter and the strip, Release the renter and the slot, Strips the renter.
-#[derive(Drop)]
+#[derive(Clone, Copy)]
 pub enum Order {
     Blank,
     Book(i32, WindowMm),
@@ -33,7 +33,7 @@ pub enum Order {
 }
 
 // The command that a word is.
-#[derive(Drop)]
+#[derive(Clone, Copy)]
 enum Command {
     Book,
     Release,
@@ -43,14 +43,14 @@ enum Command {
 }
 
 // A word as a whole number, and where it ends.
-#[derive(Drop)]
+#[derive(Clone, Copy)]
 enum Whole {
     Bad,
     Is(i32, usize),
 }
 
 // A word as a number of millimetres, and where it ends.
-#[derive(Drop)]
+#[derive(Clone, Copy)]
 enum Length {
     Bad,
     Is(f32, usize),

@@ -6,46 +6,41 @@ use borrow.Author.Rules.{rules}
 use Rattle.orders.proofs.length_from.Statement.{statement}
 use Rattle.orders.proofs.length_from.Tie as tie
 
-skip-requires : tie.Need-skip-requires
+skip-requires : tie.Need-skip-start-requires
 skip-requires c κs = search rules
 
-find-requires : tie.Need-find-requires
+find-requires : tie.Need-find-end-requires
 find-requires c κs = search rules
 
-sub_read : tie.Need-overflow-sub-read
+sub_read : tie.Need-slice_bounds-read-count
 sub_read c = search rules
 
-part-read-start : tie.Need-slice-bounds-read-start
+part-read-start : tie.Need-slice_bounds-read-start
 part-read-start c = search rules
 
-part-read-end : tie.Need-slice-bounds-read-end
+part-read-end : tie.Need-slice_bounds-read-end
 part-read-end c = search rules
 
 read-requires : tie.Need-read-requires
 read-requires c κs = search rules
 
-enum-known-bits : tie.Need-enum-known-bits
+enum-known-bits : tie.Need-enum_known-bits
 enum-known-bits c = search rules
 
-from-bits-requires : tie.Need-from-bits-requires
+from-bits-requires : tie.Need-from_bits-requires
 from-bits-requires c κs = search rules
 
-enum_told : tie.Need-enum-told
+enum_told : tie.Need-enum_told-1
 enum_told c = search rules
 
-returns : tie.Need-returns
+returns : tie.Need-returns-in-Number
 returns c =
-    let b = c.before.before in
-    let r = b.before.before in
-    let f = r.before.before in
-    length_is _ _ f.before.skip.ensures.0 f.find.ensures.0 f.find.ensures.1
-    (subst (Reads _) b.bits.given.1 r.read.ensures) c.from-bits.ensures
+    length_is _ _ c.skip-start.ensures.0 c.find-end.ensures.0 c.find-end.ensures.1
+    (subst (Reads _) c.in-Number.is c.read.ensures) c.from_bits.ensures
 
-returns-2 : tie.Need-returns-2
+returns-2 : tie.Need-returns-in-Nothing
 returns-2 c =
-    let r = c.before.before in
-    let f = r.before.before in
-    length_bad _ _ f.before.skip.ensures.0 f.find.ensures.0 (subst (Reads _) c.enum_told.given.1 r.read.ensures)
+    length_bad _ _ c.skip-start.ensures.0 c.find-end.ensures.0 (subst (Reads _) c.in-Nothing.is c.read.ensures)
 
 pub length_from_spec : {M : Type 1} → statement M
 length_from_spec =

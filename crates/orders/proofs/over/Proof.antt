@@ -11,7 +11,7 @@ skip-requires : tie.Need-skip-requires
 skip-requires c κs = search rules
 
 returns : tie.Need-returns
-returns c = ap (λ (x : ℕ). eqb x (length c.before.before.args.line.now)) c.skip.ensures.0
+returns c = ap (λ (x : ℕ). eqb x (length c.args.line.now)) c.skip.ensures.0
 
 pub over_spec : {M : Type 1} → statement M
 over_spec = tie.close (tie.spec skip-requires returns)

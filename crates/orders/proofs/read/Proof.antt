@@ -8,19 +8,19 @@ use borrow.Author.Rules.{rules}
 use Rattle.orders.proofs.read.Statement.{statement}
 use Rattle.orders.proofs.read.Tie as tie
 
-words-end-requires : tie.Need-words-end-requires
+words-end-requires : tie.Need-words_end-end-requires
 words-end-requires c κs = search rules
 
-slice-aggregate-read-words : tie.Need-slice-aggregate-read-words
-slice-aggregate-read-words c = sym (length-take-le _ _ c.before.words-end.ensures.1)
+slice-aggregate-read-words : tie.Need-slice_bounds-read_words-end
+slice-aggregate-read-words c = sym (length-take-le _ _ c.words_end-end.ensures.1)
 
-read-words-requires : tie.Need-read-words-requires
+read-words-requires : tie.Need-read_words-requires
 read-words-requires c κs = search rules
 
 returns : tie.Need-returns
 returns c =
-    subst (λ (x : ℕ). Orders (take x c.before.before.before.before.args.line.now) c.read-words.result)
-    c.before.before.words-end.ensures.0 c.read-words.ensures
+    subst (λ (x : ℕ). Orders (take x c.args.line.now) c.read_words.result)
+    c.words_end-end.ensures.0 c.read_words.ensures
 
 pub read_spec : {M : Type 1} → statement M
 read_spec =

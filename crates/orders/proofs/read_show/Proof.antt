@@ -8,11 +8,11 @@ use Rattle.orders.proofs.read_show.Tie as tie
 over-requires : tie.Need-over-requires
 over-requires c κs = search rules
 
-returns : tie.Need-returns
-returns c = let b = c.before.before.before.requires in show b.says (is_over _ 1 b.ends c.before.over.ensures c.if1.true)
+returns : tie.Need-returns-then-over
+returns c = let b = c.requires in show b.says (is_over _ 1 b.ends c.over.ensures c.if-over.true)
 
-returns-2 : tie.Need-returns-2
-returns-2 c = let b = c.before.before.before.requires in no_show b.says (not_over _ 1 b.ends c.before.over.ensures c.if1.false)
+returns-2 : tie.Need-returns
+returns-2 c = let b = c.requires in no_show b.says (not_over _ 1 b.ends c.over.ensures c.if-over.false)
 
 pub read_show_spec : {M : Type 1} → statement M
 read_show_spec = tie.close (tie.spec over-requires returns returns-2)
