@@ -9,7 +9,7 @@ use Rattle.lister.proofs.show.Tie as tie
 list-requires : tie.Need-list-requires
 list-requires c κs = search rules
 
-same_length : tie.Need-same-length
+same_length : tie.Need-shape_of-page
 same_length c = search rules
 
 returns : tie.Need-returns

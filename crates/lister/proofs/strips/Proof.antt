@@ -17,41 +17,41 @@ use Rattle.lister.proofs.Listing.{no_renter, his_rows}
 use Rattle.lister.proofs.strips.Statement.{statement}
 use Rattle.lister.proofs.strips.Tie as tie
 
-is-renter-requires : tie.Need-is-renter-requires
+is-renter-requires : tie.Need-is_renter-requires
 is-renter-requires c κs = search rules
 
 -- whether there is such a renter
-asked : (c : tie.After-is-renter) → c.is-renter.result ≡ is_renter c.before.before.args.renter
-asked c = c.is-renter.ensures ∙ ap is_renter (to_z-of_z c.before.before.ranges.renter)
+asked : (c : tie.After-is_renter) → c.is_renter.result ≡ is_renter c.before.before.args.renter
+asked c = c.is_renter.ensures ∙ ap is_renter (to_z-of_z c.before.before.ranges.renter)
 
 refuse-requires : tie.Need-refuse-requires
 refuse-requires c κs = search rules
 
-same_length : tie.Need-same-length
+same_length : tie.Need-shape_of-page-then-not-is_renter
 same_length c = search rules
 
-returns : tie.Need-returns
+returns : tie.Need-returns-then-not-is_renter
 returns c =
     let t = c.before.before.before.before in
     let a = t.before.before.before in
-    let n = no_renter a.args.renter a.args.table.now (sym (asked t.before) ∙ not-true _ t.if1.true) in
+    let n = no_renter a.args.renter a.args.table.now (sym (asked t.before) ∙ not-true _ t.if-not-is_renter.true-raw) in
     answers_by (λ _ _ e. (e.0 ∙ n.0, e.1 ∙ n.1)) c.before.before.refuse.ensures
 
 -- ---- there is such a renter
-known : (c : tie.Else1) → is_renter c.before.before.before.args.renter ≡ true
-known c = sym (asked c.before) ∙ not-false _ c.if1.false
+known : (c : tie.Else-not-is_renter) → is_renter c.before.before.before.args.renter ≡ true
+known c = sym (asked c.before) ∙ not-false _ c.if-not-is_renter.false-raw
 
-first-slot-requires : tie.Need-first-slot-requires
+first-slot-requires : tie.Need-first_slot-from-requires
 first-slot-requires c κs = ap is_renter (to_z-of_z c.before.before.before.ranges.renter) ∙ known c
 
 -- where his half begins
-begins : (c : tie.After-first-slot) → c.first_slot.result ≡ first_slot c.before.before.before.before.args.renter
-begins c = c.first_slot.ensures ∙ ap first_slot (to_z-of_z c.before.before.before.before.ranges.renter)
+begins : (c : tie.After-first_slot-from) → c.first_slot-from.result ≡ first_slot c.before.before.before.before.args.renter
+begins c = c.first_slot-from.ensures ∙ ap first_slot (to_z-of_z c.before.before.before.before.ranges.renter)
 
-ends : (c : tie.After-first-slot) → c.first_slot.result + 32 ≤ 64
+ends : (c : tie.After-first_slot-from) → c.first_slot-from.result + 32 ≤ 64
 ends c = omega (arith, begins c, at_most_one c.before.before.before.before.args.renter (known c.before))
 
-add-list : tie.Need-overflow-add-list
+add-list : tie.Need-overflow_add-from
 add-list c = omega (arith, ends c)
 
 list-requires : tie.Need-list-requires
@@ -59,10 +59,10 @@ list-requires c κs =
     let a = c.before.before.before.before.before in
     (omega arith, (ends c.before, (a.requires.0, a.requires.1)))
 
-same-length-2 : tie.Need-same-length-2
+same-length-2 : tie.Need-shape_of-page
 same-length-2 c = search rules
 
-returns-2 : tie.Need-returns-2
+returns-2 : tie.Need-returns
 returns-2 c =
     let l = c.before.before in
     let f = l.before.before in
