@@ -3,7 +3,6 @@
 use Rattle.std.specs.Prelude.{List, ℕ}
 use Rattle.text.specs.Pages.{ascii}
 use Rattle.orders.specs.declared.Fault.{Fault}
-use Rattle.orders.specs.declared.Fault.TheVariants as Fault
 
 unfoldable pub fault_words : Fault → List ℕ
 fault_words Fault.Word = ascii "a line is book R l b r t, release R slot, strips R or show"
