@@ -26,16 +26,12 @@ integer-requires-4 c κs = search rules
 
 returns : tie.Need-returns
 returns c =
-    let c3 = c.before.before in
-    let c2 = c3.before.before in
-    let c1 = c2.before.before in
-    let p = c1.before.before in
-    let a = p.before.before.before.before.args.a in
-    let n0 = after 5 (λ fs. with_part fs a.kept a.t0 a.t1) p.before.begin.ensures p.part-reply.ensures in
-    let n1 = next_signed w32 c1.before.struct_told-1.given.1.1.1.1.1.0.1 n0 c1.integer.ensures in
-    let n2 = next_signed w32 c2.before.struct_told-2-1.given.1.1.1.1.1.1.0.1 n1 c2.integer-2.ensures in
-    let n3 = next_signed w32 c3.before.struct_told-3-1.given.1.1.1.1.1.1.1.0.1 n2 c3.integer-3.ensures in
-    next_signed w32 c.before.struct_told-4-1.given.1.1.1.1.1.1.1.1.0.1 n3 c.integer-4.ensures
+    let a = c.args.a in
+    let n0 = after 5 (λ fs. with_part fs a.kept a.t0 a.t1) c.begin.ensures c.part-reply.ensures in
+    let n1 = next_signed w32 c.struct_told-1.given.1.1.1.1.1.0.1 n0 c.integer.ensures in
+    let n2 = next_signed w32 c.struct_told-2-1.given.1.1.1.1.1.1.0.1 n1 c.integer-2.ensures in
+    let n3 = next_signed w32 c.struct_told-3-1.given.1.1.1.1.1.1.1.0.1 n2 c.integer-3.ensures in
+    next_signed w32 c.struct_told-4-1.given.1.1.1.1.1.1.1.1.0.1 n3 c.integer-4.ensures
 
 pub answered_spec : {M : Type 1} → statement M
 answered_spec =

@@ -22,12 +22,11 @@ unknown-requires : tie.Need-unknown-requires
 unknown-requires c κs = search rules
 
 returns : tie.Need-returns-then-n-lt5
-returns c =
-    let read = c.before.before.before in (
-      search rules,
-      no_call (too_few _ read.read_numbers-n.ensures.1 (search rules) (search rules))
-          c.unknown.ensures,
-    )
+returns c = (
+  search rules,
+  no_call (too_few _ c.read_numbers-n.ensures.1 (search rules) (search rules))
+      c.unknown.ensures,
+)
 
 sub-end : tie.Need-overflow_sub-end
 sub-end c = search rules
@@ -45,13 +44,12 @@ unknown-requires-2 : tie.Need-unknown-requires-then-numbers-end
 unknown-requires-2 c κs = search rules
 
 returns-2 : tie.Need-returns-then-numbers-end
-returns-2 c =
-    let read = c.before.before.before.before.before in (
-      search rules,
-      no_call
-          (other_count _ read.read_numbers-n.ensures.1 (search rules)
-          (λ e. count_no _ _ c.before.if-numbers-end.true (e ∙ ap pos (omega arith)))) c.unknown-then-numbers-end.ensures,
-    )
+returns-2 c = (
+  search rules,
+  no_call
+      (other_count _ c.read_numbers-n.ensures.1 (search rules)
+      (λ e. count_no _ _ c.if-numbers-end.true (e ∙ ap pos (omega arith)))) c.unknown-then-numbers-end.ensures,
+)
 
 slice-aggregate-stroke-at : tie.Need-slice_bounds-stroke_at-end
 slice-aggregate-stroke-at c = search rules

@@ -13,8 +13,8 @@ sides-requires c κs = search rules
 
 returns : tie.Need-returns
 returns c =
-    let a = c.before.before.args.a in
-    after 2 (λ fs. with_sides fs a.side0 a.side1) c.before.answered.ensures c.sides.ensures
+    let a = c.args.a in
+    after 2 (λ fs. with_sides fs a.side0 a.side1) c.answered.ensures c.sides.ensures
 
 pub clipped_spec : {M : Type 1} → statement M
 clipped_spec = tie.close (tie.spec answered-requires sides-requires returns)

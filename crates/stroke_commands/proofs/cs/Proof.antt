@@ -17,8 +17,7 @@ unknown-requires c κs = search rules
 
 returns : tie.Need-returns-then-not-pair
 returns c =
-    let read = c.before.before.before in
-    (search rules, not_read read.read_pair-pair.ensures (not-true _ c.before.if-not-pair.true) c.unknown.ensures)
+    (search rules, not_read c.read_pair-pair.ensures (not-true _ c.if-not-pair.true) c.unknown.ensures)
 
 cohen-sutherland-requires : tie.Need-cohen_sutherland-counted-requires
 cohen-sutherland-requires c κs = search rules
@@ -37,13 +36,11 @@ sides-requires c κs = search rules
 
 returns-2 : tie.Need-returns
 returns-2 c =
-    let called = c.before.before.before.before.before in
-    let a = called.cohen_sutherland-counted.result.answer in
-    let done = called.before in (
+    let a = c.cohen_sutherland-counted.result.answer in (
       search rules,
-      to_call _ (done.before.before.read_pair-pair.ensures.pair (not-false _ done.if-not-pair.false))
-          (tells called.cohen_sutherland-counted.result called.cohen_sutherland-counted.ensures
-          (after 2 (λ fs. with_sides fs a.side0 a.side1) (next c.before.before.before.answered.ensures c.before.natural-reply.ensures) c.sides.ensures)),
+      to_call _ (c.read_pair-pair.ensures.pair (not-false _ c.if-not-pair.false))
+          (tells c.cohen_sutherland-counted.result c.cohen_sutherland-counted.ensures
+          (after 2 (λ fs. with_sides fs a.side0 a.side1) (next c.answered.ensures c.natural-reply.ensures) c.sides.ensures)),
     )
 
 pub cs_spec : {M : Type 1} → statement M

@@ -26,15 +26,11 @@ wide-requires-4 c κs = search rules
 
 returns : tie.Need-returns
 returns c =
-    let c3 = c.before.before in
-    let c2 = c3.before.before in
-    let c1 = c2.before.before in
-    let c0 = c1.before.before in
-    let n0 = next_flag c0.before.args.kept (itself c0.before.args.reply) c0.natural.ensures in
-    let n1 = next_signed w64 c1.before.struct_told-1.given.0.1 n0 c1.wide.ensures in
-    let n2 = next_signed w64 c2.before.struct_told-2-1.given.1.0.1 n1 c2.wide-2.ensures in
-    let n3 = next_signed w64 c3.before.struct_told-3-1.given.0.1 n2 c3.wide-3.ensures in
-    counted (omega arith) (next_signed w64 c.before.struct_told-4-1.given.1.0.1 n3 c.wide-4.ensures)
+    let n0 = next_flag c.args.kept (itself c.args.reply) c.natural.ensures in
+    let n1 = next_signed w64 c.struct_told-1.given.0.1 n0 c.wide.ensures in
+    let n2 = next_signed w64 c.struct_told-2-1.given.1.0.1 n1 c.wide-2.ensures in
+    let n3 = next_signed w64 c.struct_told-3-1.given.0.1 n2 c.wide-3.ensures in
+    counted (omega arith) (next_signed w64 c.struct_told-4-1.given.1.0.1 n3 c.wide-4.ensures)
 
 pub part_spec : {M : Type 1} → statement M
 part_spec =

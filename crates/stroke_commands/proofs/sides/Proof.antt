@@ -12,7 +12,7 @@ natural-requires-2 : tie.Need-natural-requires-2
 natural-requires-2 c κs = search rules
 
 returns : tie.Need-returns
-returns c = counted (omega arith) (next (next (itself c.before.before.args.reply) c.before.natural.ensures) c.natural-2.ensures)
+returns c = counted (omega arith) (next (next (itself c.args.reply) c.natural.ensures) c.natural-2.ensures)
 
 pub sides_spec : {M : Type 1} → statement M
 sides_spec = tie.close (tie.spec natural-requires natural-requires-2 returns)

@@ -13,8 +13,7 @@ unknown-requires c κs = search rules
 
 returns : tie.Need-returns-then-not-pair
 returns c =
-    let read = c.before.before.before in
-    (search rules, not_read read.read_pair-pair.ensures (not-true _ c.before.if-not-pair.true) c.unknown.ensures)
+    (search rules, not_read c.read_pair-pair.ensures (not-true _ c.if-not-pair.true) c.unknown.ensures)
 
 cross-product-requires : tie.Need-cross_product-requires
 cross-product-requires c κs = search rules
@@ -23,13 +22,11 @@ clipped-requires : tie.Need-clipped-requires
 clipped-requires c κs = search rules
 
 returns-2 : tie.Need-returns
-returns-2 c =
-    let called = c.before in
-    let done = called.before in (
-      search rules,
-      clipped_as_read done.before.before.read_pair-pair.ensures (not-false _ done.if-not-pair.false) called.cross_product.ensures
-          c.clipped.ensures,
-    )
+returns-2 c = (
+  search rules,
+  clipped_as_read c.read_pair-pair.ensures (not-false _ c.if-not-pair.false) c.cross_product.ensures
+      c.clipped.ensures,
+)
 
 pub xp_spec : {M : Type 1} → statement M
 xp_spec =
