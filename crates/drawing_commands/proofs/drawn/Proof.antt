@@ -133,19 +133,17 @@ same-length-3 c = search rules
 
 returns-4 : tie.Need-returns
 returns-4 c =
-    let tested = c in
-    let read = tested.before.before.before.before.before.before.before.before.before in
+    let read = c.before.before.before.before.before.before.before.before.before in
     let lent = read.before.before.before.before.before in
-    let start = lent in
     let n = read.read_bytes-file.result.count in
     let all : n - 0 ≡ n = omega arith in
     let long : length c.read.new.lent ≡ lent.read_room-room.result =
-    c.read.auto.lent ∙ part_length lent.read_room-room.result start.args.lent.now
-    (omega (arith, start.requires)) in (
+    c.read.auto.lent ∙ part_length lent.read_room-room.result lent.args.lent.now
+    (omega (arith, lent.requires)) in (
       search rules,
       to_call _ (record {
         room = asks_room (text_of lent) (room lent) (search rules);
-        file = (file read).whole (not-false _ tested.if-not-file.false);
+        file = (file read).whole (not-false _ c.if-not-file.false);
         few = omega (
           arith,
           length-take-le n read.read_bytes-file.new.out (file read).within,

@@ -27,11 +27,9 @@ same_length c = search rules
 
 returns : tie.Need-returns
 returns c =
-    let begun = c in
-    let called = begun in
-    let prepared = called.before.before.before in
-    let a = called.read_drawing-a.result in
-    let s = next (after 4 (λ fs. with_window fs a.window) begun.begin.ensures c.window.ensures)
+    let prepared = c.before.before.before in
+    let a = c.read_drawing-a.result in
+    let s = next (after 4 (λ fs. with_window fs a.window) c.begin.ensures c.window.ensures)
     c.natural.ensures in (
       omega (arith, s.count),
       tells a
@@ -39,7 +37,7 @@ returns c =
             before = prepared.prepare.new.lent;
             same = search rules;
             prepared = prepared.prepare.ensures;
-            call = called.read_drawing-a.ensures;
+            call = c.read_drawing-a.ensures;
           }) s,
     )
 
