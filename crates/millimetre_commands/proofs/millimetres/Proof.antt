@@ -20,13 +20,12 @@ bits-requires : tie.Need-bits-requires
 bits-requires c κs = search rules
 
 returns : tie.Need-returns
-returns c =
-    let called = c in (
-      search rules,
-      tells called.to_millimetres-a.result
-          (rw (to_z-of_z called.ranges.g) at called.to_millimetres-a.ensures)
-          (next c.begin.ensures c.bits.ensures),
-    )
+returns c = (
+  search rules,
+  tells c.to_millimetres-a.result
+      (rw (to_z-of_z c.ranges.g) at c.to_millimetres-a.ensures)
+      (next c.begin.ensures c.bits.ensures),
+)
 
 pub millimetres_spec : {M : Type 1} → statement M
 millimetres_spec =

@@ -29,10 +29,9 @@ unknown-requires-2 c κs = search rules
 
 returns-2 : tie.Need-returns-in_default
 returns-2 c =
-    let at = c in
-    let text = at.args.rest.now in (
+    let text = c.args.rest.now in (
       search rules,
-      no_call (λ p s. not_bad text 0 (sym at.single_at.ensures ∙ c.in_default.is) s)
+      no_call (λ p s. not_bad text 0 (sym c.single_at.ensures ∙ c.in_default.is) s)
           c.unknown-in_default.ensures,
     )
 
@@ -50,11 +49,10 @@ unknown-requires-3 c κs = search rules
 
 returns-3 : tie.Need-returns-in_default-single_at
 returns-3 c =
-    let at = c in
-    let text = at.args.rest.now in (
+    let text = c.args.rest.now in (
       search rules,
       no_call
-          (λ p s. not_bad text 9 (sym at.single_at-2.ensures ∙ c.in_default-single_at.is) (next_at text 0 s))
+          (λ p s. not_bad text 9 (sym c.single_at-2.ensures ∙ c.in_default-single_at.is) (next_at text 0 s))
           c.unknown-in_default-single_at.ensures,
     )
 
@@ -72,23 +70,16 @@ integer-requires-2 c κs = search rules
 
 returns-4 : tie.Need-returns
 returns-4 c =
-    let a1 = c in
-    let begun = a1 in
-    let called = begun in
-    let y = called in
-    let at2 = y in
-    let x = at2 in
-    let at1 = x in
-    let text = at1.args.rest.now in
-    let a = called.point_to_grid-a.result in (
+    let text = c.args.rest.now in
+    let a = c.point_to_grid-a.result in (
       search rules,
-      to_call _ (put_at_lem text 0 (search rules) (sym at1.single_at.ensures ∙ x.in-Is.is)
-          (put_at_lem text 9 (search rules) (sym at2.single_at-2.ensures ∙ y.in-Is-single_at.is)
+      to_call _ (put_at_lem text 0 (search rules) (sym c.single_at.ensures ∙ c.in-Is.is)
+          (put_at_lem text 9 (search rules) (sym c.single_at-2.ensures ∙ c.in-Is-single_at.is)
           (end_at text 18 (search rules))))
-          (tells a called.point_to_grid-a.ensures
+          (tells a c.point_to_grid-a.ensures
           (next_signed w32 c.struct_told-2-1.given.1.1.1.0.1
-          (next_signed w32 a1.struct_told-1.given.1.1.0.1 begun.begin.ensures
-          a1.integer.ensures) c.integer-2.ensures)),
+          (next_signed w32 c.struct_told-1.given.1.1.0.1 c.begin.ensures
+          c.integer.ensures) c.integer-2.ensures)),
     )
 
 pub mm2_spec : {M : Type 1} → statement M

@@ -30,10 +30,9 @@ unknown-requires-2 c κs = search rules
 
 returns-2 : tie.Need-returns-in_default
 returns-2 c =
-    let at = c in
-    let text = at.args.rest.now in (
+    let text = c.args.rest.now in (
       search rules,
-      no_call (λ p s. not_bad text 0 (sym at.single_at.ensures ∙ c.in_default.is) s)
+      no_call (λ p s. not_bad text 0 (sym c.single_at.ensures ∙ c.in_default.is) s)
           c.unknown-in_default.ensures,
     )
 
@@ -51,11 +50,10 @@ unknown-requires-3 c κs = search rules
 
 returns-3 : tie.Need-returns-in_default-single_at
 returns-3 c =
-    let at = c in
-    let text = at.args.rest.now in (
+    let text = c.args.rest.now in (
       search rules,
       no_call
-          (λ p s. not_bad text 9 (sym at.single_at-2.ensures ∙ c.in_default-single_at.is) (next_at text 0 s))
+          (λ p s. not_bad text 9 (sym c.single_at-2.ensures ∙ c.in_default-single_at.is) (next_at text 0 s))
           c.unknown-in_default-single_at.ensures,
     )
 
@@ -73,11 +71,10 @@ unknown-requires-4 c κs = search rules
 
 returns-4 : tie.Need-returns-in_default-single_at-2
 returns-4 c =
-    let at = c in
-    let text = at.args.rest.now in (
+    let text = c.args.rest.now in (
       search rules,
       no_call
-          (λ p s. not_bad text 18 (sym at.single_at-3.ensures ∙ c.in_default-single_at-2.is)
+          (λ p s. not_bad text 18 (sym c.single_at-3.ensures ∙ c.in_default-single_at-2.is)
           (next_at text 9 (next_at text 0 s))) c.unknown-in_default-single_at-2.ensures,
     )
 
@@ -95,11 +92,10 @@ unknown-requires-5 c κs = search rules
 
 returns-5 : tie.Need-returns-in_default-single_at-3
 returns-5 c =
-    let at = c in
-    let text = at.args.rest.now in (
+    let text = c.args.rest.now in (
       search rules,
       no_call
-          (λ p s. not_bad text 27 (sym at.single_at-4.ensures ∙ c.in_default-single_at-3.is)
+          (λ p s. not_bad text 27 (sym c.single_at-4.ensures ∙ c.in_default-single_at-3.is)
           (next_at text 18 (next_at text 9 (next_at text 0 s)))) c.unknown-in_default-single_at-3.ensures,
     )
 
@@ -114,25 +110,16 @@ window-requires c κs = search rules
 
 returns-6 : tie.Need-returns
 returns-6 c =
-    let called = c in
-    let t = called in
-    let at4 = t in
-    let r = at4 in
-    let at3 = r in
-    let b = at3 in
-    let at2 = b in
-    let l = at2 in
-    let at1 = l in
-    let text = at1.args.rest.now in
-    let a = called.window_to_grid-a.result in
+    let text = c.args.rest.now in
+    let a = c.window_to_grid-a.result in
     let s = after 4 (λ fs. with_window fs a.window) c.begin.ensures c.window.ensures in (
       omega (arith, s.count),
-      to_call _ (put_at_lem text 0 (search rules) (sym at1.single_at.ensures ∙ l.in-Is.is)
-          (put_at_lem text 9 (search rules) (sym at2.single_at-2.ensures ∙ b.in-Is-single_at.is)
-          (put_at_lem text 18 (search rules) (sym at3.single_at-3.ensures ∙ r.in-Is-single_at-2.is)
-          (put_at_lem text 27 (search rules) (sym at4.single_at-4.ensures ∙ t.in-Is-single_at-3.is)
+      to_call _ (put_at_lem text 0 (search rules) (sym c.single_at.ensures ∙ c.in-Is.is)
+          (put_at_lem text 9 (search rules) (sym c.single_at-2.ensures ∙ c.in-Is-single_at.is)
+          (put_at_lem text 18 (search rules) (sym c.single_at-3.ensures ∙ c.in-Is-single_at-2.is)
+          (put_at_lem text 27 (search rules) (sym c.single_at-4.ensures ∙ c.in-Is-single_at-3.is)
           (end_at text 36 (search rules))))))
-          (tells a called.window_to_grid-a.ensures s),
+          (tells a c.window_to_grid-a.ensures s),
     )
 
 pub mm4_spec : {M : Type 1} → statement M
