@@ -91,8 +91,7 @@ add-end-of-run c = search rules
 
 end-of-run-requires : tie.Need-end_of_run-b-requires
 end-of-run-requires c κs =
-    let s = c in
-    (s.requires.1.0.1, (omega (arith, before_to s), (omega (arith, fits s), λ j l k. small_in (held s) j (omega (arith, after_from s)) k)))
+    (c.requires.1.0.1, (omega (arith, before_to c), (omega (arith, fits c), λ j l k. small_in (held c) j (omega (arith, after_from c)) k)))
 
 sub-lies-on : tie.Need-overflow_sub-a
 sub-lies-on c = omega (arith, after_from c.before)

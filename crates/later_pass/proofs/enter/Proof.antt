@@ -41,18 +41,17 @@ slice-copy-out-tag : tie.Need-slice_copy_out-tag
 slice-copy-out-tag c = search rules
 
 crossing-requires : tie.Need-crossing-requires
-crossing-requires c κs =
-    let s = c in (
-      s.requires.0,
-      (
-        s.requires.1.0,
-        (
-          s.requires.1.1.0,
-          subst (Named (window_of s.args.numbers.now) s.args.outline.now) (sym (is_tag c.before))
-              s.requires.1.1.1.1,
-        ),
-      ),
-    )
+crossing-requires c κs = (
+  c.requires.0,
+  (
+    c.requires.1.0,
+    (
+      c.requires.1.1.0,
+      subst (Named (window_of c.args.numbers.now) c.args.outline.now) (sym (is_tag c.before))
+          c.requires.1.1.1.1,
+    ),
+  ),
+)
 
 put-requires : tie.Need-put-requires
 put-requires c κs = search rules

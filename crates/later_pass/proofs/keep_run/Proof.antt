@@ -66,8 +66,7 @@ add-end-of-run c = search rules
 
 end-of-run-requires : tie.Need-end_of_run-s-requires
 end-of-run-requires c κs =
-    let s = c in
-    (s.requires.1.0.1, (omega (arith, some s), (omega (arith, fits s), λ j l k. small_in (held s) j (omega arith) k)))
+    (c.requires.1.0.1, (omega (arith, some c), (omega (arith, fits c), λ j l k. small_in (held c) j (omega arith) k)))
 
 same_length : tie.Need-shape_of-m-then-s-to
 same_length c = search rules
@@ -115,13 +114,12 @@ module _ (c : tie.After-end_of_run-e) where
   back_out = c.end_of_run-e.ensures.ends
 
 add-end-of-run-2 : tie.Need-overflow_add-s
-add-end-of-run-2 c = let o = c in omega (arith, before_to o, fits (s₀ o), (s₀ o).well_formed)
+add-end-of-run-2 c = omega (arith, before_to c, fits (s₀ c), (s₀ c).well_formed)
 
 end-of-run-requires-2 : tie.Need-end_of_run-e-requires
 end-of-run-requires-2 c κs =
-    let o = c in
-    let s = s₀ o in
-    (s.requires.1.0.1, (omega (arith, before_to o), (omega (arith, fits s), λ j l k. small_in (held s) j (omega (arith, after_from (first o))) k)))
+    let s = s₀ c in
+    (s.requires.1.0.1, (omega (arith, before_to c), (omega (arith, fits s), λ j l k. small_in (held s) j (omega (arith, after_from (first c))) k)))
 
 lies-on-requires : tie.Need-lies_on-there-requires
 lies-on-requires c κs =

@@ -32,7 +32,7 @@ is_tag : (c : tie.After-tag-1) → let t = tag_in (memory c.before.before) c.arg
 is_tag c = back w32 (tag_in (memory c.before.before) c.args.i) c.tag-1.given
 
 turn-along-requires : tie.Need-turn_along-requires
-turn-along-requires c κs = let s = c in (s.requires.0.side, s.requires.1.1.0)
+turn-along-requires c κs = (c.requires.0.side, c.requires.1.1.0)
 
 same_length : tie.Need-shape_of-m-then-here
 same_length c = search rules
@@ -59,18 +59,17 @@ add-put : tie.Need-overflow_add-i
 add-put c = search rules
 
 crossing-requires : tie.Need-crossing-requires
-crossing-requires c κs =
-    let s = c in (
-      s.requires.0.window,
-      (
-        s.requires.0.outline,
-        (
-          s.requires.1.0,
-          subst (Named (window_of s.args.numbers.now) s.args.outline.now) (sym (is_tag c.before))
-              s.requires.1.1.1,
-        ),
-      ),
-    )
+crossing-requires c κs = (
+  c.requires.0.window,
+  (
+    c.requires.0.outline,
+    (
+      c.requires.1.0,
+      subst (Named (window_of c.args.numbers.now) c.args.outline.now) (sym (is_tag c.before))
+          c.requires.1.1.1,
+    ),
+  ),
+)
 
 side-tag-requires : tie.Need-side_tag-requires
 side-tag-requires c κs = c.requires.0.side
@@ -86,15 +85,14 @@ same-length-2 c = search rules
 
 returns-2 : tie.Need-returns
 returns-2 c =
-    let x = c in
-    let e = x.before.before.before.before.before in
+    let e = c.before.before.before.before.before in
     let s = e.before.before in
-    let p = point_of x.crossing.result in
+    let p = point_of c.crossing.result in
     let wrote : c.put.new.m ≡ put_at (memory s) (s.args.i + 1) p (side_tag (side_at s.args.side)) =
     c.put.ensures ∙ ap (put_at (memory s) (s.args.i + 1) p) (back w32 _ c.side_tag.type_inv ∙ c.side_tag.ensures) in
     subst (λ (m : List ℤ). Done s m (s.args.i + 2)) (sym wrote)
     (crosses e.if-here.false
-    (subst (λ (t : ℤ). Meeting (window_of s.args.numbers.now) s.args.outline.now (limit_line s.args.l) t p) (is_tag e) x.crossing.ensures))
+    (subst (λ (t : ℤ). Meeting (window_of s.args.numbers.now) s.args.outline.now (limit_line s.args.l) t p) (is_tag e) c.crossing.ensures))
 
 pub leave_spec : {M : Type 1} → statement M
 leave_spec =

@@ -19,16 +19,15 @@ some : (s : tie.Start) → s.args.p.from < s.args.p.to
 some s = omega (arith, s.requires.1.1.1.ring.three, ring_length s.args.m.now s.args.p.from (s.args.p.to - s.args.p.from))
 
 end-of-run-requires : tie.Need-end_of_run-a-requires
-end-of-run-requires c κs = let s = c in (s.requires.1.0.1, (omega (arith, some s), (omega (arith, s.requires.1.1.0), small_in s.requires.1.1.1)))
+end-of-run-requires c κs = (c.requires.1.0.1, (omega (arith, some c), (omega (arith, c.requires.1.1.0), small_in c.requires.1.1.1)))
 
 same_length : tie.Need-shape_of-m-then-a-to
 same_length c = search rules
 
 returns : tie.Need-returns-then-a-to
 returns c =
-    let r = c in
-    let s = r.before.before in
-    leaves_all s.requires.1.0.0 (omega (arith, some s)) s.requires.1.1.1 (λ i a b. r.end_of_run-a.ensures.run i a (omega (arith, c.if-a-to.true)))
+    let s = c.before.before in
+    leaves_all s.requires.1.0.0 (omega (arith, some s)) s.requires.1.1.1 (λ i a b. c.end_of_run-a.ensures.run i a (omega (arith, c.if-a-to.true)))
 
 -- some corner lies outside
 module _ (c : tie.Else-a-to) where
@@ -41,7 +40,6 @@ module _ (c : tie.Else-a-to) where
 keep-run-requires : tie.Need-keep_run-requires
 keep-run-requires c κs =
     let e = c.before.before in
-    let r = e in
     let s = s₀ e in (
       s.requires.0,
       (
@@ -53,7 +51,7 @@ keep-run-requires c κs =
             (
               some s,
               subst (λ (i : ℕ). Out (limit_line s.args.l) (point_in s.args.m.now i)) c.if-a-from.true
-                  (r.end_of_run-a.ensures.ends (before_to e)),
+                  (e.end_of_run-a.ensures.ends (before_to e)),
             ),
           ),
         ),
@@ -69,11 +67,10 @@ returns-2 c = search rules
 cut-out-requires : tie.Need-cut_out-requires
 cut-out-requires c κs =
     let e = c.before.before in
-    let r = e in
     let s = s₀ e in
-    let first : s.args.p.from < r.end_of_run-a.result =
-    ⊎_elim (λ q. absurd (c.if-a-from.false (sym q))) (λ l. l) (eq-or-lt_of_le r.end_of_run-a.ensures.above) in
-    (s.requires.0, (s.requires.1.0, (s.requires.1.1.0, (s.requires.1.1.1, (first, before_to e, r.end_of_run-a.ensures)))))
+    let first : s.args.p.from < e.end_of_run-a.result =
+    ⊎_elim (λ q. absurd (c.if-a-from.false (sym q))) (λ l. l) (eq-or-lt_of_le e.end_of_run-a.ensures.above) in
+    (s.requires.0, (s.requires.1.0, (s.requires.1.1.0, (s.requires.1.1.1, (first, before_to e, e.end_of_run-a.ensures)))))
 
 same-length-3 : tie.Need-shape_of-m
 same-length-3 c = search rules
