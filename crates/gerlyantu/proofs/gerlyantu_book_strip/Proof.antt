@@ -7,17 +7,17 @@ use Rattle.strip_book.specs.Books.{BookStrip}
 use Rattle.gerlyantu.proofs.gerlyantu_book_strip.Statement.{statement}
 use Rattle.gerlyantu.proofs.gerlyantu_book_strip.Tie as tie
 
-book-strip-requires : tie.Need-book-strip-requires
+book-strip-requires : tie.Need-book_strip-requires
 book-strip-requires c κs = search rules
 
-same_length : tie.Need-same-length
+same_length : tie.Need-shape_of-book
 same_length c = search rules
 
 returns : tie.Need-returns
 returns c =
     let s = c.before.before.before in
-    let booked = c.before.book-strip in
-    let promised : ℤ → Type 0 = λ renter. BookStrip renter s.args.w booked.result s.args.book.now booked.new.0 in
+    let booked = c.before.book_strip in
+    let promised : ℤ → Type 0 = λ renter. BookStrip renter s.args.w booked.result s.args.book.now booked.new.book in
     subst promised (to_z-of_z s.ranges.renter) booked.ensures
 
 pub gerlyantu_book_strip_spec : {M : Type 1} → statement M

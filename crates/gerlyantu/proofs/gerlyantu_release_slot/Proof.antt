@@ -7,17 +7,17 @@ use Rattle.strip_book.specs.Books.{ReleaseSlot}
 use Rattle.gerlyantu.proofs.gerlyantu_release_slot.Statement.{statement}
 use Rattle.gerlyantu.proofs.gerlyantu_release_slot.Tie as tie
 
-release-slot-requires : tie.Need-release-slot-requires
+release-slot-requires : tie.Need-release_slot-requires
 release-slot-requires c κs = search rules
 
-same_length : tie.Need-same-length
+same_length : tie.Need-shape_of-book
 same_length c = search rules
 
 returns : tie.Need-returns
 returns c =
     let s = c.before.before.before in
-    let released = c.before.release-slot in
-    let promised : ℤ → ℤ → Type 0 = λ renter slot. ReleaseSlot renter slot released.result s.args.book.now released.new.0 in
+    let released = c.before.release_slot in
+    let promised : ℤ → ℤ → Type 0 = λ renter slot. ReleaseSlot renter slot released.result s.args.book.now released.new.book in
     subst₂ promised (to_z-of_z s.ranges.renter) (to_z-of_z s.ranges.slot) released.ensures
 
 pub gerlyantu_release_slot_spec : {M : Type 1} → statement M
