@@ -6,12 +6,10 @@ use native.Mathlib.Omega.{arith}
 use lib.ListN.{length, take, drop}
 use Rattle.words.specs.Words.{numeral, unsigned}
 use Rattle.words.specs.declared.Natural.{Natural}
-use Rattle.words.specs.declared.Natural.TheVariants as Natural
 use Rattle.arguments.specs.Arguments.{first_end, first_word, behind_first}
 use Rattle.lending.proofs.Lists.{rest_of}
 use Rattle.outline_commands.specs.Lines.{as_order}
 use Rattle.outline_commands.specs.declared.Order.{Order}
-use Rattle.outline_commands.specs.declared.Order.TheVariants as Order
 
 pub order_read : (text : List ℕ) {first : ℕ} {o : Order} → first ≡ first_end text →
     o ≡ as_order (unsigned 0xffff_ffff (numeral (drop 1 (take (first - 0) text)))) →

@@ -7,7 +7,6 @@
 use Rattle.std.specs.Prelude.{◌≡◌, List, ℕ, ℤ, take}
 use Rattle.words.specs.Words.{numeral, unsigned}
 use Rattle.words.specs.declared.Natural.{Natural}
-use Rattle.words.specs.declared.Natural.TheVariants as Natural
 use Rattle.arguments.specs.Arguments.{first_word, behind_first}
 use Rattle.lending.specs.Lent.{ListArguments, AsksList, Lends}
 use Rattle.outlines.specs.Outlines.{Outline}
@@ -16,7 +15,6 @@ use Rattle.outlines.specs.declared.OutlineAnswer.{OutlineAnswer}
 use Rattle.replies.specs.Replies.{Fields, answer_fields, Tells, Replies}
 use Rattle.replies.specs.declared.Reply.{Reply}
 use Rattle.outline_commands.specs.declared.Order.{Order}
-use Rattle.outline_commands.specs.declared.Order.TheVariants as Order
 
 abbrev pub outline_fields : OutlineAnswer → Fields
 outline_fields a = answer_fields (ring_answer a)

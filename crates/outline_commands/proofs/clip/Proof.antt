@@ -9,7 +9,7 @@ use Rattle.outline_commands.proofs.clip.Tie as tie
 prepare-requires : tie.Need-prepare-requires
 prepare-requires c κs = search rules
 
-clip-outline-requires : tie.Need-clip-outline-requires
+clip-outline-requires : tie.Need-clip_outline-a-requires
 clip-outline-requires c κs = search rules
 
 begin-requires : tie.Need-begin-requires
@@ -18,21 +18,20 @@ begin-requires c κs = search rules
 natural-requires : tie.Need-natural-requires
 natural-requires c κs = search rules
 
-same_length : tie.Need-same-length
+same_length : tie.Need-shape_of-lent
 same_length c = search rules
 
 returns : tie.Need-returns
 returns c =
-    let called = c.before.before.before in
-    let prepared = called.before.before.before in
-    let s = next c.before.begin.ensures c.natural.ensures in (
+    let prepared = c.before.before.before in
+    let s = next c.begin.ensures c.natural.ensures in (
       omega (arith, s.count),
-      tells called.clip-outline.result
+      tells c.clip_outline-a.result
           (record {
-            before = prepared.prepare.new.0;
+            before = prepared.prepare.new.lent;
             same = search rules;
             prepared = prepared.prepare.ensures;
-            call = called.clip-outline.ensures;
+            call = c.clip_outline-a.ensures;
           }) s,
     )
 

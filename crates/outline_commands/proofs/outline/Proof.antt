@@ -16,94 +16,94 @@ use borrow.Author.Rules.{rules}
 use Rattle.outline_commands.proofs.outline.Statement.{statement}
 use Rattle.outline_commands.proofs.outline.Tie as tie
 
-abbrev text_of : tie.After-read-order → List ℕ
-text_of c = c.before.before.before.before.args.rest.now
+abbrev text_of : tie.After-read_order → List ℕ
+text_of c = c.args.rest.now
 
-order : (c : tie.After-read-order) → c.read-order.result ≡ as_order
+order : (c : tie.After-read_order) → c.read_order.result ≡ as_order
     (unsigned 0xffff_ffff (numeral (first_word (text_of c))))
-order c = order_read (text_of c) c.before.before.first-end.ensures.1 c.read-order.ensures
+order c = order_read (text_of c) c.first_end-first.ensures.1 c.read_order.ensures
 
-list : (c : tie.After-read-list) → ReadList (behind_first (text_of c.before.before.before.before.before.before))
-    c.read-list.new.1.0 c.read-list.result
+list : (c : tie.After-read_list-list) → ReadList (behind_first (text_of c.before.before.before.before))
+    c.read_list-list.new.numbers c.read_list-list.result
 list c =
-    let asked = c.before.before.before.before.before.before in
-    rw (behind (text_of asked) asked.before.before.first-end.ensures.1) at c.read-list.ensures.1.1
+    let asked = c.before.before.before.before in
+    rw (behind (text_of asked) asked.first_end-first.ensures.1) at c.read_list-list.ensures.1.1
 
-first-end-requires : tie.Need-first-end-requires
+first-end-requires : tie.Need-first_end-first-requires
 first-end-requires c κs = search rules
 
-sub-read-order : tie.Need-overflow-sub-read-order
+sub-read-order : tie.Need-slice_bounds-read_order-count
 sub-read-order c = search rules
 
-part-read-order-start : tie.Need-slice-bounds-read-order-start
+part-read-order-start : tie.Need-slice_bounds-read_order-start
 part-read-order-start c = search rules
 
-part-read-order-end : tie.Need-slice-bounds-read-order-end
+part-read-order-end : tie.Need-slice_bounds-read_order-end
 part-read-order-end c = search rules
 
-read-order-requires : tie.Need-read-order-requires
+read-order-requires : tie.Need-read_order-requires
 read-order-requires c κs = search rules
 
-enum-known-order : tie.Need-enum-known-order
+enum-known-order : tie.Need-enum_known-order
 enum-known-order c = search rules
 
-enum_told : tie.Need-enum-told
+enum_told : tie.Need-enum_told-1
 enum_told c = search rules
 
 unknown-requires : tie.Need-unknown-requires
 unknown-requires c κs = search rules
 
-returns : tie.Need-returns
+returns : tie.Need-returns-in_default
 returns c =
-    let asked = c.before.before.before in
-    let bad = sym c.before.enum_told.given.1 ∙ order asked in
+    let asked = c.before.before in
+    let bad = sym c.in_default.is ∙ order asked in
     (search rules, no_call (λ x a. no_order _ bad a.order) c.unknown.ensures)
 
-sub-read-list : tie.Need-overflow-sub-read-list
+sub-read-list : tie.Need-slice_bounds-read_list-count
 sub-read-list c = search rules
 
-part-read-list-start : tie.Need-slice-bounds-read-list-start
+part-read-list-start : tie.Need-slice_bounds-read_list-start
 part-read-list-start c = search rules
 
-part-read-list-end : tie.Need-slice-bounds-read-list-end
+part-read-list-end : tie.Need-slice_bounds-read_list-end
 part-read-list-end c = search rules
 
-slice-aggregate-read-list : tie.Need-slice-aggregate-read-list
+slice-aggregate-read-list : tie.Need-slice_bounds-read_list-end-2
 slice-aggregate-read-list c = search rules
 
-read-list-requires : tie.Need-read-list-requires
+read-list-requires : tie.Need-read_list-list-requires
 read-list-requires c κs = search rules
 
-unknown-requires-2 : tie.Need-unknown-requires-2
+unknown-requires-2 : tie.Need-unknown-requires-then-end-lt5
 unknown-requires-2 c κs = search rules
 
-returns-2 : tie.Need-returns-2
+returns-2 : tie.Need-returns-then-end-lt5
 returns-2 c =
     let read = c.before.before.before in (
       search rules,
-      no_call (λ x a. (list read).no_list (search rules) x.list (rw read.read-list.auto.1.0 a.list))
-          c.unknown2.ensures,
+      no_call (λ x a. (list read).no_list (search rules) x.list (rw read.read_list-list.auto.numbers a.list))
+          c.unknown-then-end-lt5.ensures,
     )
 
-slice-aggregate-first-window : tie.Need-slice-aggregate-first-window
+slice-aggregate-first-window : tie.Need-slice_bounds-first_window-end
 slice-aggregate-first-window c = search rules
 
-first-window-requires : tie.Need-first-window-requires
+first-window-requires : tie.Need-first_window-w-requires
 first-window-requires c κs = search rules
 
-part-clip-start : tie.Need-slice-bounds-clip-start
+part-clip-start : tie.Need-slice_bounds-clip-start
 part-clip-start c = search rules
 
-part-clip-end : tie.Need-slice-bounds-clip-end
+part-clip-end : tie.Need-slice_bounds-clip-end
 part-clip-end c = search rules
 
-sub-clip : tie.Need-overflow-sub-clip
+sub-clip : tie.Need-slice_bounds-clip-count-2
 sub-clip c = search rules
 
-part-clip-start-2 : tie.Need-slice-bounds-clip-start-2
+part-clip-start-2 : tie.Need-slice_bounds-clip-start-2
 part-clip-start-2 c = search rules
 
-part-clip-end-2 : tie.Need-slice-bounds-clip-end-2
+part-clip-end-2 : tie.Need-slice_bounds-clip-end-2
 part-clip-end-2 c = search rules
 
 clip-requires : tie.Need-clip-requires
@@ -112,27 +112,23 @@ clip-requires c κs = search rules
 lent-requires : tie.Need-lent-requires
 lent-requires c κs = search rules
 
-same_length : tie.Need-same-length
+same_length : tie.Need-shape_of-lent
 same_length c = search rules
 
-returns-3 : tie.Need-returns-3
+returns-3 : tie.Need-returns
 returns-3 c =
-    let clipped = c.before.before in
-    let there = clipped.before.before.before.before in
-    let read = there.before.before.before.before in
-    let given = read.before.before.before.before in
-    let start = given.before.before.before.before.before.before in
-    let room : length clipped.clip.new.1.1.1.0 ≡ read.read-list.result.room =
-    clipped.clip.auto.1.1.1.0
-    ∙ part_length read.read-list.result.room start.args.lent.now
-    (omega (arith, read.read-list.ensures.0, start.requires)) in (
+    let read = c.before.before.before.before.before.before.before.before.before in
+    let room : length c.clip.new.lent ≡ read.read_list-list.result.room =
+    c.clip.auto.lent
+    ∙ part_length read.read_list-list.result.room read.args.lent.now
+    (omega (arith, read.read_list-list.ensures.0, read.requires)) in (
       search rules,
       to_call _ (record {
-        order = is_order _ (sym given.order.given.1 ∙ order given.before.before);
-        list = rw read.read-list.auto.1.0 at ((list read).list (search rules));
+        order = is_order _ (sym read.in-Is.is ∙ order read.before.before.before.before);
+        list = rw read.read_list-list.auto.numbers at ((list read).list (search rules));
       })
-          (with_lent (λ a h. lent_front _ _ room (rw there.first-window.ensures at h))
-          clipped.clip.ensures.1 c.lent2.ensures),
+          (with_lent (λ a h. lent_front _ _ room (rw c.first_window-w.ensures at h))
+          c.clip.ensures.1 c.lent.ensures),
     )
 
 pub outline_spec : {M : Type 1} → statement M

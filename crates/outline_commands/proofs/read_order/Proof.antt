@@ -10,48 +10,48 @@ use borrow.Author.Rules.{rules}
 use Rattle.outline_commands.proofs.read_order.Statement.{statement}
 use Rattle.outline_commands.proofs.read_order.Tie as tie
 
-read : (c : tie.After-read-unsigned) →
-    c.read-unsigned.result ≡ unsigned 0xffff_ffff
-    (numeral (drop 1 c.before.before.before.before.args.argument.now))
+read : (c : tie.After-read_unsigned) →
+    c.read_unsigned.result ≡ unsigned 0xffff_ffff
+    (numeral (drop 1 c.args.argument.now))
 read c =
-    c.read-unsigned.ensures
-    ∙ ap (λ w. unsigned 0xffff_ffff (numeral w)) (rest_of 1 c.before.before.before.before.args.argument.now)
+    c.read_unsigned.ensures
+    ∙ ap (λ w. unsigned 0xffff_ffff (numeral w)) (rest_of 1 c.args.argument.now)
 
-returns : tie.Need-returns
-returns c = ap as_order (no_word 0xffff_ffff c.before.before.args.argument.now (search rules))
+returns : tie.Need-returns-then-argument-eq0
+returns c = ap as_order (no_word 0xffff_ffff c.args.argument.now (search rules))
 
-sub-read-unsigned : tie.Need-overflow-sub-read-unsigned
+sub-read-unsigned : tie.Need-slice_bounds-read_unsigned-count
 sub-read-unsigned c = search rules
 
-part-read-unsigned-start : tie.Need-slice-bounds-read-unsigned-start
+part-read-unsigned-start : tie.Need-slice_bounds-read_unsigned-start
 part-read-unsigned-start c = search rules
 
-part-read-unsigned-end : tie.Need-slice-bounds-read-unsigned-end
+part-read-unsigned-end : tie.Need-slice_bounds-read_unsigned-end
 part-read-unsigned-end c = search rules
 
-read-unsigned-requires : tie.Need-read-unsigned-requires
+read-unsigned-requires : tie.Need-read_unsigned-requires
 read-unsigned-requires c κs = search rules
 
-enum-known-n : tie.Need-enum-known-n
+enum-known-n : tie.Need-enum_known-n
 enum-known-n c = search rules
 
-cast-t10 : tie.Need-overflow-cast-t10
+cast-t10 : tie.Need-overflow_cast-result
 cast-t10 c = record {
   fits = omega (
     arith,
     unsigned_is 4294967295 _ _
-        (sym c.before.n.given.1 ∙ c.before.before.before.read-unsigned.ensures),
+        (sym c.in-Is.is ∙ c.read_unsigned.ensures),
   );
 }
 
-enum_told : tie.Need-enum-told
+enum_told : tie.Need-enum_told-1
 enum_told c = search rules
 
-returns-2 : tie.Need-returns-2
-returns-2 c = ap as_order (sym c.before.n.given.1 ∙ read c.before.before.before)
+returns-2 : tie.Need-returns-in-Is
+returns-2 c = ap as_order (sym c.in-Is.is ∙ read c.before)
 
-returns-3 : tie.Need-returns-3
-returns-3 c = ap as_order (sym c.enum_told.given.1 ∙ read c.before.before)
+returns-3 : tie.Need-returns-in-Bad
+returns-3 c = ap as_order (sym c.in-Bad.is ∙ read c.before)
 
 pub read_order_spec : {M : Type 1} → statement M
 read_order_spec =
