@@ -2,7 +2,7 @@
 -- leaves the table as it was, since the book's calls do.
 use mathlib.Core.Path.{◌≡◌, refl, sym, ap, ◌∙◌, subst}
 use mathlib.Core.Bool.{not, false}
-use mathlib.Core.List.{List, []}
+use mathlib.Core.List.{List}
 use Prim.Native.Nat.{ℕ, zero, suc}
 use native.Mathlib.Omega.{arith}
 use borrow.Author.Tests.{eq-eqb}
@@ -21,7 +21,7 @@ use Rattle.pen_line.specs.Lines.{spoken}
 use Rattle.orders.specs.declared.Order.{Order}
 use Rattle.orders.proofs.Unique.{one_order}
 use Rattle.counter.specs.Laws.{OneService, UnchangedKeeps}
-use Rattle.counter.specs.Serving.{Does, blank, book, release, strips, show, wrong, Serves, changing, looking}
+use Rattle.counter.specs.Serving.{Does, blank, book, release, strips, show, wrong, changing, looking}
 use Rattle.counter.specs.declared.Service.{Service}
 
 abbrev Same : Service → Service → List ℕ → List ℕ → List ℤ → List ℤ → Type 0

@@ -3,7 +3,7 @@
 --   changing r, looking r   what comes of the reply r to an order that changes the table where it is done, and to one that only looks at it
 --   Does order before after page r   the order is done on the table `before`, which is `after` then, and r is what came of it
 --   Serves l before after page r   what `counter::serve` promises: what comes of the line l is what comes of its order
-use Rattle.std.specs.Prelude.{◌≡◌, true, false, not, List, [], ◌++◌, ℕ, ◌≤◌, eqb, ℤ, length, take}
+use Rattle.std.specs.Prelude.{◌≡◌, true, false, not, List, ◌++◌, ℕ, ◌≤◌, eqb, ℤ, length, take}
 use Rattle.text.specs.Pages.{ascii}
 use Rattle.strip_book.specs.Books.{renter_refusal}
 use Rattle.intake.specs.declared.WindowMm.{WindowMm}
@@ -15,7 +15,6 @@ use Rattle.lister.specs.Listings.{strips_text, show_text}
 use Rattle.orders.specs.Orders.{Orders}
 use Rattle.orders.specs.declared.Fault.{Fault}
 use Rattle.orders.specs.declared.Order.{Order}
-use Rattle.orders.specs.declared.Order.TheVariants as Order
 use Rattle.usage.specs.Usage.{fault_words}
 use Rattle.counter.specs.declared.Service.{Service}
 

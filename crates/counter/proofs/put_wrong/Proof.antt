@@ -5,22 +5,16 @@ use borrow.Author.Rules.{rules}
 use Rattle.counter.proofs.put_wrong.Statement.{statement}
 use Rattle.counter.proofs.put_wrong.Tie as tie
 
-slice-aggregate-put : tie.Need-slice-aggregate-put
-slice-aggregate-put c = search rules
-
-put-requires : tie.Need-put-requires
+put-requires : tie.Need-put-a-requires
 put-requires c κs = search rules
 
-put-fault-requires : tie.Need-put-fault-requires
+put-fault-requires : tie.Need-put_fault-b-requires
 put-fault-requires c κs = search rules
 
-slice-aggregate-put-2 : tie.Need-slice-aggregate-put-2
-slice-aggregate-put-2 c = search rules
-
-put-requires-2 : tie.Need-put-requires-2
+put-requires-2 : tie.Need-put-requires
 put-requires-2 c κs = search rules
 
-same_length : tie.Need-same-length
+same_length : tie.Need-shape_of-page
 same_length c = search rules
 
 returns : tie.Need-returns
@@ -29,16 +23,14 @@ returns c =
     let at₃ = c.before.before in
     let at₂ = at₃.before.before.before.before.before in
     let at₁ = at₂.before.before.before.before in
-    put_then (put_then at₁.put.ensures at₂.put-fault.ensures.0) at₃.put2.ensures
+    put_then (put_then at₁.put-a.ensures at₂.put_fault-b.ensures.0) at₃.put.ensures
 
 pub put_wrong_spec : {M : Type 1} → statement M
 put_wrong_spec =
     tie.close
     (tie.spec
-    slice-aggregate-put
     put-requires
     put-fault-requires
-    slice-aggregate-put-2
     put-requires-2
     same_length
     returns)
