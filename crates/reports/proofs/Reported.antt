@@ -6,7 +6,6 @@ use native.Mathlib.Omega.{arith}
 use lib.IntN.{ℤ}
 use lib.ListN.{length, take}
 use lib.Seq.{length-take-le}
-use Rattle.grid.specs.declared.Window.{Window}
 use Rattle.io.specs.Counts.{IsPrefixLen}
 use Rattle.text.specs.Pages.{Put}
 use Rattle.cutting.specs.Sheets as Sheets

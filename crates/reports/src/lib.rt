@@ -10,11 +10,11 @@ pub struct Made {
 }
 
 // Tells of a refusal, in a line on standard error.
-pub fn tell(number: u8, place: usize) {
+pub fn tell(rt: &HostRuntime, number: u8, place: usize) {
     if number == 0 {
         return;
     }
     let mut line = [0u8; 160];
     let end = refusals::put_line(&mut line, 0, number, place);
-    streams::tell(&line[..end]);
+    streams::tell(rt, &line[..end]);
 }

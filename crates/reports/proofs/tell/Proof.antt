@@ -5,25 +5,25 @@ use borrow.Author.Rules.{rules}
 use Rattle.reports.proofs.tell.Statement.{statement}
 use Rattle.reports.proofs.tell.Tie as tie
 
-returns : tie.Need-returns
+returns : tie.Need-returns-then-number-eq0
 returns c = search rules
 
-slice-aggregate-put-line : tie.Need-slice-aggregate-put-line
+slice-aggregate-put-line : tie.Need-slice_bounds-put_line-end
 slice-aggregate-put-line c = search rules
 
-put-line-requires : tie.Need-put-line-requires
+put-line-requires : tie.Need-put_line-end-requires
 put-line-requires c κs = search rules
 
-array-share-prefix-line : tie.Need-array-share-prefix-line
+array-share-prefix-line : tie.Need-slice_bounds-line-end
 array-share-prefix-line c = search rules
 
-slice-aggregate-tell : tie.Need-slice-aggregate-tell
-slice-aggregate-tell c = sym (length-take-le _ _ c.before.before.put-line.ensures.0.fits)
+slice-aggregate-tell : tie.Need-slice_bounds-tell-end
+slice-aggregate-tell c = sym (length-take-le _ _ c.before.before.put_line-end.ensures.0.fits)
 
 tell-requires : tie.Need-tell-requires
 tell-requires c κs = search rules
 
-returns-2 : tie.Need-returns-2
+returns-2 : tie.Need-returns
 returns-2 c = search rules
 
 pub tell_spec : {M : Type 1} → statement M
