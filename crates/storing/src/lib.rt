@@ -25,41 +25,41 @@ fn understand(held: Held, text: &[u8], table: &mut [i32]) -> Verdict
 }
 
 // Reads the book's file into an empty table, and says whether it is a book. Else standard error says why not.
-pub fn load(file: &[u8], table: &mut [i32; 320]) -> bool
+pub fn load(rt: &HostRuntime, file: &[u8], table: &mut [i32; 320]) -> bool
     requires { table.old ≡ empty_book }
     ensures { result ≡ true → Sound table.new }
 {
     let mut text: Text = [0u8; 40000];
-    let held = keeping::read(file, &mut text);
+    let held = keeping::read(rt, file, &mut text);
     if held.failed {
         return false;
     }
     match understand(held, &text, table) {
         Verdict::Book => true,
         Verdict::Faulty(line) => {
-            streams::tell(file);
-            streams::tell(b": ");
-            faults::tell(line, b"; the file is left alone\n");
+            streams::tell(rt, file);
+            streams::tell(rt, b": ");
+            faults::tell(rt, line, b"; the file is left alone\n");
             false
         }
     }
 }
 
 // Keeps the text of a table in the book's file, which is in hand. It is a sound book's, so it will be read back as that book (`ReadsBack` of book_text).
-fn keep_text(new: &[u8], long: usize, table: &[i32; 320], text: &[u8]) -> bool
+fn keep_text(rt: &HostRuntime, new: &[u8], long: usize, table: &[i32; 320], text: &[u8]) -> bool
     requires new_name { IsNewName new.now long }
     requires sound { Sound table.now }
     requires text_value { text.now ≡ book_text table.now }
 {
-    keeping::keep(new, long, text)
+    keeping::keep(rt, new, long, text)
 }
 
 // Keeps a table in the book's file.
-pub fn save(new: &[u8], long: usize, table: &[i32; 320]) -> bool
+pub fn save(rt: &HostRuntime, new: &[u8], long: usize, table: &[i32; 320]) -> bool
     requires new_name { IsNewName new.now long }
     requires sound { Sound table.now }
 {
     let mut text: Text = [0u8; 40000];
     let end = book_text::put_book(&mut text, table);
-    keep_text(new, long, table, &text[..end])
+    keep_text(rt, new, long, table, &text[..end])
 }
