@@ -9,7 +9,7 @@ use native.Mathlib.Omega.{arith}
 use lib.Dec.{eqb}
 use lib.IntN.{ℤ}
 use lib.ListN.{length}
-use Rattle.whole.specs.Choice.{if◌then◌else◌}
+use Rattle.whole.specs.Choice.{when◌then◌else◌}
 use Rattle.words.specs.Digits.{word_value}
 use Rattle.words.specs.Words.{words, arguments, onto, integers, and_integer, as_integer, numeral, has_minus}
 use Rattle.words.specs.declared.Integer.{Integer}
@@ -30,7 +30,7 @@ unfolding weight words
 words_weigh [] = omega arith
 words_weigh (b ∷ l) = go (eqb b 32) (words_weigh l)
   where
-    go : (t : Bool) → weight (words l) ≡ suc (length l) → weight (if t then [] ∷ words l else onto b (words l)) ≡ suc
+    go : (t : Bool) → weight (words l) ≡ suc (length l) → weight (when t then [] ∷ words l else onto b (words l)) ≡ suc
         (suc (length l))
     go true e = omega arith
     go false e = longer b (length l) (words l) e

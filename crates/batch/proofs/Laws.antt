@@ -11,7 +11,7 @@ use lib.IntN.{ℤ, pos}
 use lib.ListN.{length, take, drop, get_or}
 use lib.Seq.{take-append_seam}
 use lib.Signed.{◌≤ℤ◌, ◌<ℤ◌}
-use Rattle.whole.specs.Choice.{if◌then◌else◌}
+use Rattle.whole.specs.Choice.{when◌then◌else◌}
 use Rattle.whole.proofs.Comparisons.{ff_tt}
 use Rattle.whole.proofs.Order.{zarith, ≤_total}
 use Rattle.grid.specs.declared.Answer.{Answer}
@@ -80,13 +80,13 @@ module _ (touches : Bool) {w : Window} {zs : List ℤ} (on : WindowOnTable w) (t
       let here : 4 * k / 4 ≡ k = omega arith in
       let on_by : 4 * k + 4 ≡ 4 * suc k = omega arith in
       let more : rows_from touches w zs (4 * k)
-      ≡ (if is_given touches (answer k) then five_of k (answer k) else [])
+      ≡ (when is_given touches (answer k) then five_of k (answer k) else [])
       ++ rows_from touches w zs (4 * suc k) =
       rows_more touches w zs (4 * k) four
-      ∙ (λ i. (if is_given touches (answer k) then five_of (here i) (answer k) else [])
+      ∙ (λ i. (when is_given touches (answer k) then five_of (here i) (answer k) else [])
       ++ rows_from touches w zs (on_by i)) in
       let by : Bool → List ℤ = λ b.
-      (if b then five_of k (answer k) else []) ++ rows_from touches w zs (4 * suc k) in
+      (when b then five_of k (answer k) else []) ++ rows_from touches w zs (4 * suc k) in
       record { given = λ e. more ∙ ap by e; passed = λ e. more ∙ ap by e }
 
   -- row j of xs is of a stroke that is given

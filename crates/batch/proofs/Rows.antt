@@ -6,7 +6,7 @@ use Prim.Native.Nat.{ℕ, suc, ◌+◌, ◌*◌, ◌/◌, ◌≤◌}
 use native.Mathlib.Omega.{arith}
 use lib.IntN.{ℤ, pos}
 use lib.ListN.{length, drop, length-append}
-use Rattle.whole.specs.Choice.{if◌then◌else◌}
+use Rattle.whole.specs.Choice.{when◌then◌else◌}
 use Rattle.grid.specs.declared.Stroke.{Stroke}
 use Rattle.grid.specs.declared.Window.{Window}
 use Rattle.grid.specs.Table.{stroke_at, strokes_of, WindowOnTable, StrokesOnTable, NumbersOnTable}
@@ -72,14 +72,14 @@ module _ (touches : Bool) where
 
   -- ---- the row of stroke k, by what is given of it
   pub row_cut : {w : Window} {s : Stroke} {c : Cut} {a : StrokeAnswer} (k : ℕ) → CutIs touches w s c → Clipped w s a
-      → row touches k a ≡ (if c.given then cut_row k c else [])
+      → row touches k a ≡ (when c.given then cut_row k c else [])
   row_cut {w} {s} {c} {a} k cut r = five (is_given touches a) ∙ ap row_of (sym (cut a r))
     where
       row_of : Cut → List ℤ
-      row_of c = if c.given then cut_row k c else []
+      row_of c = when c.given then cut_row k c else []
 
-      five : (b : Bool) → (if b then five_of k a else [])
-          ≡ row_of (if b then record { given = true; ax = a.ax; ay = a.ay; bx = a.bx; by = a.by } else no_cut)
+      five : (b : Bool) → (when b then five_of k a else [])
+          ≡ row_of (when b then record { given = true; ax = a.ax; ay = a.ay; bx = a.bx; by = a.by } else no_cut)
       five true = refl
       five false = refl
 
@@ -93,14 +93,14 @@ module _ (touches : Bool) where
     clipped = subst (λ (s : Stroke). Clipped w s answer) (sym e) (clipped_of_is on (stroke_of_list p t h))
 
     -- how many numbers that are, by whether it is given
-    pub rows_length : {b : Bool} → SaysGiven touches w s b → length (rows_from w zs p) ≡ (if b then 5 else 0) + length (rows_from w zs (p + 4))
+    pub rows_length : {b : Bool} → SaysGiven touches w s b → length (rows_from w zs p) ≡ (when b then 5 else 0) + length (rows_from w zs (p + 4))
     rows_length g =
         ap length (rows_more w zs p h) ∙ length-append (row touches (p / 4) answer) (rows_from w zs (p + 4))
         ∙ ap (λ (n : ℕ). n + length (rows_from w zs (p + 4)))
-        (row_length (is_given touches answer) ∙ ap (λ (b : Bool). if b then 5 else 0) (sym (g answer clipped)))
+        (row_length (is_given touches answer) ∙ ap (λ (b : Bool). when b then 5 else 0) (sym (g answer clipped)))
       where
         row_length : (b : Bool)
-            → length (if b then five_of (p / 4) answer else []) ≡ (if b then 5 else 0)
+            → length (when b then five_of (p / 4) answer else []) ≡ (when b then 5 else 0)
         row_length true = refl
         row_length false = refl
 
@@ -108,7 +108,7 @@ module _ (touches : Bool) where
   row_short : (k : ℕ) (a : StrokeAnswer) → length (row touches k a) ≤ 5
   row_short k a = go (is_given touches a)
     where
-      go : (b : Bool) → length (if b then five_of k a else []) ≤ 5
+      go : (b : Bool) → length (when b then five_of k a else []) ≤ 5
       go true = omega arith
       go false = omega arith
 

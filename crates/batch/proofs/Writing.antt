@@ -7,7 +7,7 @@ use native.Mathlib.Omega.{arith}
 use lib.IntN.{ℤ}
 use lib.ListN.{length, length-append}
 use lib.Seq.{sets}
-use Rattle.whole.specs.Choice.{if◌then◌else◌}
+use Rattle.whole.specs.Choice.{when◌then◌else◌}
 use Rattle.grid.specs.declared.Stroke.{Stroke}
 use Rattle.grid.specs.declared.Window.{Window}
 use Rattle.grid.specs.Table.{stroke_at, StrokeOnTable, WindowOnTable, StrokesOnTable}
@@ -30,16 +30,16 @@ module _ (touches : Bool) {w : Window} {s : Stroke} {c : Cut} (cut : CutIs touch
   pub row_room : WindowOnTable w → StrokeOnTable s → RoomForRow touches w s k n out → c.given ≡ true → n + 5 ≤ length out
   row_room on t room g =
       let a = clipped_of_is on t in
-      omega (arith, room _ a, ap length (row_cut touches k cut a ∙ ap (λ (b : Bool). if b then cut_row k c else []) g))
+      omega (arith, room _ a, ap length (row_cut touches k cut a ∙ ap (λ (b : Bool). when b then cut_row k c else []) g))
 
   pub row_put : c.given ≡ true → {r : ℕ} {after : List ℤ} → r ≡ n + 5 → after ≡ sets out n (cut_row k c) → WroteRow touches w s k n r out after
   row_put g e f a clip =
-      let is = row_cut touches k cut clip ∙ ap (λ (b : Bool). if b then cut_row k c else []) g in
+      let is = row_cut touches k cut clip ∙ ap (λ (b : Bool). when b then cut_row k c else []) g in
       (e ∙ ap (λ (xs : List ℤ). n + length xs) (sym is), f ∙ ap (sets out n) (sym is))
 
   pub row_left_out : c.given ≡ false → {r : ℕ} {after : List ℤ} → r ≡ n → after ≡ out → WroteRow touches w s k n r out after
   row_left_out g e f a clip =
-      let is = row_cut touches k cut clip ∙ ap (λ (b : Bool). if b then cut_row k c else []) g in
+      let is = row_cut touches k cut clip ∙ ap (λ (b : Bool). when b then cut_row k c else []) g in
       (omega (arith, e, ap length is), f ∙ ap (sets out n) (sym is))
 
 -- ---- all of them

@@ -15,7 +15,7 @@
 --   RefusesRows touches w zs room r   r is what such a call refuses where its output has `room` numbers: what both calls refuse, then 8
 use Rattle.std.specs.Prelude.{◌≡◌, Bool, true, false, List, [], ◌∷◌, ◌++◌, ℕ, suc, ◌+◌, ◌≤◌, ℤ, pos, length}
 use Rattle.std.proofs.lemmas.List.Edits.{sets}
-use Rattle.whole.specs.Choice.{if◌then◌else◌}
+use Rattle.whole.specs.Choice.{when◌then◌else◌}
 use Rattle.grid.specs.declared.Answer.{Answer}
 use Rattle.grid.specs.declared.Refusal.{Refusal}
 use Rattle.grid.specs.declared.Stroke.{Stroke}
@@ -32,7 +32,7 @@ abbrev pub five_of : ℕ → StrokeAnswer → List ℤ
 five_of k a = pos k ∷ a.ax ∷ a.ay ∷ a.bx ∷ a.by ∷ []
 
 abbrev pub row : Bool → ℕ → StrokeAnswer → List ℤ
-row touches k a = if is_given touches a then five_of k a else []
+row touches k a = when is_given touches a then five_of k a else []
 
 unfoldable pub rows : Bool → ℕ → List StrokeAnswer → List ℤ
 rows touches k [] = []

@@ -8,7 +8,7 @@ use native.Mathlib.Omega.{arith}
 use lib.IntN.{ℤ}
 use lib.ListN.{length, take, drop, get_or, set, take-append-drop}
 use lib.Seq.{take-add}
-use Rattle.whole.specs.Choice.{if◌then◌else◌}
+use Rattle.whole.specs.Choice.{when◌then◌else◌}
 use Rattle.whole.proofs.Comparisons.{tt_ff}
 use Rattle.grid.specs.declared.Window.{Window}
 use Rattle.slots.specs.Slots.{Slot, slots_of, slot_at, slot_of, free_slot, in_use}
@@ -50,8 +50,8 @@ rows_entered (s ∷ ss) m (suc k) w h f = go (in_use s) (rows_entered ss (suc m)
 
     go : (b : Bool) → rows_text (suc m) (set ss k (slot_of 1 w)) ≡ rows_text (suc m) ss ++ row_text (suc m + k) w
         → let behind = rows_text (suc m) (set ss k (slot_of 1 w)) in
-        (if b then row_text m s.strip ++ behind else behind)
-        ≡ (if b then row_text m s.strip ++ rows_text (suc m) ss else rows_text (suc m) ss) ++ row_text (m + suc k) w
+        (when b then row_text m s.strip ++ behind else behind)
+        ≡ (when b then row_text m s.strip ++ rows_text (suc m) ss else rows_text (suc m) ss) ++ row_text (m + suc k) w
     go true e =
         ap (λ (x : List ℕ). row_text m s.strip ++ x) e
         ∙ sym (append_assoc (row_text m s.strip) (rows_text (suc m) ss) (row_text (suc m + k) w))

@@ -8,7 +8,7 @@ use borrow.Author.Tests.{eq-eqb, eqb-true, eqb-false}
 use lib.Dec.{eqb}
 use lib.IntN.{ℤ}
 use lib.ListN.{length}
-use Rattle.whole.specs.Choice.{if◌then◌else◌}
+use Rattle.whole.specs.Choice.{when◌then◌else◌}
 use Rattle.grid.specs.Calls.{Refused, Lent, refused_by, gives_all, answered_by, Given}
 use Rattle.grid.specs.Refusals.{none, refuse, first, window_refusal, room_refusal}
 use Rattle.grid.specs.declared.Answer.{Answer}
@@ -50,8 +50,8 @@ given_number : (xs : List ℤ) (room : ℕ) → (answered_by refused_by gives_al
 unfolding answered_by first
 given_number xs room = go (eqb (room_refusal (length xs) room).number 0)
   where
-    go : (b : Bool) → (if b then gives_all xs else refused_by (room_refusal (length xs) room)).number
-        ≡ (if b then none else room_refusal (length xs) room).number
+    go : (b : Bool) → (when b then gives_all xs else refused_by (room_refusal (length xs) room)).number
+        ≡ (when b then none else room_refusal (length xs) room).number
     go true = refl
     go false = refl
 
@@ -80,11 +80,11 @@ pub answered_by_lem : (e : Event) (before after : List ℤ) {r : Refusal} → In
 answered_by_lem e before after p q = number_refused e before after p ∙ ap (λ (r : Refusal). r.number) q
 
 -- ---- what is known where nothing is refused
-pub passed : (b : Bool) (n : ℕ) → (n ≡ 0 → ⊥) → (if b then none else refuse n 0).number ≡ 0 → b ≡ true
+pub passed : (b : Bool) (n : ℕ) → (n ≡ 0 → ⊥) → (when b then none else refuse n 0).number ≡ 0 → b ≡ true
 passed true n h e = refl
 passed false n h e = absurd (h e)
 
-failed : (b : Bool) (n : ℕ) → (n ≡ 0 → ⊥) → (if b then refuse n 0 else none).number ≡ 0 → b ≡ false
+failed : (b : Bool) (n : ℕ) → (n ≡ 0 → ⊥) → (when b then refuse n 0 else none).number ≡ 0 → b ≡ false
 failed true n h e = absurd (h e)
 failed false n h e = refl
 

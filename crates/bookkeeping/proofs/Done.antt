@@ -9,7 +9,7 @@ use native.Mathlib.Omega.{arith}
 use lib.IntN.{ℤ, pos, nat_abs}
 use lib.ListN.{length, take, drop, get_or, set}
 use lib.Seq.{get_or-set_same, get_or-set_other, length-sets, take_all, drop_at}
-use Rattle.whole.specs.Choice.{if◌then◌else◌}
+use Rattle.whole.specs.Choice.{when◌then◌else◌}
 use Rattle.whole.proofs.Comparisons.{ff_tt}
 use Rattle.grid.specs.Calls.{Given, gives_all}
 use Rattle.grid.specs.Table.{sides}
@@ -96,8 +96,8 @@ row_of k (suc j) (s ∷ ss) rest u = go (in_use s) (row_of (suc k) j ss rest u)
     row n = pos n ∷ sides (get_or ss j free_slot).strip
 
     go : (b : Bool) → take 5 (drop (5 * below) (listed_from (suc k) ss ++ rest)) ≡ row (suc k + j)
-        → take 5 (drop (5 * length (if b then s.strip ∷ strips_in (take j ss) else strips_in (take j ss)))
-        ((if b then pos k ∷ sides s.strip ++ listed_from (suc k) ss else listed_from (suc k) ss) ++ rest)) ≡ row (k + suc j)
+        → take 5 (drop (5 * length (when b then s.strip ∷ strips_in (take j ss) else strips_in (take j ss)))
+        ((when b then pos k ∷ sides s.strip ++ listed_from (suc k) ss else listed_from (suc k) ss) ++ rest)) ≡ row (k + suc j)
     go true e =
         ap (λ (n : ℕ). take 5 (drop n ((pos k ∷ sides s.strip ++ listed_from (suc k) ss) ++ rest))) five ∙ e ∙ ap row next
     go false e = e ∙ ap row next

@@ -9,7 +9,7 @@ use borrow.Author.Tests.{eq-eqb, ne_eqb, lt-ltb, le-ltb}
 use lib.Dec.{eqb, eqb-suc-suc}
 use lib.IntN.{ℤ, pos, negsuc}
 use lib.ListN.{length, get_or, set}
-use Rattle.whole.specs.Choice.{if◌then◌else◌}
+use Rattle.whole.specs.Choice.{when◌then◌else◌}
 use Rattle.whole.proofs.Comparisons.{tt_ff}
 use Rattle.grid.specs.Table.{sides}
 use Rattle.grid.specs.declared.Window.{Window}
@@ -22,7 +22,7 @@ use Rattle.bookkeeping.specs.Runs.{entries_from}
 
 -- the entries of a slot and of those after it, by whether it is in use
 abbrev entries_if : Bool → ℕ → Slot → List Slot → List Entry
-entries_if b k s ss = if b then entry k s.strip ∷ entries_from (suc k) ss else entries_from (suc k) ss
+entries_if b k s ss = when b then entry k s.strip ∷ entries_from (suc k) ss else entries_from (suc k) ss
 
 -- the next number, and as many numbers on
 next_number : (k j : ℕ) → k + suc j ≡ suc k + j
@@ -35,7 +35,7 @@ entries_strips k [] = refl
 entries_strips k (s ∷ ss) = go (in_use s) (entries_strips (suc k) ss)
   where
     go : (b : Bool) → strips (entries_from (suc k) ss) ≡ strips_in ss
-        → strips (entries_if b k s ss) ≡ (if b then s.strip ∷ strips_in ss else strips_in ss)
+        → strips (entries_if b k s ss) ≡ (when b then s.strip ∷ strips_in ss else strips_in ss)
     go true e = ap (λ (ws : List Window). s.strip ∷ ws) e
     go false e = e
 
@@ -95,7 +95,7 @@ first_missing_lem k [] = omega arith
 first_missing_lem k (s ∷ ss) = go (in_use s) (first_missing_lem (suc k) ss)
   where
     go : (b : Bool) → first_missing (suc k) (entries_from (suc k) ss) ≡ suc k + lowest_free ss
-        → first_missing k (entries_if b k s ss) ≡ k + (if b then suc (lowest_free ss) else 0)
+        → first_missing k (entries_if b k s ss) ≡ k + (when b then suc (lowest_free ss) else 0)
     go true e = simp (eq-eqb k k refl) (e ∙ sym (next_number k (lowest_free ss)))
     go false e = missing_below k (omega arith) (entries_rise (suc k) ss) ∙ sym (add-zero k)
 
@@ -141,7 +141,7 @@ unfolding any struck_out
 struck_absent z [] h = refl
 struck_absent z (e ∷ es) h = go (number_is e.number z) h (struck_absent z es)
   where
-    go : (b : Bool) → (b || has z es) ≡ false → (has z es ≡ false → struck_out z es ≡ es) → (if b then es else e ∷ struck_out z es) ≡ e ∷ es
+    go : (b : Bool) → (b || has z es) ≡ false → (has z es ≡ false → struck_out z es ≡ es) → (when b then es else e ∷ struck_out z es) ≡ e ∷ es
     go true h f = absurd (tt_ff h)
     go false h f = ap (λ (rest : List Entry). e ∷ rest) (f h)
 
@@ -164,7 +164,7 @@ leaves k (suc j) (s ∷ ss) = go (in_use s) (leaves (suc k) j ss)
 
 -- ---- the entries listed
 abbrev listed_if : Bool → ℕ → Slot → List Slot → List ℤ
-listed_if b k s ss = if b then pos k ∷ sides s.strip ++ listed_from (suc k) ss else listed_from (suc k) ss
+listed_if b k s ss = when b then pos k ∷ sides s.strip ++ listed_from (suc k) ss else listed_from (suc k) ss
 
 pub lists : (k : ℕ) (ss : List Slot) → entries_listed (entries_from k ss) ≡ listed_from k ss
 unfolding entries_from entries_listed listed_from

@@ -6,7 +6,7 @@ use Prim.Native.Nat.{ℕ, zero, suc, ◌<◌}
 use native.Mathlib.Omega.{arith}
 use borrow.Author.Tests.{not-true, not-false}
 use lib.ListN.{length, get_or}
-use Rattle.whole.specs.Choice.{if◌then◌else◌}
+use Rattle.whole.specs.Choice.{when◌then◌else◌}
 use Rattle.whole.proofs.Comparisons.{ff_tt, tt_ff}
 use Rattle.grid.specs.declared.Window.{Window}
 use Rattle.racks.specs.Areas.{shares_area}
@@ -25,7 +25,7 @@ module _ (P : Window → Bool) where
   strips_all (s ∷ ss) = go (in_use s) (strips_all ss)
     where
       go : (b : Bool) → all P (strips_in ss) ≡ all where_used ss
-          → all P (if b then s.strip ∷ strips_in ss else strips_in ss) ≡ ((not b || P s.strip) && all where_used ss)
+          → all P (when b then s.strip ∷ strips_in ss else strips_in ss) ≡ ((not b || P s.strip) && all where_used ss)
       go true e = ap (λ (t : Bool). P s.strip && t) e
       go false e = e
 
@@ -69,7 +69,7 @@ apart_at (s ∷ ss) e zero (suc k) l u v =
     no_strip (shares_area s.strip) ss (not-true _ clear) k v
 apart_at (s ∷ ss) e (suc j) (suc k) l u v = apart_at ss (go (in_use s) e) j k (omega arith) u v
   where
-    go : (b : Bool) → no_two_share (if b then s.strip ∷ strips_in ss else strips_in ss) ≡ true → no_two_share (strips_in ss) ≡ true
+    go : (b : Bool) → no_two_share (when b then s.strip ∷ strips_in ss else strips_in ss) ≡ true → no_two_share (strips_in ss) ≡ true
     go true e = ((and-eq-true_iff (not (any (shares_area s.strip) (strips_in ss))) (no_two_share (strips_in ss))).0 e).1
     go false e = e
 
@@ -105,7 +105,7 @@ not_apart (s ∷ ss) e = go (in_use s) refl e (not_apart ss)
         record { one = 0; other = suc k.0; before = omega arith; among = omega arith; used_one = u; used_other = k.2; shares = k.3 }
     first u false p e f = later (f e)
 
-    go : (b : Bool) → in_use s ≡ b → no_two_share (if b then s.strip ∷ strips_in ss else strips_in ss) ≡ false
+    go : (b : Bool) → in_use s ≡ b → no_two_share (when b then s.strip ∷ strips_in ss else strips_in ss) ≡ false
         → (no_two_share (strips_in ss) ≡ false → Sharing ss) → Sharing (s ∷ ss)
     go true u e f = first u (any (shares_area s.strip) (strips_in ss)) refl e f
     go false u e f = later (f e)

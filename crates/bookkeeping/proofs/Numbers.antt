@@ -9,7 +9,7 @@ use lib.Dec.{eqb, leb, ltb}
 use lib.IntN.{ℤ}
 use lib.ListN.{length}
 use lib.Signed.{lt_z}
-use Rattle.whole.specs.Choice.{if◌then◌else◌}
+use Rattle.whole.specs.Choice.{when◌then◌else◌}
 use Rattle.whole.proofs.Comparisons.{by-test}
 use Rattle.grid.specs.Refusals.{window_off, no_window, no_room, none, refuse, first, off_table, no_area, window_refusal, room_refusal}
 use Rattle.grid.specs.Table.{first_off, sides}
@@ -38,7 +38,7 @@ lesser n l = record { below = l; placed = λ _ _. refl }
 nothing : Lesser none
 nothing = lesser 0 (omega arith)
 
-by_either : (b : Bool) {x y : Refusal} → Lesser x → Lesser y → Lesser (if b then x else y)
+by_either : (b : Bool) {x y : Refusal} → Lesser x → Lesser y → Lesser (when b then x else y)
 by_either b h k = by-test b Lesser (λ _. h) (λ _. k)
 
 first_lesser : {rs : List Refusal} → All Lesser rs → Lesser (first rs)

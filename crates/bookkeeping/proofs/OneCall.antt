@@ -10,7 +10,7 @@ use borrow.Author.Tests.{leb-true, leb-false}
 use lib.Dec.{leb}
 use lib.IntN.{ℤ, pos, negsuc}
 use lib.ListN.{length}
-use Rattle.whole.specs.Choice.{if◌then◌else◌}
+use Rattle.whole.specs.Choice.{when◌then◌else◌}
 use Rattle.whole.proofs.Comparisons.{ff_tt, tt_ff}
 use Rattle.grid.specs.Calls.{refused_by, answered_by, written, Given}
 use Rattle.grid.specs.Refusals.{window_off, no_room, none, refuse, first, window_refusal, room_refusal}
@@ -154,7 +154,7 @@ no_room_exactly renter zs a before after p known b = go (leb need (length before
     need : ℕ
     need = length (listed_from 0 (half renter zs))
 
-    answered : a.number ≡ (first ((if leb need (length before) then none else refuse no_room need) ∷ [])).number
+    answered : a.number ≡ (first ((when leb need (length before) then none else refuse no_room need) ∷ [])).number
     answered = number_refused (listing renter before a after) zs zs (p, refl) ∙ rw (known, b)
 
     full : ℕ

@@ -10,7 +10,7 @@ use borrow.Author.Tests.{eq-eqb, ne_eqb, eqb-true, eqb-false}
 use lib.Dec.{eqb}
 use lib.IntN.{ℤ, pos, negsuc, nat_abs}
 use lib.ListN.{length, set}
-use Rattle.whole.specs.Choice.{if◌then◌else◌}
+use Rattle.whole.specs.Choice.{when◌then◌else◌}
 use Rattle.whole.proofs.Comparisons.{ff_tt}
 use Rattle.grid.specs.Calls.{Refused, Lent, refused_by, Call}
 use Rattle.grid.specs.Refusals.{none, refuse, first}
@@ -115,8 +115,8 @@ unfolding first
 none_refuses [] z = refl
 none_refuses (r ∷ rs) z = go (eqb r.number 0) refl z (none_refuses rs)
   where
-    go : (t : Bool) → eqb r.number 0 ≡ t → (if t then first rs else r).number ≡ 0 → ((first rs).number ≡ 0 → first rs ≡ none)
-        → (if t then first rs else r) ≡ none
+    go : (t : Bool) → eqb r.number 0 ≡ t → (when t then first rs else r).number ≡ 0 → ((first rs).number ≡ 0 → first rs ≡ none)
+        → (when t then first rs else r) ≡ none
     go true e z h = h z
     go false e z h = absurd (eqb-false r.number 0 e z)
 
@@ -166,7 +166,7 @@ module _ (renter : ℤ) (zs : List ℤ) (b : is_book zs ≡ true) where
   unfolding listing_refusal renter_refusal table_refusal first
   same_listing = rw b (go (is_renter renter))
     where
-      go : (t : Bool) → first ((if t then none else refuse unknown_renter 0) ∷ none ∷ []) ≡ (if t then none else refuse unknown_renter 0)
+      go : (t : Bool) → first ((when t then none else refuse unknown_renter 0) ∷ none ∷ []) ≡ (when t then none else refuse unknown_renter 0)
       go true = refl
       go false = refl
 

@@ -8,7 +8,7 @@ use native.Mathlib.Omega.{arith}
 use lib.IntN.{ℤ, pos, nat_abs}
 use lib.ListN.{take, set, take-append-drop}
 use lib.Seq.{sets, take_all}
-use Rattle.whole.specs.Choice.{if◌then◌else◌}
+use Rattle.whole.specs.Choice.{when◌then◌else◌}
 use Rattle.whole.proofs.Comparisons.{tt_ff}
 use Rattle.grid.specs.declared.Window.{Window}
 use Rattle.slots.specs.Slots.{Slot, slots_of, strips_in, in_use, is_book, number_is, slot_numbers}
@@ -26,7 +26,7 @@ strips_both [] ts = refl
 strips_both (s ∷ ss) ts = go (in_use s) (strips_both ss ts)
   where
     go : (b : Bool) → strips_in (ss ++ ts) ≡ strips_in ss ++ strips_in ts
-        → (if b then s.strip ∷ strips_in (ss ++ ts) else strips_in (ss ++ ts)) ≡ (if b then s.strip ∷ strips_in ss else strips_in ss) ++ strips_in ts
+        → (when b then s.strip ∷ strips_in (ss ++ ts) else strips_in (ss ++ ts)) ≡ (when b then s.strip ∷ strips_in ss else strips_in ss) ++ strips_in ts
     go true e = ap (λ (ws : List Window). s.strip ∷ ws) e
     go false e = e
 
@@ -55,8 +55,8 @@ pub same_leaf : (renter : ℤ) (p : Paper) → on_leaf renter (leaf renter p) p 
 unfolding leaf on_leaf
 same_leaf renter p = go (number_is 0 renter) (number_is 1 renter)
   where
-    go : (a b : Bool) → let es = if a then p.zero's else if b then p.one's else [] in
-        (if a then record { zero's = es; one's = p.one's } else if b then record { zero's = p.zero's; one's = es } else p) ≡ p
+    go : (a b : Bool) → let es = when a then p.zero's else when b then p.one's else [] in
+        (when a then record { zero's = es; one's = p.one's } else when b then record { zero's = p.zero's; one's = es } else p) ≡ p
     go true b = refl
     go false true = refl
     go false false = refl
@@ -66,7 +66,7 @@ pub no_leaf : (renter : ℤ) (p : Paper) → is_renter renter ≡ false → leaf
 unfolding leaf
 no_leaf renter p = go (number_is 0 renter) (number_is 1 renter)
   where
-    go : (a b : Bool) → (a || b) ≡ false → (if a then p.zero's else if b then p.one's else []) ≡ []
+    go : (a b : Bool) → (a || b) ≡ false → (when a then p.zero's else when b then p.one's else []) ≡ []
     go true b e = absurd (tt_ff e)
     go false true e = absurd (tt_ff e)
     go false false e = refl
@@ -76,7 +76,7 @@ unfolding on_leaf
 on_no_leaf renter es p = go (number_is 0 renter) (number_is 1 renter)
   where
     go : (a b : Bool) → (a || b) ≡ false
-        → (if a then record { zero's = es; one's = p.one's } else if b then record { zero's = p.zero's; one's = es } else p) ≡ p
+        → (when a then record { zero's = es; one's = p.one's } else when b then record { zero's = p.zero's; one's = es } else p) ≡ p
     go true b e = absurd (tt_ff e)
     go false true e = absurd (tt_ff e)
     go false false e = refl

@@ -17,7 +17,7 @@
 --   refusal_to_release renter z p   why nothing is struck out: 19, then 18 where no entry of the renter's leaf has the number z
 --   answer_release renter z p   what one who releases z is told;  after_release renter z p: the paper afterwards
 use Rattle.std.specs.Prelude.{Bool, List, [], ◌∷◌, ◌++◌, map, ℕ, suc, ◌≤◌, eqb, ltb, ℤ, pos, length}
-use Rattle.whole.specs.Choice.{if◌then◌else◌}
+use Rattle.whole.specs.Choice.{when◌then◌else◌}
 use Rattle.grid.specs.Refusals.{first, none, refuse, window_refusal}
 use Rattle.grid.specs.Table.{sides}
 use Rattle.grid.specs.declared.Refusal.{Refusal}
@@ -45,18 +45,18 @@ pub data RisingFrom : ℕ → List Entry → Type 0 where
 
 unfoldable pub first_missing : ℕ → List Entry → ℕ
 first_missing n [] = n
-first_missing n (e ∷ es) = if eqb e.number n then first_missing (suc n) es else n
+first_missing n (e ∷ es) = when eqb e.number n then first_missing (suc n) es else n
 
 unfoldable pub entered : ℕ → Window → List Entry → List Entry
 entered n w [] = entry n w ∷ []
-entered n w (e ∷ es) = if ltb e.number n then e ∷ entered n w es else entry n w ∷ e ∷ es
+entered n w (e ∷ es) = when ltb e.number n then e ∷ entered n w es else entry n w ∷ e ∷ es
 
 abbrev pub has : ℤ → List Entry → Bool
 has z = any (λ (e : Entry). number_is e.number z)
 
 unfoldable pub struck_out : ℤ → List Entry → List Entry
 struck_out z [] = []
-struck_out z (e ∷ es) = if number_is e.number z then es else e ∷ struck_out z es
+struck_out z (e ∷ es) = when number_is e.number z then es else e ∷ struck_out z es
 
 unfoldable pub entries_listed : List Entry → List ℤ
 entries_listed [] = []
@@ -72,35 +72,35 @@ abbrev pub blank_paper : Paper
 blank_paper = record { zero's = []; one's = [] }
 
 unfoldable pub leaf : ℤ → Paper → List Entry
-leaf renter p = if number_is 0 renter then p.zero's else if number_is 1 renter then p.one's else []
+leaf renter p = when number_is 0 renter then p.zero's else when number_is 1 renter then p.one's else []
 
 unfoldable pub on_leaf : ℤ → List Entry → Paper → Paper
 on_leaf renter es p =
-    if number_is 0 renter then record { zero's = es; one's = p.one's }
-    else if number_is 1 renter then record { zero's = p.zero's; one's = es } else p
+    when number_is 0 renter then record { zero's = es; one's = p.one's }
+    else when number_is 1 renter then record { zero's = p.zero's; one's = es } else p
 
 -- ---- one who books
 
 unfoldable pub refusal_to_book : ℤ → Window → Paper → Refusal
 refusal_to_book renter w p =
-    let full = if eqb (length (leaf renter p)) 32 then refuse half_full 0 else none in
-    let shared = if any (shares_area w) (strips (p.zero's ++ p.one's)) then refuse strip_taken 0 else none in
+    let full = when eqb (length (leaf renter p)) 32 then refuse half_full 0 else none in
+    let shared = when any (shares_area w) (strips (p.zero's ++ p.one's)) then refuse strip_taken 0 else none in
     first (renter_refusal renter ∷ window_refusal w ∷ full ∷ shared ∷ [])
 
 unfoldable pub answer_booking : ℤ → Window → Paper → BookingAnswer
 answer_booking renter w p =
     let r = refusal_to_book renter w p in
-    if eqb r.number 0 then booked_in (first_missing 0 (leaf renter p)) else refused_booking r
+    when eqb r.number 0 then booked_in (first_missing 0 (leaf renter p)) else refused_booking r
 
 unfoldable pub after_booking : ℤ → Window → Paper → Paper
 after_booking renter w p =
     let own = leaf renter p in
-    if eqb (refusal_to_book renter w p).number 0 then on_leaf renter (entered (first_missing 0 own) w own) p else p
+    when eqb (refusal_to_book renter w p).number 0 then on_leaf renter (entered (first_missing 0 own) w own) p else p
 
 -- ---- one who releases
 
 unfoldable pub refusal_to_release : ℤ → ℤ → Paper → Refusal
-refusal_to_release renter z p = first (renter_refusal renter ∷ (if has z (leaf renter p) then none else refuse slot_not_in_use 0) ∷ [])
+refusal_to_release renter z p = first (renter_refusal renter ∷ (when has z (leaf renter p) then none else refuse slot_not_in_use 0) ∷ [])
 
 unfoldable pub answer_release : ℤ → ℤ → Paper → ReleaseAnswer
 answer_release renter z p = release_answer (refusal_to_release renter z p)

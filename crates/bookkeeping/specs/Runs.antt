@@ -10,7 +10,7 @@
 --   entries_from k ss         the slots in use among ss as entries, the first of ss having the number k
 --   entries_of renter zs      the slots in use of a renter's half as entries;  paper_of zs: of both halves
 use Rattle.std.specs.Prelude.{◌≡◌, List, [], ◌∷◌, ℕ, suc, ℤ, pos, replicate}
-use Rattle.whole.specs.Choice.{if◌then◌else◌}
+use Rattle.whole.specs.Choice.{when◌then◌else◌}
 use Rattle.grid.specs.Calls.{Call}
 use Rattle.grid.specs.declared.Answer.{Answer}
 use Rattle.grid.specs.declared.Window.{Window}
@@ -64,7 +64,7 @@ FromEmpty events book = RunOfCalls InBook empty_book events book
 
 unfoldable pub entries_from : ℕ → List Slot → List Entry
 entries_from k [] = []
-entries_from k (s ∷ ss) = if in_use s then entry k s.strip ∷ entries_from (suc k) ss else entries_from (suc k) ss
+entries_from k (s ∷ ss) = when in_use s then entry k s.strip ∷ entries_from (suc k) ss else entries_from (suc k) ss
 
 abbrev pub entries_of : ℤ → List ℤ → List Entry
 entries_of renter zs = entries_from 0 (half renter zs)

@@ -9,7 +9,7 @@
 --   ReleasesAs renter z before after text number   the slot z is released in the table `before`: the answer and the table after it
 --   SlotOf renter z k        k is a slot of the table, namely the renter's slot z where he has one of that number
 use Rattle.std.specs.Prelude.{◌≡◌, true, List, ℕ, ◌+◌, ◌<◌, eqb, ℤ, pos, nat_abs, ◌≤ℤ◌}
-use Rattle.whole.specs.Choice.{if◌then◌else◌}
+use Rattle.whole.specs.Choice.{when◌then◌else◌}
 use Rattle.grid.specs.declared.Window.{Window}
 use Rattle.intake.specs.Millimetres.{WindowToGrid}
 use Rattle.intake.specs.declared.WindowMm.{WindowMm}
@@ -25,7 +25,7 @@ use Rattle.answers.specs.Answers.{refusal_text, strip_refusal_text, Exactly}
 -- ---- a strip is booked
 
 unfoldable pub booking_text : ℤ → Window → BookingAnswer → List ℕ
-booking_text renter w b = if eqb b.number 0 then row_text (first_slot renter + nat_abs b.slot) w else strip_refusal_text b.number b.place w
+booking_text renter w b = when eqb b.number 0 then row_text (first_slot renter + nat_abs b.slot) w else strip_refusal_text b.number b.place w
 
 pub record BooksOnGrid (renter : ℤ) (w : Window) (before after : List ℤ) (text : List ℕ) (number : ℕ) : Type 0 where
   pub answer : BookingAnswer
@@ -45,7 +45,7 @@ held_in zs k = (slot_at zs k).strip
 
 unfoldable pub release_text : ℤ → ℤ → List ℤ → ReleaseAnswer → List ℕ
 release_text renter z zs b =
-    let k = first_slot renter + nat_abs z in if eqb b.number 0 then row_text k (held_in zs k) else refusal_text b.number b.place
+    let k = first_slot renter + nat_abs z in when eqb b.number 0 then row_text k (held_in zs k) else refusal_text b.number b.place
 
 pub record ReleasesAs (renter z : ℤ) (before after : List ℤ) (text : List ℕ) (number : ℕ) : Type 0 where
   pub answer : ReleaseAnswer

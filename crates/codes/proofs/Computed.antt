@@ -7,7 +7,7 @@ use native.Mathlib.Omega.{arith}
 use lib.Dec.{eqb, ltb}
 use lib.IntN.{ℤ, pos, ◌-ℤ◌}
 use lib.Signed.{lt_z}
-use Rattle.whole.specs.Choice.{if◌then◌else◌}
+use Rattle.whole.specs.Choice.{when◌then◌else◌}
 use Rattle.whole.specs.Within.{Within}
 use Rattle.whole.proofs.Comparisons.{by-test, lt_yes, lt_no}
 use Rattle.fraction.specs.declared.Fraction.{Fraction}
@@ -33,7 +33,7 @@ use Rattle.codes.proofs.Shortenings.{span, Ordered, Reached, reached_first, reac
 -- ---- one shortening
 unfoldable pub meeting_of : ℤ → ℤ → ℤ → Fraction
 meeting_of c a b =
-    if lt_z (b -ℤ a) (pos 0)
+    when lt_z (b -ℤ a) (pos 0)
     then record { num = pos 0 -ℤ (c -ℤ a); den = pos 0 -ℤ (b -ℤ a) }
     else record { num = c -ℤ a; den = b -ℤ a }
 
@@ -46,7 +46,7 @@ abbrev crossing_of : Window → Stroke → Side → Fraction
 crossing_of w s k = meeting_of (number_of w k) (from s k) (to s k)
 
 unfoldable pub step_of : Window → Stroke → Fraction → Fraction → Span
-step_of w s f g = if ltb (decided w s f g) 6 then span (crossing_of w s (side_at (lowest_bit (code w s f)))) g else span f (crossing_of w s (side_at (lowest_bit (code w s g))))
+step_of w s f g = when ltb (decided w s f g) 6 then span (crossing_of w s (side_at (lowest_bit (code w s f)))) g else span f (crossing_of w s (side_at (lowest_bit (code w s g))))
 
 module _ {w : Window} {s : Stroke} (hw : WindowOnTable w) (hs : StrokeOnTable s) where
   crosses : (k : Side) → Apart s k → OnLine w s k (crossing_of w s k)
@@ -70,7 +70,7 @@ module _ {w : Window} {s : Stroke} (hw : WindowOnTable w) (hs : StrokeOnTable s)
 -- ---- the count, by n looks at the codes at most
 unfoldable pub count_of : ℕ → Window → Stroke → Fraction → Fraction → ℕ
 count_of zero w s f g = 0
-count_of (suc n) w s f g = if ltb (decided w s f g) 2 then 0 else suc (count_of n w s (step_of w s f g).first (step_of w s f g).last)
+count_of (suc n) w s f g = when ltb (decided w s f g) 2 then 0 else suc (count_of n w s (step_of w s f g).first (step_of w s f g).last)
 
 ended : {w : Window} {s : Stroke} (f g : Fraction) → decided w s f g < 2 → Run w s f g 0
 ended {w} {s} f g h = go (decided w s f g) refl
@@ -95,7 +95,7 @@ module _ {w : Window} {s : Stroke} (hw : WindowOnTable w) (hs : StrokeOnTable s)
 unfoldable pub counted_of : Window → Stroke → CountedAnswer
 counted_of w s = record {
   answer = answer_of w s;
-  shortenings = if eqb (stroke_call_refusal w s).number 0 then count_of 5 w s zeroth unit else 0;
+  shortenings = when eqb (stroke_call_refusal w s).number 0 then count_of 5 w s zeroth unit else 0;
 }
 
 pub counted_of_is : (w : Window) (s : Stroke) → CohenSutherland w s (counted_of w s)

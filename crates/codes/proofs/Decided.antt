@@ -9,7 +9,7 @@ use lib.Dec.{T, eqb, leb, ltb, eqb→eq, eqb_refl, ltb→lt, le→leb, lt→ltb,
 use lib.IntN.{pos}
 use lib.Signed.{◌≤ℤ◌, ◌<ℤ◌, lt_z, lt_z_yes, lt_z_no}
 use mir.Facts.{and_yes, yes_and}
-use Rattle.whole.specs.Choice.{if◌then◌else◌}
+use Rattle.whole.specs.Choice.{when◌then◌else◌}
 use Rattle.fraction.specs.declared.Fraction.{Fraction}
 use Rattle.grid.specs.declared.Stroke.{Stroke}
 use Rattle.grid.specs.declared.Window.{Window}
@@ -112,7 +112,7 @@ module _ {a b : ℕ} (ha : a < 16) (hb : b < 16) where
 
 -- ---- the bits of a point's code
 abbrev joined : Bool → Bool → Bool → Bool → ℕ
-joined l r b t = bit_or (bit_or (if l then 1 else 0) (if r then 2 else 0)) (bit_or (if b then 4 else 0) (if t then 8 else 0))
+joined l r b t = bit_or (bit_or (when l then 1 else 0) (when r then 2 else 0)) (bit_or (when b then 4 else 0) (when t then 8 else 0))
 
 abbrev choice : Bool → Bool → Bool → Bool → Side → Bool
 choice l r b t left = l

@@ -7,7 +7,7 @@ use lib.Bits.{bit_or}
 use lib.IntN.{ℤ, pos}
 use lib.Signed.{lt_z}
 use Rattle.whole.proofs.Comparisons.{diff_test}
-use Rattle.whole.specs.Choice.{if◌then◌else◌}
+use Rattle.whole.specs.Choice.{when◌then◌else◌}
 use Rattle.whole.specs.Within.{Within}
 use Rattle.whole.proofs.Expressions.{con, ◌⊕◌, ◌⊖◌, ◌⊗◌, x0, x1, x2}
 use Rattle.whole.proofs.Order.{zarith}
@@ -103,13 +103,13 @@ module _ (lo hi a b : ℤ) (under over : ℕ) where
   marks_start =
       let low = diff_test a lo ∙ ap (lt_z (pos 0)) (ring (lo ∷ a ∷ b ∷ []) (x0 ⊖ x1) (x0 ⊗ con (pos 1) ⊖ (x1 ⊗ con (pos 1) ⊕ con (pos 0) ⊗ (x2 ⊖ x1))) tt) in
       let high = diff_test hi a ∙ ap (lt_z (pos 0)) (ring (hi ∷ a ∷ b ∷ []) (x1 ⊖ x0) (x1 ⊗ con (pos 1) ⊕ con (pos 0) ⊗ (x2 ⊖ x1) ⊖ x0 ⊗ con (pos 1)) tt) in
-      λ i. bit_or (if low i then under else 0) (if high i then over else 0)
+      λ i. bit_or (when low i then under else 0) (when high i then over else 0)
 
   marks_end : marks_of lo hi b under over ≡ outside_of lo hi a b unit under over
   marks_end =
       let low = diff_test b lo ∙ ap (lt_z (pos 0)) (ring (lo ∷ a ∷ b ∷ []) (x0 ⊖ x2) (x0 ⊗ con (pos 1) ⊖ (x1 ⊗ con (pos 1) ⊕ con (pos 1) ⊗ (x2 ⊖ x1))) tt) in
       let high = diff_test hi b ∙ ap (lt_z (pos 0)) (ring (hi ∷ a ∷ b ∷ []) (x2 ⊖ x0) (x1 ⊗ con (pos 1) ⊕ con (pos 1) ⊗ (x2 ⊖ x1) ⊖ x0 ⊗ con (pos 1)) tt) in
-      λ i. bit_or (if low i then under else 0) (if high i then over else 0)
+      λ i. bit_or (when low i then under else 0) (when high i then over else 0)
 
 module _ (w : Window) (s : Stroke) where
   pub start_code : end_code w s.x1 s.y1 ≡ code w s zeroth

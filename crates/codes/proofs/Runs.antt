@@ -8,7 +8,7 @@ use lib.Bits.{bit_or}
 use lib.IntN.{ℤ, pos, ◌*ℤ◌}
 use lib.Signed.{◌<ℤ◌, lt_z}
 use Rattle.whole.proofs.Comparisons.{same_test}
-use Rattle.whole.specs.Choice.{if◌then◌else◌}
+use Rattle.whole.specs.Choice.{when◌then◌else◌}
 use Rattle.whole.proofs.Certificates.{gt_by, eq, po, ◌⊞◌, ◌⊠◌}
 use Rattle.whole.proofs.Expressions.{var, con, ◌⊕◌, ◌⊗◌}
 use Rattle.whole.proofs.Order.{zarith}
@@ -65,8 +65,8 @@ module _ (w : Window) (s : Stroke) where
 
   code_same : {f g : Fraction} → Same f g → code w s f ≡ code w s g
   unfolding code
-  code_same h = λ i. bit_or (bit_or (if beyond_same left h i then 1 else 0) (if beyond_same right h i then 2 else 0))
-      (bit_or (if beyond_same bottom h i then 4 else 0) (if beyond_same top h i then 8 else 0))
+  code_same h = λ i. bit_or (bit_or (when beyond_same left h i then 1 else 0) (when beyond_same right h i then 2 else 0))
+      (bit_or (when beyond_same bottom h i then 4 else 0) (when beyond_same top h i then 8 else 0))
 
   decided_same : {f g f' g' : Fraction} → Same f f' → Same g g' → decided w s f g ≡ decided w s f' g'
   decided_same p q = λ i. decision (code_same p i) (code_same q i)

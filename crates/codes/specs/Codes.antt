@@ -10,7 +10,7 @@ use Rattle.std.specs.Prelude.{not, ℕ, ◌+◌, ◌^◌, eqb, ℤ, pos, ◌-ℤ
 use Rattle.std.specs.Int.Bits.{bit_and, bit_or}
 use Rattle.std.specs.Int.Count.{count_trailing_zeros}
 use Rattle.std.specs.Int.Signed.{lt_z}
-use Rattle.whole.specs.Choice.{if◌then◌else◌}
+use Rattle.whole.specs.Choice.{when◌then◌else◌}
 use Rattle.fraction.specs.declared.Fraction.{Fraction}
 use Rattle.fraction.specs.Rounding.{along}
 use Rattle.grid.specs.declared.Stroke.{Stroke}
@@ -24,7 +24,7 @@ past w s bottom f = w.bottom *ℤ f.den -ℤ along s.y1 s.y2 f.num f.den
 past w s top f = along s.y1 s.y2 f.num f.den -ℤ w.top *ℤ f.den
 
 abbrev pub bit : Window → Stroke → Side → Fraction → ℕ
-bit w s k f = if lt_z (pos 0) (past w s k f) then 2 ^ place_of k else 0
+bit w s k f = when lt_z (pos 0) (past w s k f) then 2 ^ place_of k else 0
 
 unfoldable pub code : Window → Stroke → Fraction → ℕ
 code w s f = bit_or (bit_or (bit w s left f) (bit w s right f)) (bit_or (bit w s bottom f) (bit w s top f))
@@ -46,7 +46,7 @@ lowest_bit a = count_trailing_zeros 8 a
 
 unfoldable pub decision : ℕ → ℕ → ℕ
 decision a b =
-    if eqb (bit_or a b) 0 then keep
-    else if not (eqb (bit_and a b) 0) then missed
-    else if not (eqb a 0) then shorten_start (lowest_bit a)
+    when eqb (bit_or a b) 0 then keep
+    else when not (eqb (bit_and a b) 0) then missed
+    else when not (eqb a 0) then shorten_start (lowest_bit a)
     else shorten_end (lowest_bit b)

@@ -14,7 +14,7 @@
 use Rattle.std.specs.Prelude.{◌≡◌, ℕ, ℤ, pos, ◌-ℤ◌, ◌*ℤ◌, ◌≤ℤ◌, ◌<ℤ◌}
 use Rattle.std.specs.Int.Bits.{bit_or}
 use Rattle.std.specs.Int.Signed.{lt_z}
-use Rattle.whole.specs.Choice.{if◌then◌else◌}
+use Rattle.whole.specs.Choice.{when◌then◌else◌}
 use Rattle.whole.specs.Within.{Within}
 use Rattle.fraction.specs.declared.Fraction.{Fraction}
 use Rattle.fraction.specs.Rounding.{along}
@@ -34,11 +34,11 @@ use Rattle.codes.specs.declared.Piece.{Piece}
 
 abbrev pub outside_of : ℤ → ℤ → ℤ → ℤ → Fraction → ℕ → ℕ → ℕ
 outside_of lo hi a b f under over =
-    bit_or (if lt_z (pos 0) (lo *ℤ f.den -ℤ along a b f.num f.den) then under else 0)
-    (if lt_z (pos 0) (along a b f.num f.den -ℤ hi *ℤ f.den) then over else 0)
+    bit_or (when lt_z (pos 0) (lo *ℤ f.den -ℤ along a b f.num f.den) then under else 0)
+    (when lt_z (pos 0) (along a b f.num f.den -ℤ hi *ℤ f.den) then over else 0)
 
 abbrev pub marks_of : ℤ → ℤ → ℤ → ℕ → ℕ → ℕ
-marks_of lo hi x under over = bit_or (if lt_z x lo then under else 0) (if lt_z hi x then over else 0)
+marks_of lo hi x under over = bit_or (when lt_z x lo then under else 0) (when lt_z hi x then over else 0)
 
 abbrev pub end_code : Window → ℤ → ℤ → ℕ
 end_code w x y = bit_or (marks_of w.left w.right x 1 2) (marks_of w.bottom w.top y 4 8)

@@ -4,7 +4,7 @@
 mod decisions;
 
 ghost use Rattle.std.specs.Prelude.{◌≡◌, ◌<◌, ◌≤◌};
-ghost use Rattle.whole.specs.Choice.{if◌then◌else◌};
+ghost use Rattle.whole.specs.Choice.{when◌then◌else◌};
 ghost use Rattle.whole.specs.Within.{Within};
 ghost use Rattle.grid.specs.Table.{farthest, WindowOnTable, StrokeOnTable};
 ghost use Rattle.grid.specs.Refusals.{none};
@@ -51,7 +51,7 @@ struct Piece {
 
 // One bit of a code: set where the point lies beyond the bit's side.
 fn mark(beyond: bool, bit: u8) -> u8
-    ensures { result ≡ (if beyond then bit else 0) }
+    ensures { result ≡ (when beyond then bit else 0) }
 {
     if beyond { bit } else { 0 }
 }

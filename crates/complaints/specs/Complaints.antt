@@ -4,7 +4,7 @@
 --   remark s f        what is said of it: its slip, or the reason where it shows none that is known
 --   complaint t n f   the line that says why the line n of the text t, counted from 1, is not taken
 use Rattle.std.specs.Prelude.{List, ◌++◌, ℕ, ◌-◌, eqb}
-use Rattle.whole.specs.Choice.{if◌then◌else◌}
+use Rattle.whole.specs.Choice.{when◌then◌else◌}
 use Rattle.text.specs.Pages.{ascii, natural}
 use Rattle.pen_line.specs.declared.Fault.{Fault}
 use Rattle.pen_line.specs.declared.Fault.TheVariants.{NoStrip, SecondStrip, UnknownWord, NotNumbers, LongDrawing, LongText}
@@ -14,8 +14,8 @@ use Rattle.slips.specs.declared.Slip.TheVariants.{Mark, Unseen, Capital, Comma, 
 
 unfoldable pub expectation : ℕ → List ℕ
 expectation n =
-    if eqb n 0 then ascii "expected nothing after close"
-    else if eqb n 2 then ascii "expected two numbers of up to 9 digits"
+    when eqb n 0 then ascii "expected nothing after close"
+    else when eqb n 2 then ascii "expected two numbers of up to 9 digits"
     else ascii "expected four numbers of up to 9 digits"
 
 unfoldable pub reason : Fault → List ℕ

@@ -10,7 +10,7 @@ use lib.Dec.{eqb}
 use lib.IntN.{ℤ, pos}
 use lib.ListN.{length}
 use lib.Signed.{◌≤ℤ◌, ◌<ℤ◌}
-use Rattle.whole.specs.Choice.{if◌then◌else◌}
+use Rattle.whole.specs.Choice.{when◌then◌else◌}
 use Rattle.whole.proofs.Comparisons.{tt_ff, lt_yes, lt_no}
 use Rattle.whole.proofs.Order.{zarith}
 use Rattle.rings.specs.Points.{Left}
@@ -32,7 +32,7 @@ change_of_lem zs i = change_of (edge_of zs i) (edge_of zs (suc i))
 
 -- ---- a change is a rise or a fall
 abbrev one_if : Bool → ℕ
-one_if x = if x then 1 else 0
+one_if x = when x then 1 else 0
 
 pub change_most : (a b : Way) → change_of a b ≤ 1
 unfolding change_of

@@ -11,7 +11,7 @@ use lib.Ieee.Bits.{is_true}
 use lib.IntN.{ℤ, pos}
 use lib.ListN.{length}
 use lib.Signed.{◌<ℤ◌, lt_z}
-use Rattle.whole.specs.Choice.{if◌then◌else◌}
+use Rattle.whole.specs.Choice.{when◌then◌else◌}
 use Rattle.whole.proofs.Comparisons.{lt_yes}
 use Rattle.whole.proofs.Order.{zarith}
 use Rattle.rings.specs.Lists.{All, ∅, ◌◂◌}
@@ -39,7 +39,7 @@ pub next_edge : {n i : ℕ} → i < n → Edge n i (next n i)
 unfolding next
 next_edge {n} {i} h = go (eqb (suc i) n) refl
   where
-    go : (b : Bool) → eqb (suc i) n ≡ b → Edge n i (if b then 0 else suc i)
+    go : (b : Bool) → eqb (suc i) n ≡ b → Edge n i (when b then 0 else suc i)
     go true e = closing (eqb-true (suc i) n e)
     go false e = let l = eqb-false (suc i) n e in along {i = i} (omega arith)
 

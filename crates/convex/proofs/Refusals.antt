@@ -8,13 +8,13 @@ use borrow.Author.Tests.{eqb-true, leb-true}
 use lib.Dec.{eqb, leb}
 use lib.IntN.{ℤ}
 use lib.ListN.{length}
-use Rattle.whole.specs.Choice.{if◌then◌else◌}
+use Rattle.whole.specs.Choice.{when◌then◌else◌}
 use Rattle.grid.specs.Refusals.{refuse, none}
 use Rattle.grid.specs.Table.{NumbersOnTable}
 use Rattle.convex.specs.Corners.{corners_of, strictly_convex, fewest, most_corners, right_count, count_refusal, convex_refusal, CornersOnTable}
 
 -- ---- a test that is not refused by number n is passed
-pub passed : {n : ℕ} (b : Bool) → (n ≡ 0 → ⊥) → (if b then none else refuse n 0).number ≡ 0 → b ≡ true
+pub passed : {n : ℕ} (b : Bool) → (n ≡ 0 → ⊥) → (when b then none else refuse n 0).number ≡ 0 → b ≡ true
 passed true h e = refl
 passed false h e = absurd (h e)
 

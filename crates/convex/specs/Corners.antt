@@ -13,7 +13,7 @@
 --   CornersOnTable zs        zs are 3 to 64 corners, two numbers each, all on the table
 use Rattle.std.specs.Prelude.{◌≡◌, Bool, true, ◌&&◌, ◌||◌, List, [], ◌∷◌, ℕ, zero, suc, ◌*◌, ◌%◌, ◌≤◌, eqb, leb, ℤ, pos, length}
 use Rattle.std.specs.Int.Signed.{lt_z}
-use Rattle.whole.specs.Choice.{if◌then◌else◌}
+use Rattle.whole.specs.Choice.{when◌then◌else◌}
 use Rattle.grid.specs.declared.Refusal.{Refusal}
 use Rattle.grid.specs.Refusals.{refuse, none}
 use Rattle.grid.specs.Table.{NumbersOnTable}
@@ -35,7 +35,7 @@ every zero f = true
 every (suc n) f = f n && every n f
 
 unfoldable pub next : ℕ → ℕ → ℕ
-next n i = if eqb (suc i) n then 0 else suc i
+next n i = when eqb (suc i) n then 0 else suc i
 
 unfoldable pub joins : ℕ → ℕ → ℕ → Bool
 joins n i j = eqb j i || eqb j (next n i)
@@ -59,10 +59,10 @@ right_count most n = eqb (n % 2) 0 && (leb (2 * fewest) n && leb n (2 * most))
 
 -- ---- refusals
 unfoldable pub count_refusal : ℕ → ℕ → List ℤ → Refusal
-count_refusal most n zs = if right_count most (length zs) then none else refuse n 0
+count_refusal most n zs = when right_count most (length zs) then none else refuse n 0
 
 unfoldable pub convex_refusal : ℕ → List ℤ → Refusal
-convex_refusal n zs = if strictly_convex (corners_of zs) then none else refuse n 0
+convex_refusal n zs = when strictly_convex (corners_of zs) then none else refuse n 0
 
 -- ---- corners in which neither the count nor the range is refused
 pub record CornersOnTable (zs : List ℤ) : Type 0 where

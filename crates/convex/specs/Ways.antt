@@ -10,7 +10,7 @@
 use Rattle.std.specs.Prelude.{Bool, List, ℕ, ◌+◌, ◌*◌, ℤ, pos, ◌-ℤ◌, ◌*ℤ◌, get_or}
 use Rattle.std.specs.Bool.{xor}
 use Rattle.std.specs.Int.Signed.{lt_z}
-use Rattle.whole.specs.Choice.{if◌then◌else◌}
+use Rattle.whole.specs.Choice.{when◌then◌else◌}
 use Rattle.whole.specs.Within.{Within}
 use Rattle.grid.specs.Table.{farthest}
 use Rattle.convex.specs.declared.Corner.{Corner}
@@ -40,4 +40,4 @@ abbrev pub down : Way → Bool
 down w = lt_z w.y (pos 0)
 
 unfoldable pub change_of : Way → Way → ℕ
-change_of a b = if xor (down a) (down b) then 1 else 0
+change_of a b = when xor (down a) (down b) then 1 else 0

@@ -7,7 +7,7 @@ use borrow.Author.Tests.{eqb-true, eqb-false}
 use lib.Dec.{eqb}
 use lib.IntN.{ℤ}
 use lib.ListN.{length}
-use Rattle.whole.specs.Choice.{if◌then◌else◌}
+use Rattle.whole.specs.Choice.{when◌then◌else◌}
 use Rattle.whole.proofs.Comparisons.{by-test}
 use Rattle.fraction.specs.Fraction.{less_than}
 use Rattle.fraction.proofs.Computed.{lowest_of, lowest_of_is}
@@ -30,7 +30,7 @@ clipped_of cs s =
     let r = kept_of (edge_conditions cs s) in
     let f = r.span.first in
     let l = r.span.last in
-    if less_than l f then blank_answer none else record {
+    when less_than l f then blank_answer none else record {
       number = 0;
       place = 0;
       kept = true;
@@ -51,7 +51,7 @@ clipped_of_is {zs} {s} hc hs =
     (λ e. clip_kept cs s g e (lowest_of_is _ g.span.proper.den0) (lowest_of_is _ g.span.proper.den1))
 
 unfoldable pub answer_of : List ℤ → Stroke → CornerAnswer
-answer_of zs s = if eqb (cyrus_beck_refusal zs s).number 0 then clipped_of (corners_of zs) s else blank_answer (cyrus_beck_refusal zs s)
+answer_of zs s = when eqb (cyrus_beck_refusal zs s).number 0 then clipped_of (corners_of zs) s else blank_answer (cyrus_beck_refusal zs s)
 
 pub answer_of_is : (zs : List ℤ) (s : Stroke) → CyrusBeck zs s (answer_of zs s)
 unfolding answer_of

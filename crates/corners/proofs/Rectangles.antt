@@ -10,7 +10,7 @@ use borrow.Author.Tests.{lt-ltb, le-ltb}
 use lib.IntN.{ℤ, pos, ◌*ℤ◌}
 use lib.ListN.{length}
 use lib.Signed.{◌≤ℤ◌, ◌<ℤ◌}
-use Rattle.whole.specs.Choice.{if◌then◌else◌}
+use Rattle.whole.specs.Choice.{when◌then◌else◌}
 use Rattle.whole.specs.Within.{Within}
 use Rattle.whole.proofs.Expressions.{Expr, Env, var, con, ◌⊖◌, ◌⊗◌}
 use Rattle.whole.proofs.Certificates.{Cone, ge, gt, ge_by, clash, po, nn, le, lt, ◌⊞◌, ◌⊠◌}
@@ -215,7 +215,7 @@ on_or_off [] = inl ∅
 on_or_off (z ∷ zs) = go (on_table z) refl (on_or_off zs)
   where
     go : (v : Bool) → on_table z ≡ v → All (Within farthest) zs ⊎ (first_off zs < length zs)
-        → All (Within farthest) (z ∷ zs) ⊎ ((if v then suc (first_off zs) else 0) < suc (length zs))
+        → All (Within farthest) (z ∷ zs) ⊎ ((when v then suc (first_off zs) else 0) < suc (length zs))
     go true e (inl h) = inl (on_within z e ◂ h)
     go true e (inr h) = inr (omega arith)
     go false e h = inr (omega arith)

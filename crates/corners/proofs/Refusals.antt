@@ -5,7 +5,7 @@ use mathlib.Core.List.{List, [], ◌∷◌}
 use native.Mathlib.Omega.{arith}
 use lib.Dec.{ltb}
 use lib.IntN.{ℤ}
-use Rattle.whole.specs.Choice.{if◌then◌else◌}
+use Rattle.whole.specs.Choice.{when◌then◌else◌}
 use Rattle.grid.specs.Refusals.{window_off, no_window, number_off, refuse, none, first, off_table, stroke_refusal}
 use Rattle.grid.specs.Table.{first_off, ends, StrokeOnTable}
 use Rattle.grid.specs.declared.Stroke.{Stroke}
@@ -30,6 +30,6 @@ pub only_stroke : (s : Stroke) → first (stroke_refusal s ∷ []) ≡ stroke_re
 unfolding first stroke_refusal off_table
 only_stroke s = go (ltb (first_off (ends s)) 4)
   where
-    go : (b : Bool) → first ((if b then refuse number_off (first_off (ends s)) else none) ∷ []) ≡ (if b then refuse number_off (first_off (ends s)) else none)
+    go : (b : Bool) → first ((when b then refuse number_off (first_off (ends s)) else none) ∷ []) ≡ (when b then refuse number_off (first_off (ends s)) else none)
     go true = refl
     go false = refl

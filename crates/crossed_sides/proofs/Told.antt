@@ -3,7 +3,7 @@ use mathlib.Core.Path.{subst}
 use mathlib.Core.Bool.{Bool, true, false}
 use Prim.Native.Nat.{ℕ}
 use lib.Signed.{lt_z}
-use Rattle.whole.specs.Choice.{if◌then◌else◌}
+use Rattle.whole.specs.Choice.{when◌then◌else◌}
 use Rattle.whole.proofs.Order.{<→≤}
 use Rattle.grid.specs.declared.Stroke.{Stroke}
 use Rattle.grid.specs.declared.Window.{Window}
@@ -61,7 +61,7 @@ module _ (w : Window) (s : Stroke) (on : WindowOnTable w) {x y : Course}
       go : Facing w.left w.right s.x1 s.x2 x → Leaves (conditions w s) (out_of x)
       go (rising h l r) = from (lt_z s.x1 s.x2) f
         where
-          from : (t : Bool) → FirstOut (if t then 1 else 0) → Leaves (conditions w s) (out_of x)
+          from : (t : Bool) → FirstOut (when t then 1 else 0) → Leaves (conditions w s) (out_of x)
           from true g = subst (Leaves (conditions w s)) r (out_leaves w s on right (first_right g))
           from false g = absurd (not_in_out x (not_back cx) (subst (Leaves (conditions w s)) l (out_leaves w s on left (first_left g))))
       go (falling h l r) = subst (Leaves (conditions w s)) l (out_leaves w s on left (first_left (subst FirstOut (met_low 0 1 (<→≤ h)) f)))
@@ -72,7 +72,7 @@ module _ (w : Window) (s : Stroke) (on : WindowOnTable w) {x y : Course}
       go : Facing w.bottom w.top s.y1 s.y2 y → Leaves (conditions w s) (out_of y)
       go (rising h b t) = from (lt_z s.y1 s.y2) f
         where
-          from : (u : Bool) → FirstOut (if u then 3 else 2) → Leaves (conditions w s) (out_of y)
+          from : (u : Bool) → FirstOut (when u then 3 else 2) → Leaves (conditions w s) (out_of y)
           from true g = subst (Leaves (conditions w s)) t (out_leaves w s on top (first_top g))
           from false g = absurd (not_in_out y (not_back cy) (subst (Leaves (conditions w s)) b (out_leaves w s on bottom (first_bottom g))))
       go (falling h b t) = subst (Leaves (conditions w s)) b (out_leaves w s on bottom (first_bottom (subst FirstOut (met_low 2 3 (<→≤ h)) f)))

@@ -7,7 +7,7 @@ use Prim.Native.Nat.{ℕ, ◌≤◌}
 use native.Mathlib.Omega.{arith}
 use lib.IntN.{ℤ, pos}
 use lib.Signed.{◌<ℤ◌, lt_z}
-use Rattle.whole.specs.Choice.{if◌then◌else◌}
+use Rattle.whole.specs.Choice.{when◌then◌else◌}
 use Rattle.whole.proofs.Comparisons.{by-test}
 use Rattle.whole.proofs.Order.{zarith}
 use Rattle.grid.specs.declared.Stroke.{Stroke}
@@ -53,7 +53,7 @@ met_among : (a b : ℤ) (i j : ℕ) (P : ℕ → Type 0) → P i → P j → P (
 met_among a b i j P p q = by-test (lt_z b a) P (λ e. q) (λ e. p)
 
 same_level : (a b c d : ℤ) (t u : Bool)
-    → (if t then side_met a b 2 3 else side_met c d 0 1) ≡ (if u then side_met a b 2 3 else side_met c d 0 1) → t ≡ u
+    → (when t then side_met a b 2 3 else side_met c d 0 1) ≡ (when u then side_met a b 2 3 else side_met c d 0 1) → t ≡ u
 same_level a b c d true true e = refl
 same_level a b c d false false e = refl
 same_level a b c d true false e =

@@ -13,7 +13,7 @@
 --                       where it goes out, the first is the one that c tells. In a corner of the window it crosses two at once. Beside the window it
 --                       crosses no side, level or not
 use Rattle.std.specs.Prelude.{◌≡◌, Bool, true, false, ◌⊎◌, ℕ, ℤ, pos, ◌-ℤ◌, ◌*ℤ◌, ◌≤ℤ◌, ◌<ℤ◌}
-use Rattle.whole.specs.Choice.{if◌then◌else◌}
+use Rattle.whole.specs.Choice.{when◌then◌else◌}
 use Rattle.grid.specs.declared.Stroke.{Stroke}
 use Rattle.grid.specs.declared.Window.{Window}
 use Rattle.grid.specs.Sides.{Side, left, right, bottom, top}
@@ -53,10 +53,10 @@ abbrev pub OneSide : Window → Stroke → Type 0
 OneSide w s = All (λ (k : Side). pos 0 <ℤ first_corner w s k) four_sides ⊎ All (λ (k : Side). first_corner w s k <ℤ pos 0) four_sides
 
 abbrev pub entry_side : Stroke → Bool → ℕ
-entry_side s level = if level then side_met s.y1 s.y2 2 3 else side_met s.x1 s.x2 0 1
+entry_side s level = when level then side_met s.y1 s.y2 2 3 else side_met s.x1 s.x2 0 1
 
 abbrev pub exit_side : Stroke → Bool → ℕ
-exit_side s level = if level then side_met s.y2 s.y1 2 3 else side_met s.x2 s.x1 0 1
+exit_side s level = when level then side_met s.y2 s.y1 2 3 else side_met s.x2 s.x1 0 1
 
 pub record CrossedBy (w : Window) (s : Stroke) (c : Crossed) : Type 0 where
   pub beside : c.beside ≡ true → OneSide w s

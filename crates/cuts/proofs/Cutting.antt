@@ -3,7 +3,7 @@ use mathlib.Core.Path.{◌≡◌, refl, sym, ap, ◌∙◌, subst}
 use mathlib.Core.Bool.{Bool, true, false, not}
 use Prim.Native.Nat.{ℕ, ◌≤◌}
 use lib.IntN.{ℤ}
-use Rattle.whole.specs.Choice.{if◌then◌else◌}
+use Rattle.whole.specs.Choice.{when◌then◌else◌}
 use Rattle.fraction.proofs.Computed.{lowest_of_is}
 use Rattle.grid.specs.declared.Stroke.{Stroke}
 use Rattle.grid.specs.declared.Window.{Window}
@@ -24,8 +24,8 @@ use Rattle.cuts.proofs.Touching.{left_out_by_ways, given_by_ways}
 
 -- what is given, where it is known whether anything is
 chosen : (touches : Bool) {b : Bool} (a : StrokeAnswer) → is_given touches a ≡ b
-    → (if b then record { given = true; ax = a.ax; ay = a.ay; bx = a.bx; by = a.by } else no_cut) ≡ cut_of touches a
-chosen touches a e = ap (λ (b : Bool). if b then record { given = true; ax = a.ax; ay = a.ay; bx = a.bx; by = a.by } else no_cut) (sym e)
+    → (when b then record { given = true; ax = a.ax; ay = a.ay; bx = a.bx; by = a.by } else no_cut) ≡ cut_of touches a
+chosen touches a e = ap (λ (b : Bool). when b then record { given = true; ax = a.ax; ay = a.ay; bx = a.bx; by = a.by } else no_cut) (sym e)
 
 module _ {w : Window} {s : Stroke} (touches : Bool) where
   -- ---- all of it

@@ -6,7 +6,7 @@
 --   CutIs touches w s c   c is what is given of the stroke s, by its answer
 --   SaysGiven touches w s b   b says whether the stroke s is given, by its answer
 use Rattle.std.specs.Prelude.{◌≡◌, Bool, true, false, not, ◌&&◌, ◌||◌, ℕ, zero, suc, pos}
-use Rattle.whole.specs.Choice.{if◌then◌else◌}
+use Rattle.whole.specs.Choice.{when◌then◌else◌}
 use Rattle.fraction.specs.Fraction.{equal_to}
 use Rattle.grid.specs.declared.Stroke.{Stroke}
 use Rattle.grid.specs.declared.Window.{Window}
@@ -34,7 +34,7 @@ abbrev pub part_cut : End → End → Cut
 part_cut a b = record { given = true; ax = a.x; ay = a.y; bx = b.x; by = b.y }
 
 abbrev pub cut_of : Bool → StrokeAnswer → Cut
-cut_of touches a = if is_given touches a then record { given = true; ax = a.ax; ay = a.ay; bx = a.bx; by = a.by } else no_cut
+cut_of touches a = when is_given touches a then record { given = true; ax = a.ax; ay = a.ay; bx = a.bx; by = a.by } else no_cut
 
 abbrev pub CutIs : Bool → Window → Stroke → Cut → Type 0
 CutIs touches w s c = (a : StrokeAnswer) → Clipped w s a → c ≡ cut_of touches a

@@ -9,7 +9,7 @@ use lib.Dec.{eqb}
 use lib.IntN.{ℤ}
 use lib.ListN.{length, take, drop}
 use lib.Seq.{take_at}
-use Rattle.whole.specs.Choice.{if◌then◌else◌}
+use Rattle.whole.specs.Choice.{when◌then◌else◌}
 use Rattle.grid.specs.Calls.{written, answered_by, GivenBy}
 use Rattle.grid.specs.Refusals.{refuse, no_area, room_refusal, most_strokes}
 use Rattle.grid.specs.declared.Answer.{Answer}
@@ -107,7 +107,7 @@ rows_by_five k [] = refl
 rows_by_five k (a ∷ rest) = go (is_given false a) (rows_by_five (suc k) rest)
   where
     go : (b : Bool) → length (rows false (suc k) rest) % 5 ≡ 0
-        → length ((if b then five_of k a else []) ++ rows false (suc k) rest) % 5 ≡ 0
+        → length ((when b then five_of k a else []) ++ rows false (suc k) rest) % 5 ≡ 0
     go true h = omega arith
     go false h = h
 

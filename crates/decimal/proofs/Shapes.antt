@@ -9,7 +9,7 @@ use native.Mathlib.Omega.{arith}
 use lib.Dec.{lit<}
 use lib.ListN.{length, get_or, take, drop, length-append}
 use lib.Seq.{split_at, length-take-le, take-length, get_or-append_seam, drop-append-add}
-use Rattle.whole.specs.Choice.{if◌then◌else◌}
+use Rattle.whole.specs.Choice.{when◌then◌else◌}
 use Rattle.decimal.specs.Decimals.{is_digit, AllDigits, none, ◌and◌, with_digits, pointed, Plain, bits_of}
 use Rattle.text.specs.Runs.{run}
 use Rattle.text.proofs.Runs.{run_passed}
@@ -51,7 +51,7 @@ unfolding run
 digits_front [] = none
 digits_front (b ∷ bs) = go (is_digit b) refl (digits_front bs)
   where
-    go : (t : Bool) → is_digit b ≡ t → AllDigits (take (run is_digit bs) bs) → AllDigits (take (if t then suc (run is_digit bs) else 0) (b ∷ bs))
+    go : (t : Bool) → is_digit b ≡ t → AllDigits (take (run is_digit bs) bs) → AllDigits (take (when t then suc (run is_digit bs) else 0) (b ∷ bs))
     go true e a = e and a
     go false e a = none
 

@@ -11,7 +11,7 @@
 --   Reads text r         what `decimal::read` promises: r is what text is read as: a number's bits, or nothing where it is no number
 use Rattle.std.specs.Prelude.{◌≡◌, Bool, true, ◌&&◌, List, [], ◌∷◌, ◌++◌, ℕ, ◌+◌, ◌-◌, ◌*◌, ◌^◌, ◌≤◌, ◌<◌, leb, length}
 use lib.Ieee.{binary32, round, to_bits}
-use Rattle.whole.specs.Choice.{if◌then◌else◌}
+use Rattle.whole.specs.Choice.{when◌then◌else◌}
 use Rattle.decimal.specs.declared.Reading.{Reading}
 use Rattle.decimal.specs.declared.Reading.TheVariants.{Number, Nothing}
 
@@ -48,7 +48,7 @@ pub record Plain (text : List ℕ) (n k : ℕ) : Type 0 where
   pub places : k ≡ length behind
 
 abbrev pub with_minus : Bool → List ℕ → List ℕ
-with_minus s text = if s then minus ∷ text else text
+with_minus s text = when s then minus ∷ text else text
 
 pub record Decimal (text : List ℕ) (s : Bool) (n k : ℕ) : Type 0 where
   pub rest : List ℕ

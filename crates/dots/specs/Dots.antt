@@ -8,7 +8,7 @@
 --   points e zs xs n       all points dark, 10 thousandths of the view's longer side e wide; over those whose stroke has a length a white one,
 --                          half as wide; and the end of the group
 use Rattle.std.specs.Prelude.{Bool, false, List, [], ◌++◌, ℕ, zero, suc, ◌+◌, ◌*◌, eqb, leb, ℤ, pos, get_or}
-use Rattle.whole.specs.Choice.{if◌then◌else◌}
+use Rattle.whole.specs.Choice.{when◌then◌else◌}
 use Rattle.text.specs.Pages.{ascii}
 use Rattle.view.specs.Views.{apart}
 use Rattle.paths.specs.Paths.{path_start, stroke_path}
@@ -19,10 +19,10 @@ spread xs i =
 
 -- A row's first number is its stroke's index, counted from 0.
 unfoldable pub marked : ℕ → List ℤ → List ℤ → ℕ → Bool
-marked l zs xs n = if eqb (spread xs (n * 5 + 1)) 0 then leb l (spread zs (apart (pos 0) (get_or xs (n * 5) (pos 0)) * 4)) else false
+marked l zs xs n = when eqb (spread xs (n * 5 + 1)) 0 then leb l (spread zs (apart (pos 0) (get_or xs (n * 5) (pos 0)) * 4)) else false
 
 unfoldable pub point_path : ℕ → List ℤ → List ℤ → ℕ → List ℕ
-point_path l zs xs n = if marked l zs xs n then stroke_path xs (n * 5 + 1) else []
+point_path l zs xs n = when marked l zs xs n then stroke_path xs (n * 5 + 1) else []
 
 unfoldable pub point_paths : ℕ → List ℤ → List ℤ → ℕ → List ℕ
 point_paths l zs xs zero = []

@@ -8,7 +8,7 @@ use borrow.Author.Tests.{eq-eqb, le-leb, le-ltb}
 use lib.Dec.{eqb, ltb}
 use lib.ListN.{length}
 use lib.Signed.{lt_z}
-use Rattle.whole.specs.Choice.{if◌then◌else◌}
+use Rattle.whole.specs.Choice.{when◌then◌else◌}
 use Rattle.whole.proofs.Comparisons.{by-test}
 use Rattle.grid.specs.Table.{on_table, first_off}
 use Rattle.grid.specs.Refusals.{none, first, off_table, no_area, bad_strokes, window_refusal, strokes_refusal, most_strokes}
@@ -110,7 +110,7 @@ strokes_taken bs w ss e =
 on_four : (w : Window) → on_table w.left ≡ true → on_table w.bottom ≡ true → on_table w.right ≡ true → on_table w.top ≡ true → window_refusal w ≡ no_area w
 unfolding window_refusal off_table first_off first no_area
 on_four w l b r t = simp (l, b, r, t)
-    (by-test (lt_z w.left w.right && lt_z w.bottom w.top) (λ (f : Refusal). (if eqb f.number 0 then none else f) ≡ f) (λ _. refl) (λ _. refl))
+    (by-test (lt_z w.left w.right && lt_z w.bottom w.top) (λ (f : Refusal). (when eqb f.number 0 then none else f) ≡ f) (λ _. refl) (λ _. refl))
 
 pub area_only : (bs : List ℕ) (w : Window) (ss : List Stroke) → meaning computed bs ≡ drawn w ss → window_refusal w ≡ no_area w
 area_only bs w ss e =

@@ -7,7 +7,7 @@ use borrow.Author.Tests.{eq-eqb, ne_eqb, eqb-true, eqb-false, leb-true, leb-fals
 use lib.Dec.{eqb, leb}
 use lib.IntN.{ℤ}
 use lib.ListN.{length}
-use Rattle.whole.specs.Choice.{if◌then◌else◌}
+use Rattle.whole.specs.Choice.{when◌then◌else◌}
 use Rattle.whole.proofs.Comparisons.{by-test}
 use Rattle.grid.specs.Refusals.{no_area, room_refusal}
 use Rattle.grid.specs.Calls.{written, answered_by}
@@ -21,10 +21,10 @@ use Rattle.drawing.proofs.Computed.{computed, by_computed}
 use Rattle.drawing.proofs.Strokes.{four_each}
 
 unfoldable pub read_answer : Drawing → ℕ → DrawingAnswer
-read_answer d room = if eqb (drawing_refusal d).number 0 then answered_by refused (λ _. told d) (numbers d) room else refused (drawing_refusal d)
+read_answer d room = when eqb (drawing_refusal d).number 0 then answered_by refused (λ _. told d) (numbers d) room else refused (drawing_refusal d)
 
 unfoldable pub read_output : Drawing → List ℤ → List ℤ
-read_output d out = if eqb (drawing_refusal d).number 0 then written (numbers d) out else out
+read_output d out = when eqb (drawing_refusal d).number 0 then written (numbers d) out else out
 
 pub reads : (d : Drawing) (out : List ℤ) → ReadsAs d (read_answer d (length out)) out (read_output d out)
 unfolding read_answer read_output
@@ -59,7 +59,7 @@ seen (drawn w ss) a e n =
 
 -- what is refused of a drawing: 3, or else 8
 abbrev pub decision : Window → ℕ → ℕ → Refusal
-decision w needed room = if eqb (no_area w).number 0 then room_refusal needed room else no_area w
+decision w needed room = when eqb (no_area w).number 0 then room_refusal needed room else no_area w
 
 module _ (w : Window) (ss : List Stroke) (out : List ℤ) where
   abbrev Refuses : Refusal → Type 0

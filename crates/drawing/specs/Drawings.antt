@@ -15,7 +15,7 @@
 --   ReadDrawing bs a before after   what `drawing::read_drawing` promises on the bytes bs: its answer a,
 --                                   and its output before and after
 use Rattle.std.specs.Prelude.{◌≡◌, List, [], ◌∷◌, ◌++◌, ℕ, zero, suc, ◌+◌, ◌*◌, ◌≤◌, eqb, ℤ, pos, length}
-use Rattle.whole.specs.Choice.{if◌then◌else◌}
+use Rattle.whole.specs.Choice.{when◌then◌else◌}
 use Rattle.grid.specs.Table.{ends}
 use Rattle.grid.specs.Refusals.{refuse, no_area, bad_drawing}
 use Rattle.grid.specs.Calls.{Lent, GivenBy}
@@ -53,10 +53,10 @@ walk intake bs w (suc n) at pen = onward w pen (walk intake bs w n) (turn_at int
 -- ---- the whole file
 
 abbrev pub windowed : Intake → List ℕ → WindowAnswer → Drawing
-windowed intake bs a = if eqb a.number 0 then walk intake bs a.window (length bs) head_size fresh else fault (5 + 4 * a.place)
+windowed intake bs a = when eqb a.number 0 then walk intake bs a.window (length bs) head_size fresh else fault (5 + 4 * a.place)
 
 unfoldable pub meaning : Intake → List ℕ → Drawing
-meaning intake bs = if eqb (head_fault bs) head_size then windowed intake bs (intake.window (window_at bs)) else fault (head_fault bs)
+meaning intake bs = when eqb (head_fault bs) head_size then windowed intake bs (intake.window (window_at bs)) else fault (head_fault bs)
 
 abbrev pub Means : List ℕ → Drawing → Type 0
 Means bs d = ByIntake (λ intake. meaning intake bs) d

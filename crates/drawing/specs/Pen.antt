@@ -10,7 +10,7 @@
 --   drawn_stroke pen to   the stroke between the places of two pens: the one before it, and `to` after it
 use Rattle.std.specs.Prelude.{Bool, true, false, ◌&&◌, List, ℕ, ◌+◌, ◌*◌, eqb, ltb, ℤ, pos}
 use Rattle.std.specs.Int.Signed.{le_z}
-use Rattle.whole.specs.Choice.{if◌then◌else◌}
+use Rattle.whole.specs.Choice.{when◌then◌else◌}
 use Rattle.grid.specs.Refusals.{most_strokes}
 use Rattle.grid.specs.declared.Stroke.{Stroke}
 use Rattle.intake.specs.declared.PointAnswer.{PointAnswer}
@@ -34,13 +34,13 @@ fresh = let p : Point = record { x = pos 0; y = pos 0 } in record { moved = fals
 -- ---- steps
 
 abbrev pub begun : Pen → ℕ → Turn → Turn
-begun pen at t = if pen.moved then t else Turn.Fault at
+begun pen at t = when pen.moved then t else Turn.Fault at
 
 abbrev pub limited : Pen → ℕ → Turn → Turn
-limited pen at t = if ltb pen.strokes most_strokes then t else Turn.Fault at
+limited pen at t = when ltb pen.strokes most_strokes then t else Turn.Fault at
 
 abbrev pub landed : PointAnswer → ℕ → (Point → Turn) → Turn
-landed a at go = if eqb a.number 0 then go (record { x = a.x; y = a.y }) else Turn.Fault (at + 1 + 4 * a.place)
+landed a at go = when eqb a.number 0 then go (record { x = a.x; y = a.y }) else Turn.Fault (at + 1 + 4 * a.place)
 
 abbrev pub drawn_to : Pen → Point → Pen
 drawn_to pen p = record { moved = pen.moved; here = p; start = pen.start; strokes = pen.strokes + 1 }
@@ -51,7 +51,7 @@ after intake at next pen (Step.Move x y) =
 after intake at next pen (Step.Line x y) =
     begun pen at (limited pen at (landed (intake.point (record { x = x; y = y })) at λ p. Turn.Draws (drawn_to pen p) next))
 after intake at next pen Step.Close =
-    begun pen at (if same pen.here pen.start then Turn.Goes pen next else limited pen at (Turn.Draws (drawn_to pen pen.start) next))
+    begun pen at (when same pen.here pen.start then Turn.Goes pen next else limited pen at (Turn.Draws (drawn_to pen pen.start) next))
 
 -- ---- records
 

@@ -9,7 +9,7 @@ use lib.Dec.{eqb, ltb}
 use lib.IntN.{ℤ}
 use lib.ListN.{length, take, drop, length-drop, drop_of_length-le}
 use lib.Seq.{drop-drop}
-use Rattle.whole.specs.Choice.{if◌then◌else◌}
+use Rattle.whole.specs.Choice.{when◌then◌else◌}
 use Rattle.words.specs.Digits.{digit_of}
 use Rattle.words.specs.Words.{and, pairs, bytes, has_minus}
 use Rattle.arguments.specs.Arguments.{first_end, behind_first}
@@ -36,7 +36,7 @@ two_digits (a ∷ []) bs h = let z : ◌≡◌ {A = ℕ} 0 1 = cc in absurd (ome
 two_digits (a ∷ b ∷ w) bs h = go (ltb (digit_of a) 16 && ltb (digit_of b) 16) (pairs w) refl h (two_digits w)
   where
     go : (t : Bool) (o : Option (List ℕ)) → pairs w ≡ o →
-        (if t then and (digit_of a * 16 + digit_of b) o else none) ≡ some bs →
+        (when t then and (digit_of a * 16 + digit_of b) o else none) ≡ some bs →
         ((cs : List ℕ) → pairs w ≡ some cs → 2 * length cs ≤ length w) → 2 * length bs ≤ suc (suc (length w))
     go false o e h i = let z : ◌≡◌ {A = ℕ} 0 1 = cc in absurd (omega arith)
     go true none e h i = let z : ◌≡◌ {A = ℕ} 0 1 = cc in absurd (omega arith)
@@ -46,7 +46,7 @@ half : (w bs : List ℕ) → bytes w ≡ some bs → 2 * length bs ≤ length w
 unfolding bytes
 half w bs h = go (eqb (length w) 0) (has_minus w) (eqb (length w) 1) h
   where
-    go : (s t u : Bool) → (if s then none else if t then (if u then some [] else none) else pairs w) ≡ some bs →
+    go : (s t u : Bool) → (when s then none else when t then (when u then some [] else none) else pairs w) ≡ some bs →
         2 * length bs ≤ length w
     go true t u h = let z : ◌≡◌ {A = ℕ} 0 1 = cc in absurd (omega arith)
     go false true true h = let none_left : bs ≡ [] = cc in rw none_left (omega arith)

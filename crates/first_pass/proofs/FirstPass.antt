@@ -5,7 +5,7 @@ use Prim.Native.Nat.{ℕ, suc, ◌+◌, ◌-◌, ◌<◌, ◌≤◌}
 use native.Mathlib.Omega.{arith}
 use lib.Dec.{eqb}
 use lib.IntN.{ℤ}
-use Rattle.whole.specs.Choice.{if◌then◌else◌}
+use Rattle.whole.specs.Choice.{when◌then◌else◌}
 use Rattle.grid.specs.declared.Window.{Window}
 use Rattle.grid.specs.Sides.{Side}
 use Rattle.rings.specs.Points.{Line, In, Out}
@@ -27,7 +27,7 @@ module _ (w : Window) {zs : List ℤ} (s : Side) (g : OutlineOnTable zs) (m : Li
   FirstCut h a b to =
       Held w zs m (places 0 to) → ((i : ℕ) → 0 ≤ i → i < a → In h (point_in m i)) → ((i : ℕ) → a ≤ i → i < b → Out h (point_in m i)) → (b < to → In h (point_in m b))
       → (m₀ m₁ m₂ m₃ m₄ : List ℤ) (first second : ℕ) → Brought m m₀ m₁ 0 a 0 → Gone w zs s m₁ (a - 1) m₂ first
-      → CameOwn w zs s m (b - 1) (point_in m (if eqb b to then 0 else b)) m₂ first m₃ second
+      → CameOwn w zs s m (b - 1) (point_in m (when eqb b to then 0 else b)) m₂ first m₃ second
       → Brought m m₃ m₄ b to second → Passed w zs s m (places 0 to) m₄ (places 0 (second + (to - b)))
 
   cut_first : (x y z : ℕ) → FirstCut (side_line w s) (0 + suc x) (0 + suc x + suc y) (0 + suc x + suc y + z)
@@ -44,7 +44,7 @@ module _ (w : Window) {zs : List ℤ} (s : Side) (g : OutlineOnTable zs) (m : Li
       let last : corner_in m₁ (a - 1) ≡ corner_in m (0 + x) = ap (corner_in m₁) i₀ ∙ front.brought x (omega arith) in
       let goes = subst (λ (q : Tagged). Goes w zs s q [] g'.t) last g'.goes in
       let o : b - 1 ≡ a + y = omega arith in
-      let comes = subst (λ (q : Tagged). Comes w zs s q (point_in m (if eqb b (b + z) then 0 else b)) c.c) (ap (corner_in m) o) c.comes in
+      let comes = subst (λ (q : Tagged). Comes w zs s q (point_in m (when eqb b (b + z) then 0 else b)) c.c) (ap (corner_in m) o) c.comes in
       let stays : corners_from m₄ 0 x ≡ corners_from m 0 x =
       corners_same m m₄ 0 0 x (λ i l. behind.before (0 + i) (omega arith) ∙ c.before (0 + i) (omega arith) ∙ g'.before (0 + i) (omega arith)
       ∙ front.brought i (omega arith)) in

@@ -10,7 +10,7 @@
 use Rattle.std.specs.Prelude.{not, ◌||◌, List, ℕ, ◌+◌, ◌*◌, eqb, leb, ltb, Float, length, get_or}
 use Rattle.std.specs.Float.{binary32}
 use Rattle.std.specs.Float.Ieee.{of_bits}
-use Rattle.whole.specs.Choice.{if◌then◌else◌}
+use Rattle.whole.specs.Choice.{when◌then◌else◌}
 use Rattle.intake.specs.declared.WindowMm.{WindowMm}
 use Rattle.format.specs.declared.Step.TheVariants as Step
 use Rattle.format.specs.declared.Found.{Found}
@@ -36,9 +36,9 @@ head_size = 21
 
 unfoldable pub head_fault : List ℕ → ℕ
 head_fault bs =
-    if not (eqb (number_at bs 0 + 4) (length bs)) || ltb most_bytes (length bs) then 0
-    else if not (eqb (get_or bs 4 0) 1) then 4
-    else if ltb (length bs) head_size then 5
+    when not (eqb (number_at bs 0 + 4) (length bs)) || ltb most_bytes (length bs) then 0
+    else when not (eqb (get_or bs 4 0) 1) then 4
+    else when ltb (length bs) head_size then 5
     else head_size
 
 abbrev pub window_at : List ℕ → WindowMm
@@ -48,9 +48,9 @@ window_at bs = record { left = float_at bs 5; bottom = float_at bs 9; right = fl
 
 unfoldable pub record_at : List ℕ → ℕ → Found
 record_at bs at =
-    if leb (length bs) at then Found.End
-    else if eqb (get_or bs at 0) 0x5A then Found.Record Step.Close (at + 1)
-    else if ltb (length bs) (at + 9) then Found.Bad
-    else if eqb (get_or bs at 0) 0x4D then Found.Record (Step.Move (float_at bs (at + 1)) (float_at bs (at + 5))) (at + 9)
-    else if eqb (get_or bs at 0) 0x4C then Found.Record (Step.Line (float_at bs (at + 1)) (float_at bs (at + 5))) (at + 9)
+    when leb (length bs) at then Found.End
+    else when eqb (get_or bs at 0) 0x5A then Found.Record Step.Close (at + 1)
+    else when ltb (length bs) (at + 9) then Found.Bad
+    else when eqb (get_or bs at 0) 0x4D then Found.Record (Step.Move (float_at bs (at + 1)) (float_at bs (at + 5))) (at + 9)
+    else when eqb (get_or bs at 0) 0x4C then Found.Record (Step.Line (float_at bs (at + 1)) (float_at bs (at + 5))) (at + 9)
     else Found.Bad

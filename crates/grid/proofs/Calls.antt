@@ -8,7 +8,7 @@ use borrow.Author.Tests.{eqb-true, eqb-false, le-leb, lt-leb}
 use lib.Dec.{eqb, leb}
 use lib.IntN.{ℤ}
 use lib.ListN.{length, drop}
-use Rattle.whole.specs.Choice.{if◌then◌else◌}
+use Rattle.whole.specs.Choice.{when◌then◌else◌}
 use Rattle.grid.specs.Calls.{Lent, written, answered_by, GivenBy, GaveNumbers}
 use Rattle.grid.specs.Refusals.{no_room, refuse, room_refusal}
 use Rattle.grid.specs.declared.Refusal.{Refusal}
@@ -79,7 +79,7 @@ pub answered_read : {A B : Type 0} (f : A → B) (blank : Refusal → A) (full :
 unfolding answered_by
 answered_read f blank full xs room = go (eqb (room_refusal (length xs) room).number 0)
   where
-    go : (b : Bool) → f (if b then full xs else blank (room_refusal (length xs) room)) ≡ (if b then f (full xs) else f (blank (room_refusal (length xs) room)))
+    go : (b : Bool) → f (when b then full xs else blank (room_refusal (length xs) room)) ≡ (when b then f (full xs) else f (blank (room_refusal (length xs) room)))
     go true = refl
     go false = refl
 

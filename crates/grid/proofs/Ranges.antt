@@ -14,7 +14,7 @@ use mir.Syntax.{w32}
 use mir.Val.{to_z, of_z}
 use Rattle.whole.specs.Within.{Within}
 use Rattle.whole.proofs.Comparisons.{true-T, ff_tt, back}
-use Rattle.whole.specs.Choice.{if◌then◌else◌}
+use Rattle.whole.specs.Choice.{when◌then◌else◌}
 use Rattle.grid.specs.Table.{farthest, on_table, first_off}
 
 -- ---- of a list by its head
@@ -72,7 +72,7 @@ unfolding first_off
 before_off [] k h l = absurd (omega arith)
 before_off (z ∷ s) k h l = go (on_table z) refl k h l (λ j. before_off s j)
   where
-    go : (b : Bool) → on_table z ≡ b → (k : ℕ) → k < (if b then suc (first_off s) else 0) → k < suc (length s)
+    go : (b : Bool) → on_table z ≡ b → (k : ℕ) → k < (when b then suc (first_off s) else 0) → k < suc (length s)
         → ((j : ℕ) → j < first_off s → j < length s → Within farthest (get_or s j (pos 0))) → Within farthest (get_or (z ∷ s) k (pos 0))
     go true e zero h l f = on_within z e
     go true e (suc k) h l f = f k (omega arith) (omega arith)

@@ -14,7 +14,7 @@ use lib.ListN.{length, get_or}
 use lib.Signed.{◌<ℤ◌, lt_z, lt_z_yes}
 use Rattle.whole.specs.Within.{Within}
 use Rattle.whole.proofs.Comparisons.{true-T}
-use Rattle.whole.specs.Choice.{if◌then◌else◌}
+use Rattle.whole.specs.Choice.{when◌then◌else◌}
 use Rattle.grid.specs.Table.{farthest, first_off, sides, ends, WindowOnTable, StrokeOnTable, StrokesOnTable, NumbersOnTable}
 use Rattle.grid.specs.Refusals.{window_off, no_window, wrong_length, number_off, refuse, none, first}
 use Rattle.grid.specs.Refusals.{off_table, no_area, bad_strokes, window_refusal, stroke_refusal, strokes_refusal}
@@ -45,7 +45,7 @@ pub all_done : (r : Refusal) (rs : List Refusal) → (first (r ∷ rs)).number �
 unfolding first
 all_done r rs h = go (eqb r.number 0) refl h
   where
-    go : (b : Bool) → eqb r.number 0 ≡ b → (if b then first rs else r).number ≡ 0 → (r.number ≡ 0) × ((first rs).number ≡ 0)
+    go : (b : Bool) → eqb r.number 0 ≡ b → (when b then first rs else r).number ≡ 0 → (r.number ≡ 0) × ((first rs).number ≡ 0)
     go true e h = (eqb-true r.number 0 e, h)
     go false e h = absurd (eqb-false r.number 0 e h)
 
@@ -54,7 +54,7 @@ pub nothing_off : (n : ℕ) (zs : List ℤ) → (n ≡ 0 → ⊥) → (off_table
 unfolding off_table
 nothing_off n zs h e = go (ltb (first_off zs) (length zs)) refl e
   where
-    go : (b : Bool) → ltb (first_off zs) (length zs) ≡ b → (if b then refuse n (first_off zs) else none).number ≡ 0 → NumbersOnTable zs
+    go : (b : Bool) → ltb (first_off zs) (length zs) ≡ b → (when b then refuse n (first_off zs) else none).number ≡ 0 → NumbersOnTable zs
     go true t e k l = absurd (h e)
     go false t e k l = before_off zs k (omega (arith, ltb-false (first_off zs) (length zs) t)) l
 
@@ -64,7 +64,7 @@ unfolding no_area
 has_area w e = go (lt_z w.left w.right) (lt_z w.bottom w.top) refl refl e
   where
     go : (a b : Bool) → lt_z w.left w.right ≡ a → lt_z w.bottom w.top ≡ b
-        → (if a && b then none else refuse no_window 0).number ≡ 0 → (w.left <ℤ w.right) × (w.bottom <ℤ w.top)
+        → (when a && b then none else refuse no_window 0).number ≡ 0 → (w.left <ℤ w.right) × (w.bottom <ℤ w.top)
     go true true p q e = (lt_z_yes (true-T p), lt_z_yes (true-T q))
     go true false p q e = absurd (omega arith)
     go false b p q e = absurd (omega arith)
@@ -96,7 +96,7 @@ bad_area w on bad = go (lt_z w.left w.right) (lt_z w.bottom w.top) refl refl
     at : (k : ℕ) → k < 4 → Within farthest (get_or (sides w) k (pos 0))
     at k h = before_off (sides w) k (omega arith) h
 
-    go : (a b : Bool) → lt_z w.left w.right ≡ a → lt_z w.bottom w.top ≡ b → (if a && b then none else refuse no_window 0) ≡ refuse no_window 0
+    go : (a b : Bool) → lt_z w.left w.right ≡ a → lt_z w.bottom w.top ≡ b → (when a && b then none else refuse no_window 0) ≡ refuse no_window 0
     go true true p q = absurd (bad (record {
       left = at 0 (omega arith);
       bottom = at 1 (omega arith);
@@ -127,7 +127,7 @@ strokes_on_table zs e = go (eqb (length zs % 4) 0) refl (leb (length zs) 16384) 
     p : (((bad_strokes zs).number ≡ 0)) × ((first (off_table number_off zs ∷ [])).number ≡ 0)
     p = all_done (bad_strokes zs) (off_table number_off zs ∷ []) e
 
-    go : (a : Bool) → eqb (length zs % 4) 0 ≡ a → (b : Bool) → leb (length zs) 16384 ≡ b → (if a && b then none else refuse wrong_length 0).number ≡ 0 → StrokesOnTable zs
+    go : (a : Bool) → eqb (length zs % 4) 0 ≡ a → (b : Bool) → leb (length zs) 16384 ≡ b → (when a && b then none else refuse wrong_length 0).number ≡ 0 → StrokesOnTable zs
     go true t true u q = record {
       by_four = eqb-true (length zs % 4) 0 t;
       few = leb-true (length zs) 16384 u;

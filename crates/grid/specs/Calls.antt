@@ -13,7 +13,7 @@
 --   Call r Gives a before after     it refuses by r where r applies; else it gives a list of which Gives holds
 --   GaveNumbers Gives n before after   of a part of such a call: n numbers of which Gives holds are written where they have room
 use Rattle.std.specs.Prelude.{◌≡◌, List, ◌++◌, ℕ, eqb, leb, ℤ, length, drop}
-use Rattle.whole.specs.Choice.{if◌then◌else◌}
+use Rattle.whole.specs.Choice.{when◌then◌else◌}
 use Rattle.grid.specs.Refusals.{room_refusal}
 use Rattle.grid.specs.declared.Refusal.{Refusal}
 use Rattle.grid.specs.declared.Answer.{Answer}
@@ -29,10 +29,10 @@ pub record Lent {A M : Type 0} (blank : Refusal → A) (r : Refusal) (Done : A �
 -- ---- a list of numbers is given
 
 unfoldable pub written : List ℤ → List ℤ → List ℤ
-written xs out = if leb (length xs) (length out) then xs ++ drop (length xs) out else out
+written xs out = when leb (length xs) (length out) then xs ++ drop (length xs) out else out
 
 unfoldable pub answered_by : {A : Type 0} → (Refusal → A) → (List ℤ → A) → List ℤ → ℕ → A
-answered_by blank full xs room = let r = room_refusal (length xs) room in if eqb r.number 0 then full xs else blank r
+answered_by blank full xs room = let r = room_refusal (length xs) room in when eqb r.number 0 then full xs else blank r
 
 pub record GivenBy {A : Type 0} (blank : Refusal → A) (full : List ℤ → A) (Gives : List ℤ → Type 0) (a : A) (before after : List ℤ) : Type 0 where
   pub numbers : List ℤ

@@ -10,7 +10,7 @@
 --   room_refusal need room   8 with the numbers needed, where an output of `room` numbers is too short
 use Rattle.std.specs.Prelude.{◌&&◌, List, [], ◌∷◌, ℕ, ◌*◌, ◌%◌, eqb, leb, ltb, ℤ, length}
 use Rattle.std.specs.Int.Signed.{lt_z}
-use Rattle.whole.specs.Choice.{if◌then◌else◌}
+use Rattle.whole.specs.Choice.{when◌then◌else◌}
 use Rattle.grid.specs.Table.{first_off, sides, ends}
 use Rattle.grid.specs.declared.Window.{Window}
 use Rattle.grid.specs.declared.Stroke.{Stroke}
@@ -57,19 +57,19 @@ none = refuse 0 0
 
 unfoldable pub first : List Refusal → Refusal
 first [] = none
-first (r ∷ rs) = if eqb r.number 0 then first rs else r
+first (r ∷ rs) = when eqb r.number 0 then first rs else r
 
 unfoldable pub off_table : ℕ → List ℤ → Refusal
-off_table n zs = if ltb (first_off zs) (length zs) then refuse n (first_off zs) else none
+off_table n zs = when ltb (first_off zs) (length zs) then refuse n (first_off zs) else none
 
 unfoldable pub no_area : Window → Refusal
-no_area w = if lt_z w.left w.right && lt_z w.bottom w.top then none else refuse no_window 0
+no_area w = when lt_z w.left w.right && lt_z w.bottom w.top then none else refuse no_window 0
 
 abbrev pub most_strokes : ℕ
 most_strokes = 4096
 
 unfoldable pub bad_strokes : List ℤ → Refusal
-bad_strokes zs = if eqb (length zs % 4) 0 && leb (length zs) (4 * most_strokes) then none else refuse wrong_length 0
+bad_strokes zs = when eqb (length zs % 4) 0 && leb (length zs) (4 * most_strokes) then none else refuse wrong_length 0
 
 unfoldable pub window_refusal : Window → Refusal
 window_refusal w = first (off_table window_off (sides w) ∷ no_area w ∷ [])
@@ -81,4 +81,4 @@ unfoldable pub strokes_refusal : List ℤ → Refusal
 strokes_refusal zs = first (bad_strokes zs ∷ off_table number_off zs ∷ [])
 
 unfoldable pub room_refusal : ℕ → ℕ → Refusal
-room_refusal need room = if leb need room then none else refuse no_room need
+room_refusal need room = when leb need room then none else refuse no_room need

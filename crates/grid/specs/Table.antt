@@ -11,7 +11,7 @@
 use Rattle.std.specs.Prelude.{◌≡◌, Bool, ◌&&◌, List, [], ◌∷◌, ℕ, suc, ◌+◌, ◌%◌, ◌<◌, ◌≤◌, ℤ, pos, neg_ℤ, length, get_or, ◌<ℤ◌}
 use Rattle.std.specs.Int.Signed.{le_z}
 use Rattle.whole.specs.Within.{Within}
-use Rattle.whole.specs.Choice.{if◌then◌else◌}
+use Rattle.whole.specs.Choice.{when◌then◌else◌}
 use Rattle.grid.specs.declared.Window.{Window}
 use Rattle.grid.specs.declared.Stroke.{Stroke}
 
@@ -26,7 +26,7 @@ NumbersOnTable zs = (k : ℕ) → k < length zs → Within farthest (get_or zs k
 
 unfoldable pub first_off : List ℤ → ℕ
 first_off [] = 0
-first_off (z ∷ zs) = if on_table z then suc (first_off zs) else 0
+first_off (z ∷ zs) = when on_table z then suc (first_off zs) else 0
 
 abbrev pub sides : Window → List ℤ
 sides w = w.left ∷ w.bottom ∷ w.right ∷ w.top ∷ []

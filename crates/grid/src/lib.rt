@@ -3,7 +3,7 @@
 
 ghost use Rattle.std.specs.Prelude.{◌≡◌, true, [], ◌∷◌, ◌+◌, ◌≤◌, eqb, length};
 ghost use Rattle.std.proofs.lemmas.List.Edits.{sets};
-ghost use Rattle.whole.specs.Choice.{if◌then◌else◌};
+ghost use Rattle.whole.specs.Choice.{when◌then◌else◌};
 ghost use Rattle.whole.specs.Within.{Within};
 ghost use Rattle.grid.specs.Table.{farthest, on_table, first_off, ends, stroke_at, WindowOnTable};
 ghost use Rattle.grid.specs.Refusals.{window_refusal, stroke_refusal, strokes_refusal, room_refusal};
@@ -308,7 +308,7 @@ pub fn room_refusal(need: usize, room: usize) -> Refusal
 
 // Of two refusals the first that applies.
 pub fn first_of(a: Refusal, b: Refusal) -> Refusal
-    ensures { result ≡ (if eqb a.number 0 then b else a) }
+    ensures { result ≡ (when eqb a.number 0 then b else a) }
 {
     if a.number != 0 {
         return a;

@@ -16,7 +16,7 @@ use Rattle.whole.proofs.Order.{zarith}
 use Rattle.whole.proofs.Ranges.{within_abs, fits_abs}
 use Rattle.whole.proofs.Rounding.{rounded_unique, rounded_mirror, even_mirror, closest_is}
 use Rattle.grid.proofs.Ranges.{on_within}
-use Rattle.whole.specs.Choice.{if◌then◌else◌}
+use Rattle.whole.specs.Choice.{when◌then◌else◌}
 use Rattle.grid.specs.Table.{on_table, farthest}
 use Rattle.grid.specs.Refusals.{not_a_number, too_far}
 use Rattle.intake.specs.declared.Coordinate.{Coordinate}
@@ -29,7 +29,7 @@ steps m e = closest (m * up e * 32) (down e)
 unfoldable pub outcome : Float → Coordinate
 outcome nan = faulty not_a_number
 outcome (inf s) = faulty too_far
-outcome (fin s m e) = if leb (steps m e) farthest then accepted (signed s (steps m e)) else faulty too_far
+outcome (fin s m e) = when leb (steps m e) farthest then accepted (signed s (steps m e)) else faulty too_far
 
 signed_on : (s : Bool) (q : ℕ) → on_table (signed s q) ≡ leb q farthest
 unfolding on_table
@@ -53,9 +53,9 @@ module _ (s : Bool) (m : ℕ) (e : ℤ) {g : ℤ} (n : Rounds to_even (signed s 
   steps_on h = sym (signed_on s (steps m e)) ∙ ap on_table (sym grid_is) ∙ h
 
 -- by the test on its size
-pub decided : (s : Bool) (m : ℕ) (e : ℤ) {b : Bool} → leb (steps m e) farthest ≡ b → outcome (fin s m e) ≡ (if b then accepted (signed s (steps m e)) else faulty too_far)
+pub decided : (s : Bool) (m : ℕ) (e : ℤ) {b : Bool} → leb (steps m e) farthest ≡ b → outcome (fin s m e) ≡ (when b then accepted (signed s (steps m e)) else faulty too_far)
 unfolding outcome
-decided s m e h = ap (λ (b : Bool). if b then accepted (signed s (steps m e)) else faulty too_far) h
+decided s m e h = ap (λ (b : Bool). when b then accepted (signed s (steps m e)) else faulty too_far) h
 
 pub taken_is : {x : Float} {o : Coordinate} → Taken x o → o ≡ outcome x
 unfolding outcome
@@ -73,7 +73,7 @@ taken (fin s m e) = go (leb (steps m e) farthest) (signed_on s (steps m e))
     g : GridNumber (fin s m e) (signed s (steps m e))
     g = nearest s m e (signed_steps s m e)
 
-    go : (b : Bool) → on_table (signed s (steps m e)) ≡ b → Taken (fin s m e) (if b then accepted (signed s (steps m e)) else faulty too_far)
+    go : (b : Bool) → on_table (signed s (steps m e)) ≡ b → Taken (fin s m e) (when b then accepted (signed s (steps m e)) else faulty too_far)
     go true h = on_range g h
     go false h = off_range g h
 

@@ -12,7 +12,7 @@ use lib.IntN.{ℤ, pos, negsuc, nat_abs, ◌*ℤ◌}
 use lib.Signed.{non_neg}
 use lib.Ieee.{Float, nan, inf, fin, binary32, down, of_int}
 use lib.Ieee.Fits.{down_pos, div-fits}
-use Rattle.whole.specs.Choice.{if◌then◌else◌}
+use Rattle.whole.specs.Choice.{when◌then◌else◌}
 use Rattle.whole.proofs.Comparisons.{tt_ff}
 use Rattle.whole.proofs.Order.{zarith}
 use Rattle.whole.proofs.Ranges.{within_abs}
@@ -118,7 +118,7 @@ pub point_on_table : {p : PointMm} {a : PointAnswer} → PointToGrid p a → Poi
 unfolding point_answer on_table
 point_on_table r = let f = point_fault r.x r.y in subst PointOn (sym r.answer) (go f (eqb f.number 0))
   where
-    go : (f : Refusal) (b : Bool) → PointOn (if b then record { number = 0; place = 0; x = r.x.grid; y = r.y.grid } else refused_point f)
+    go : (f : Refusal) (b : Bool) → PointOn (when b then record { number = 0; place = 0; x = r.x.grid; y = r.y.grid } else refused_point f)
     go f true = record { x = taken_on r.x_taken; y = taken_on r.y_taken }
     go f false = record { x = refl; y = refl }
 
@@ -133,7 +133,7 @@ unfolding window_answer on_table
 window_on_table r = let f = window_fault r.left r.bottom r.right r.top in subst WindowOn (sym r.answer) (go f (eqb f.number 0))
   where
     go : (f : Refusal) (b : Bool) → WindowOn (
-        if b
+        when b
         then record { number = 0; place = 0; window = record { left = r.left.grid; bottom = r.bottom.grid; right = r.right.grid; top = r.top.grid } }
         else refused_window f)
     go f true = record { left = taken_on r.left_taken; bottom = taken_on r.bottom_taken; right = taken_on r.right_taken; top = taken_on r.top_taken }

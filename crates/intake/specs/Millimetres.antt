@@ -19,7 +19,7 @@ use Rattle.std.specs.Int.Signed.{non_neg}
 use Rattle.std.specs.Float.{nan, inf, fin, binary32}
 use Rattle.std.specs.Float.Ieee.{fits, up, down}
 use Rattle.std.specs.Float.Ieee.Exact.{HasValue}
-use Rattle.whole.specs.Choice.{if◌then◌else◌}
+use Rattle.whole.specs.Choice.{when◌then◌else◌}
 use Rattle.whole.specs.Rounding.{Rounds, to_even}
 use Rattle.grid.specs.Table.{on_table}
 use Rattle.grid.specs.Refusals.{refuse, first, number_off, not_a_number, too_far}
@@ -34,7 +34,7 @@ use Rattle.intake.specs.declared.BackAnswer.{BackAnswer}
 -- ---- one number
 
 abbrev pub signed : Bool → ℕ → ℤ
-signed s n = if s then neg_ℤ (pos n) else pos n
+signed s n = when s then neg_ℤ (pos n) else pos n
 
 pub data GridNumber : Float → ℤ → Type 0 where
   nearest : {g : ℤ} (s : Bool) (m : ℕ) (e : ℤ) → Rounds to_even (signed s (m * up e * 32)) (pos (down e)) g → GridNumber (fin s m e) g
@@ -61,7 +61,7 @@ refused_point r = record { number = r.number; place = r.place; x = pos 0; y = po
 
 unfoldable pub point_answer : Coordinate → Coordinate → PointAnswer
 point_answer x y =
-    if eqb (point_fault x y).number 0
+    when eqb (point_fault x y).number 0
     then record { number = 0; place = 0; x = x.grid; y = y.grid }
     else refused_point (point_fault x y)
 
@@ -81,7 +81,7 @@ refused_window r = record { number = r.number; place = r.place; window = record 
 
 unfoldable pub window_answer : Coordinate → Coordinate → Coordinate → Coordinate → WindowAnswer
 window_answer left bottom right top =
-    if eqb (window_fault left bottom right top).number 0
+    when eqb (window_fault left bottom right top).number 0
     then record { number = 0; place = 0; window = record { left = left.grid; bottom = bottom.grid; right = right.grid; top = top.grid } }
     else refused_window (window_fault left bottom right top)
 

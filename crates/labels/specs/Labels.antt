@@ -9,7 +9,7 @@
 --                       strokes; they are 40 thousandths of e high, since some viewers have a largest font
 --   labels v zs n       the numbers of n strokes, if they are at most 30: first with a white border, which parts them from lines, then over it
 use Rattle.std.specs.Prelude.{List, [], ◌++◌, ℕ, zero, suc, ◌+◌, ◌-◌, ◌*◌, ◌/◌, ◌%◌, eqb, ltb, ℤ, pos, get_or}
-use Rattle.whole.specs.Choice.{if◌then◌else◌}
+use Rattle.whole.specs.Choice.{when◌then◌else◌}
 use Rattle.grid.specs.declared.Window.{Window}
 use Rattle.text.specs.Pages.{ascii}
 use Rattle.marks.specs.Marks.{labelled, labelled_pair}
@@ -21,7 +21,7 @@ middle side a b = apart side a + apart side b
 
 unfoldable pub beside : ℕ → List ℕ
 beside k =
-    if eqb (k % 2) 0 then labelled (ascii ">") k (ascii "<") else labelled (ascii " dx=\"-.5em\" dy=\"1.25em\" text-anchor=\"end\">") k (ascii "<")
+    when eqb (k % 2) 0 then labelled (ascii ">") k (ascii "<") else labelled (ascii " dx=\"-.5em\" dy=\"1.25em\" text-anchor=\"end\">") k (ascii "<")
 
 unfoldable pub number_text : ℕ → ℕ → ℕ → List ℕ
 number_text x y k =
@@ -44,4 +44,4 @@ label_place v =
 
 unfoldable pub labels : Window → List ℤ → ℕ → List ℕ
 labels v zs n =
-    if ltb 30 n then [] else label_place v ++ label_texts v zs n ++ ascii "</g>\n" ++ label_texts v zs n ++ ascii "</g>\n"
+    when ltb 30 n then [] else label_place v ++ label_texts v zs n ++ ascii "</g>\n" ++ label_texts v zs n ++ ascii "</g>\n"

@@ -6,7 +6,7 @@ use Prim.Native.Nat.{ℕ, suc, ◌+◌, ◌-◌, ◌<◌, ◌≤◌}
 use native.Mathlib.Omega.{arith}
 use lib.Dec.{eqb}
 use lib.IntN.{ℤ}
-use Rattle.whole.specs.Choice.{if◌then◌else◌}
+use Rattle.whole.specs.Choice.{when◌then◌else◌}
 use Rattle.grid.specs.declared.Window.{Window}
 use Rattle.grid.specs.Sides.{Side}
 use Rattle.rings.specs.Points.{Line, In, Out}
@@ -27,7 +27,7 @@ module _ (w : Window) {zs : List ℤ} (s : Side) (g : OutlineOnTable zs) where
   CutOut h m from a b to =
       Held w zs m (places from to) → ((i : ℕ) → from ≤ i → i < a → In h (point_in m i)) → ((i : ℕ) → a ≤ i → i < b → Out h (point_in m i)) → (b < to → In h (point_in m b))
       → (m₁ m₂ m₃ m₄ : List ℤ) (k second first : ℕ) → a < b - 1 + k → Brought m m m₁ a to (a + k)
-      → Come w zs s m₁ (b - 1 + k) (point_in m (if eqb b to then from else b)) m₂ second
+      → Come w zs s m₁ (b - 1 + k) (point_in m (when eqb b to then from else b)) m₂ second
       → Gone w zs s m₂ (a - 1) m₃ first → Brought m₃ m₃ m₄ second (to + k) first → Passed w zs s m (places from to) m₄ (places from (first + (to + k - second)))
 
   module _ (m : List ℤ) (from x y : ℕ) where
@@ -54,7 +54,7 @@ module _ (w : Window) {zs : List ℤ} (s : Side) (g : OutlineOnTable zs) where
         let goes = subst (λ (c : Tagged). Goes w zs s c [] g'.t) last g'.goes in
         let o : b - 1 + k ≡ a + k + y = omega arith in
         let outer : corner_in m₁ (b - 1 + k) ≡ corner_in m (a + y) = ap (corner_in m₁) o ∙ up.brought y (omega arith) in
-        let comes = subst (λ (q : Tagged). Comes w zs s q (point_in m (if eqb b (b + z) then from else b)) c.c) outer c.comes in
+        let comes = subst (λ (q : Tagged). Comes w zs s q (point_in m (when eqb b (b + z) then from else b)) c.c) outer c.comes in
         let tail : corners_from m₂ (second + cc) z ≡ bs =
         corners_same m m₂ b (second + cc) z
         (λ j l. let i : second + cc + j ≡ a + k + (suc y + j) = omega (arith, c.start) in let i' : a + (suc y + j) ≡ b + j = omega arith in

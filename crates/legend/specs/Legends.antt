@@ -4,13 +4,13 @@
 --   legend_line r n    the line for renter r, who has n strips: 2.6 below the top of his sample, so that it stands in its middle
 --   legend n m        both lines: renter 0 has n strips, and renter 1 has m
 use Rattle.std.specs.Prelude.{List, ◌++◌, ℕ, ◌+◌, ◌*◌, eqb}
-use Rattle.whole.specs.Choice.{if◌then◌else◌}
+use Rattle.whole.specs.Choice.{when◌then◌else◌}
 use Rattle.text.specs.Pages.{ascii}
 use Rattle.marks.specs.Marks.{labelled}
 use Rattle.measures.specs.Measures.{thousandths}
 
 unfoldable pub strip_word : ℕ → List ℕ
-strip_word n = if eqb n 1 then ascii "strip</text>\n" else ascii "strips</text>\n"
+strip_word n = when eqb n 1 then ascii "strip</text>\n" else ascii "strips</text>\n"
 
 unfoldable pub legend_line : ℕ → ℕ → List ℕ
 legend_line r n =

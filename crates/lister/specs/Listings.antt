@@ -3,7 +3,7 @@
 --   strips_text renter zs   the rows of the renter's strips, or the refusal where there is no such renter
 --   show_text zs            the rows of all strips
 use Rattle.std.specs.Prelude.{List, [], ◌∷◌, ℕ, eqb, ℤ}
-use Rattle.whole.specs.Choice.{if◌then◌else◌}
+use Rattle.whole.specs.Choice.{when◌then◌else◌}
 use Rattle.text.specs.Pages.{ascii}
 use Rattle.slots.specs.Slots.{slots_of}
 use Rattle.strip_book.specs.Books.{renter_refusal}
@@ -18,7 +18,7 @@ or_none (b ∷ bs) = b ∷ bs
 unfoldable pub strips_text : ℤ → List ℤ → List ℕ
 strips_text renter zs =
     let r = renter_refusal renter in
-    if eqb r.number 0 then or_none (rows_text (first_slot renter) (half renter zs)) else refusal_text r.number r.place
+    when eqb r.number 0 then or_none (rows_text (first_slot renter) (half renter zs)) else refusal_text r.number r.place
 
 unfoldable pub show_text : List ℤ → List ℕ
 show_text zs = or_none (rows_text 0 (slots_of zs))

@@ -10,7 +10,7 @@ use lib.Ieee.{Float}
 use lib.ListN.{length, take, drop, length-append, length-drop, take-append-drop, drop_of_length-le}
 use lib.Seq.{take_all, take_at, drop_at, drop-drop}
 use borrow.Author.Tests.{eqb-true}
-use Rattle.whole.specs.Choice.{if◌then◌else◌}
+use Rattle.whole.specs.Choice.{when◌then◌else◌}
 use Rattle.words.specs.Words.{single, with_bits, up_to, as_integer, numeral, has_minus}
 use Rattle.words.specs.Digits.{word_value}
 use Rattle.words.specs.declared.Single.{Single}
@@ -22,7 +22,7 @@ unfolding single
 eight w {x} h = go (eqb (length w) 8) refl h
   where
     go : (t : Bool) → eqb (length w) 8 ≡ t →
-        (if t then with_bits (up_to 0xffff_ffff (word_value 16 w)) else Single.Bad) ≡ Single.Is x → length w ≡ 8
+        (when t then with_bits (up_to 0xffff_ffff (word_value 16 w)) else Single.Bad) ≡ Single.Is x → length w ≡ 8
     go true e h = eqb-true _ _ e
     go false e h = let z : ◌≡◌ {A = ℕ} 0 1 = cc in absurd (omega arith)
 
@@ -38,7 +38,7 @@ put : {x : Float} {xs : List Float} (text : List ℕ) → 9 ≤ length text → 
 put [] l h s = absurd (omega arith)
 put {x} {xs} (b ∷ text) l h s = go (eqb b 32) refl h
   where
-    go : (t : Bool) → eqb b 32 ≡ t → (if t then single (take 8 text) else Single.Bad) ≡ Single.Is x → Singles
+    go : (t : Bool) → eqb b 32 ≡ t → (when t then single (take 8 text) else Single.Bad) ≡ Single.Is x → Singles
         (b ∷ text) (x ∷ xs)
     go true e h = rw (eqb-true b 32 e) (rw (take-append-drop 8 text) at (one (take 8 text) h s))
     go false e h = let z : ◌≡◌ {A = ℕ} 0 1 = cc in absurd (omega arith)

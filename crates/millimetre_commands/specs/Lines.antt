@@ -8,7 +8,7 @@
 use Rattle.std.specs.Prelude.{◌≡◌, List, [], ◌∷◌, ◌++◌, ℕ, eqb, ℤ, Float, take, drop, get_or}
 use Rattle.std.specs.Float.{binary32}
 use Rattle.std.specs.Float.Ieee.{to_bits}
-use Rattle.whole.specs.Choice.{if◌then◌else◌}
+use Rattle.whole.specs.Choice.{when◌then◌else◌}
 use Rattle.intake.specs.Millimetres.{PointToGrid, WindowToGrid, ToMillimetres}
 use Rattle.intake.specs.declared.BackAnswer.{BackAnswer}
 use Rattle.intake.specs.declared.PointAnswer.{PointAnswer}
@@ -35,7 +35,7 @@ back_fields a = none and plain a.number and plain a.place and float (to_bits bin
 -- ---- the lines
 
 abbrev pub single_at : List ℕ → Single
-single_at text = if eqb (get_or text 0 0) 32 then single (take 8 (drop 1 text)) else Single.Bad
+single_at text = when eqb (get_or text 0 0) 32 then single (take 8 (drop 1 text)) else Single.Bad
 
 pub data Singles : List ℕ → List Float → Type 0 where
   empty : Singles [] []

@@ -9,7 +9,7 @@ use borrow.Author.Tests.{le-leb}
 use lib.IntN.{ℤ}
 use lib.ListN.{length, length-append}
 use lib.Signed.{◌<ℤ◌}
-use Rattle.whole.specs.Choice.{if◌then◌else◌}
+use Rattle.whole.specs.Choice.{when◌then◌else◌}
 use Rattle.grid.specs.declared.Answer.{Answer}
 use Rattle.grid.specs.declared.Refusal.{Refusal}
 use Rattle.grid.specs.declared.Stroke.{Stroke}
@@ -47,13 +47,13 @@ row_of_one touches w v zs a b c before after before' after' before'' after'' p q
 -- ---- how many numbers the rows are
 module _ (touches : Bool) (w : Window) (r : ℤ) (wide : w.left <ℤ w.right) (wide' : w.right <ℤ r) where
   row_length : (k : ℕ) (a : StrokeAnswer) → is_given touches a ≡ true → length (row touches k a) ≡ 5
-  row_length k a e = ap (λ (b : Bool). length (if b then five_of k a else [])) e
+  row_length k a e = ap (λ (b : Bool). length (when b then five_of k a else [])) e
 
   row_at_most : (k : ℕ) {s : Stroke} {a b c : StrokeAnswer} → Clipped w s a → Clipped (beside w r) s b → Clipped (joined w (beside w r)) s c
       → length (row touches k c) ≤ length (row touches k a) + length (row touches k b)
   row_at_most k {a = a} {b} {c} p q j = go (is_given touches c) refl
     where
-      go : (g : Bool) → is_given touches c ≡ g → length (if g then five_of k c else []) ≤ length (row touches k a) + length (row touches k b)
+      go : (g : Bool) → is_given touches c ≡ g → length (when g then five_of k c else []) ≤ length (row touches k a) + length (row touches k b)
       go false e = omega arith
       go true e = ⊎_elim (λ h. omega (arith, row_length k a h)) (λ h. omega (arith, row_length k b h)) ((clipped_given w r wide wide' p q j touches).0 e)
 

@@ -10,7 +10,7 @@ use lib.Dec.{eqb, leb}
 use lib.IntN.{ℤ, pos, ◌*ℤ◌}
 use lib.ListN.{length}
 use lib.Signed.{◌≤ℤ◌, ◌<ℤ◌, lt_z, clash_ℤ}
-use Rattle.whole.specs.Choice.{if◌then◌else◌, Decides}
+use Rattle.whole.specs.Choice.{when◌then◌else◌, Decides}
 use Rattle.whole.proofs.Comparisons.{by-test, lt_yes, lt_no, ff_tt, tt_ff}
 use Rattle.whole.proofs.Order.{zarith, <→≤, ≤_antisym}
 use Rattle.grid.specs.Calls.{answered_by, written}
@@ -42,7 +42,7 @@ use Rattle.writing.proofs.Numbers.{numbers_of, numbers_of_lem}
 
 -- ---- one pass
 unfoldable pub kept_of : Line → Point → List Point
-kept_of h u = if lt_z (value h u) (pos 0) then [] else u ∷ []
+kept_of h u = when lt_z (value h u) (pos 0) then [] else u ∷ []
 
 kept_of_lem : (h : Line) (u : Point) → Kept h u (kept_of h u)
 unfolding kept_of
@@ -50,9 +50,9 @@ kept_of_lem h u = by-test (lt_z (value h u) (pos 0)) (Kept h u) (λ e. goes (lt_
 
 unfoldable pub added_of : Line → Point → Point → List Point
 added_of h u v =
-    if lt_z (pos 0) (value h u)
-    then (if lt_z (value h v) (pos 0) then meet h u v ∷ [] else [])
-    else (if lt_z (value h u) (pos 0) then (if lt_z (pos 0) (value h v) then meet h v u ∷ [] else []) else [])
+    when lt_z (pos 0) (value h u)
+    then (when lt_z (value h v) (pos 0) then meet h u v ∷ [] else [])
+    else (when lt_z (value h u) (pos 0) then (when lt_z (pos 0) (value h v) then meet h v u ∷ [] else []) else [])
 
 added_of_lem : (h : Line) (u v : Point) → Added h u v (added_of h u v)
 unfolding added_of
@@ -106,14 +106,14 @@ cut_of_lem h (v ∷ r) = round (pass_of_lem h v r v)
 -- ---- all passes
 unfoldable pub cuts_of : List Line → List Point → Option (List Point)
 cuts_of [] r = some r
-cuts_of (h ∷ hs) r = if leb 3 (length (cut_of h r)) then cuts_of hs (cut_of h r) else none
+cuts_of (h ∷ hs) r = when leb 3 (length (cut_of h r)) then cuts_of hs (cut_of h r) else none
 
 -- ---- the start
 unfoldable pub is_before : Point → Point → Bool
 is_before p q =
-    if lt_z (p.Y *ℤ q.W) (q.Y *ℤ p.W)
+    when lt_z (p.Y *ℤ q.W) (q.Y *ℤ p.W)
     then true
-    else (if lt_z (q.Y *ℤ p.W) (p.Y *ℤ q.W) then false else lt_z (p.X *ℤ q.W) (q.X *ℤ p.W))
+    else (when lt_z (q.Y *ℤ p.W) (p.Y *ℤ q.W) then false else lt_z (p.X *ℤ q.W) (q.X *ℤ p.W))
 
 before_of : (p q : Point) → Decides (is_before p q) (Before p q)
 unfolding is_before
@@ -147,7 +147,7 @@ unfoldable pub least_of : Point → List Point → Split
 least_of v [] = record { front = []; v = v; back = [] }
 least_of v (w ∷ vs) =
     let m = least_of w vs in
-    if is_before v m.v then record { front = []; v = v; back = w ∷ vs } else record { front = v ∷ m.front; v = m.v; back = m.back }
+    when is_before v m.v then record { front = []; v = v; back = w ∷ vs } else record { front = v ∷ m.front; v = m.v; back = m.back }
 
 least_of_lem : (v : Point) (vs : List Point) → All Proper (v ∷ vs) → Least (v ∷ vs) (least_of v vs)
 unfolding least_of
@@ -230,10 +230,10 @@ outline_of_lem w o zs h on g = go (counts_of_lem (lines_in o w) (corners_of zs) 
 unfoldable pub answer_of : Window → ℕ → List ℤ → ℕ → OutlineAnswer
 answer_of w o zs room =
     let r = outline_refusal w o zs in
-    if eqb r.number 0 then answered_by refused_outline (gave_outline (passes_of w o zs)) (outline_of w o zs) room else refused_outline r
+    when eqb r.number 0 then answered_by refused_outline (gave_outline (passes_of w o zs)) (outline_of w o zs) room else refused_outline r
 
 unfoldable pub output_of : Window → ℕ → List ℤ → List ℤ → List ℤ
-output_of w o zs before = if eqb (outline_refusal w o zs).number 0 then written (outline_of w o zs) before else before
+output_of w o zs before = when eqb (outline_refusal w o zs).number 0 then written (outline_of w o zs) before else before
 
 pub answer_is : (w : Window) (o : ℕ) (zs before : List ℤ) → Outline w o zs (answer_of w o zs (length before)) before (output_of w o zs before)
 unfolding answer_of output_of
@@ -246,7 +246,7 @@ answer_is w o zs before = go (eqb (outline_refusal w o zs).number 0) refl
     full = answered_by refused_outline (gave_outline (passes_of w o zs)) (outline_of w o zs) (length before)
 
     go : (b : Bool) → eqb r.number 0 ≡ b
-        → Outline w o zs (if b then full else refused_outline r) before (if b then written (outline_of w o zs) before else before)
+        → Outline w o zs (when b then full else refused_outline r) before (when b then written (outline_of w o zs) before else before)
     go true e =
         let z = eqb-true r.number 0 e in
         let k = nothing_refused w o zs z in

@@ -18,7 +18,7 @@
 --   Outline w o zs a before after   what `outlines::clip_outline` promises, with the output before and after, refusals included
 use Rattle.std.specs.Prelude.{◌≡◌, List, [], ◌∷◌, ◌↔◌, ℕ, ◌+◌, ◌≤◌, leb, ℤ, pos, length, ◌≤ℤ◌}
 use Rattle.std.proofs.Math.Option.{none}
-use Rattle.whole.specs.Choice.{if◌then◌else◌}
+use Rattle.whole.specs.Choice.{when◌then◌else◌}
 use Rattle.grid.specs.Calls.{Lent, GivenBy}
 use Rattle.grid.specs.Refusals.{no_order, wrong_length, number_off, not_convex, refuse, first, off_table, window_refusal}
 use Rattle.grid.specs.Refusals as grid
@@ -40,7 +40,7 @@ abbrev pub last_order : ℕ
 last_order = 23
 
 unfoldable pub bad_order : ℕ → Refusal
-bad_order o = if leb o last_order then grid.none else refuse no_order 0
+bad_order o = when leb o last_order then grid.none else refuse no_order 0
 
 unfoldable pub outline_refusal : Window → ℕ → List ℤ → Refusal
 outline_refusal w o zs =

@@ -10,13 +10,13 @@ use Rattle.std.specs.Prelude.{List, [], ◌∷◌, ◌++◌, ℕ, zero, suc, ◌
 use Rattle.io.specs.Digits as Io
 use Rattle.replies.specs.declared.Reply.{Reply}
 use Rattle.text.specs.Pages.{ascii, natural, integer}
-use Rattle.whole.specs.Choice.{if◌then◌else◌}
+use Rattle.whole.specs.Choice.{when◌then◌else◌}
 
 unfoldable pub bits_text : ℕ → List ℕ
 bits_text n = Io.last_digits 16 8 (n % 2 ^ 32)
 
 unfoldable pub field_text : ℕ → ℕ → List ℕ
-field_text form size = if eqb form 1 then 45 ∷ natural size else if eqb form 2 then bits_text size else natural size
+field_text form size = when eqb form 1 then 45 ∷ natural size else when eqb form 2 then bits_text size else natural size
 
 unfoldable pub fields_text : ℕ → List ℕ → List ℕ → List ℕ
 fields_text zero forms sizes = []
@@ -32,4 +32,4 @@ lent_line zs = lent_text zs ++ ascii "\n"
 
 unfoldable pub reply_line : Reply → List ℤ → List ℕ
 reply_line r lent =
-    if eqb r.count 0 then ascii "?\n" else fields_text r.count r.forms r.sizes ++ lent_line (take r.room lent)
+    when eqb r.count 0 then ascii "?\n" else fields_text r.count r.forms r.sizes ++ lent_line (take r.room lent)

@@ -7,7 +7,7 @@ use native.Mathlib.Omega.{arith}
 use lib.IntN.{ℤ, pos}
 use lib.ListN.{length, take, drop, length-take, length-drop, drop_of_length-le}
 use lib.Seq.{slice, slice-cons, length-slice, drop-drop}
-use Rattle.whole.specs.Choice.{if◌then◌else◌}
+use Rattle.whole.specs.Choice.{when◌then◌else◌}
 use Rattle.grid.specs.Table.{sides}
 use Rattle.grid.specs.declared.Window.{Window}
 use Rattle.slots.specs.Slots.{Slot, slots_of, strips_in, in_use, slot_at, slot_of, slot_numbers, free_slot}
@@ -24,8 +24,8 @@ listed_length k [] = refl
 listed_length k (s ∷ ss) = go (in_use s) (listed_length (suc k) ss)
   where
     go : (u : Bool) → length (listed_from (suc k) ss) ≡ 5 * length (strips_in ss)
-        → length (if u then pos k ∷ sides s.strip ++ listed_from (suc k) ss else listed_from (suc k) ss)
-        ≡ 5 * length (if u then s.strip ∷ strips_in ss else strips_in ss)
+        → length (when u then pos k ∷ sides s.strip ++ listed_from (suc k) ss else listed_from (suc k) ss)
+        ≡ 5 * length (when u then s.strip ∷ strips_in ss else strips_in ss)
     go true e = omega arith
     go false e = e
 

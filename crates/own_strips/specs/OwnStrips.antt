@@ -4,7 +4,7 @@
 --   listing_refusal renter zs   what listing refuses: 19, then 23
 --   ListStrips renter zs a before after   what `own_strips::list_strips` promises of the table zs, its answer, and its output before and after
 use Rattle.std.specs.Prelude.{◌≡◌, List, [], ◌∷◌, ◌++◌, ℕ, suc, ℤ, pos}
-use Rattle.whole.specs.Choice.{if◌then◌else◌}
+use Rattle.whole.specs.Choice.{when◌then◌else◌}
 use Rattle.grid.specs.Calls.{Call}
 use Rattle.grid.specs.Refusals.{first}
 use Rattle.grid.specs.Table.{sides}
@@ -16,7 +16,7 @@ use Rattle.strip_book.specs.Renters.{half}
 
 unfoldable pub listed_from : ℕ → List Slot → List ℤ
 listed_from k [] = []
-listed_from k (s ∷ ss) = if in_use s then pos k ∷ sides s.strip ++ listed_from (suc k) ss else listed_from (suc k) ss
+listed_from k (s ∷ ss) = when in_use s then pos k ∷ sides s.strip ++ listed_from (suc k) ss else listed_from (suc k) ss
 
 unfoldable pub listing_refusal : ℤ → List ℤ → Refusal
 listing_refusal renter zs = first (renter_refusal renter ∷ table_refusal zs ∷ [])

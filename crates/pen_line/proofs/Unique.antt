@@ -10,7 +10,7 @@ use native.Mathlib.Omega.{arith}
 use borrow.Author.Tests.{lt-ltb, le-ltb, eq-eqb, ne_eqb, eqb-true, eqb-false}
 use lib.Dec.{eqb, ltb}
 use lib.ListN.{length, get_or, length-append}
-use Rattle.whole.specs.Choice.{if◌then◌else◌}
+use Rattle.whole.specs.Choice.{when◌then◌else◌}
 use Rattle.text.specs.Pages.{Put, big_endian}
 use Rattle.text.proofs.Puts.{put_unique}
 use Rattle.decimal.specs.Decimals.{Reads}
@@ -30,10 +30,10 @@ use Rattle.pen_line.specs.declared.Step.TheVariants.{Done, Wrong}
 -- ---- what a word asks for, by its first letter
 
 abbrev first_byte : ℕ → ℕ
-first_byte s = if eqb s 115 then 1 else if eqb s 109 then 77 else if eqb s 108 then 76 else 90
+first_byte s = when eqb s 115 then 1 else when eqb s 109 then 77 else when eqb s 108 then 76 else 90
 
 abbrev how_many : ℕ → ℕ
-how_many s = if eqb s 115 then 4 else if eqb s 99 then 0 else 2
+how_many s = when eqb s 115 then 4 else when eqb s 99 then 0 else 2
 
 by_letter : {w : List ℕ} {b n : ℕ} → Asks w b n → (b ≡ first_byte (get_or w 0 0)) × (n ≡ how_many (get_or w 0 0))
 by_letter strip = (refl, refl)
@@ -99,10 +99,10 @@ record_unique r s =
 
 -- why a line is refused that asks for the first byte b and k numbers
 abbrev placed : ℕ → ℕ → Fault → Fault
-placed b n f = if eqb n 0 then (if eqb b 1 then f else NoStrip) else if eqb b 1 then SecondStrip else f
+placed b n f = when eqb n 0 then (when eqb b 1 then f else NoStrip) else when eqb b 1 then SecondStrip else f
 
 abbrev why : ℕ → ℕ → ℕ → ℕ → Fault
-why n room b k = placed b n (if ltb room (n + 1 + k * 4) then LongDrawing else NotNumbers k)
+why n room b k = placed b n (when ltb room (n + 1 + k * 4) then LongDrawing else NotNumbers k)
 
 well_placed : {b n : ℕ} → Ordered b n → (f : Fault) → placed b n f ≡ f
 well_placed {b} {n} o f = go (eqb n 0) refl

@@ -8,7 +8,7 @@ use borrow.Author.Tests.{lt-ltb, le-ltb, eq-eqb, ne_eqb}
 use lib.Dec.{eqb}
 use lib.ListN.{length, get_or, take, drop, length-drop}
 use lib.Seq.{length-take-le}
-use Rattle.whole.specs.Choice.{if◌then◌else◌}
+use Rattle.whole.specs.Choice.{when◌then◌else◌}
 use Rattle.whole.proofs.Comparisons.{tt_ff}
 use Rattle.text.specs.Pages.{ascii}
 use Rattle.text.specs.Runs.{run, is_not}
@@ -87,7 +87,7 @@ module _ (l : List ℕ) (e : ℕ) (p : e ≡ 0 + run (is_not 35) (drop 0 l)) whe
   comment h = let q = at_comment in rw (lt-ltb (run (is_not 35) l) (length l) (omega arith)) q
 
   module _ (h : length l ≤ e) (k : e ≤ length l) where
-    no_comment : words_end l ≡ (if eqb (get_or l (length l - 1) 0) 13 then length l - 1 else length l)
+    no_comment : words_end l ≡ (when eqb (get_or l (length l - 1) 0) 13 then length l - 1 else length l)
     unfolding words_end
     no_comment = let q = at_comment in rw (le-ltb (run (is_not 35) l) (length l) (omega arith)) refl
 

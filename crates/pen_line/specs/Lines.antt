@@ -11,7 +11,7 @@
 --                         that ends the line
 --   spoken l              l up to there
 use Rattle.std.specs.Prelude.{◌≡◌, List, [], ◌++◌, ℕ, ◌+◌, ◌-◌, ◌<◌, eqb, ltb, length, get_or, take, drop}
-use Rattle.whole.specs.Choice.{if◌then◌else◌}
+use Rattle.whole.specs.Choice.{when◌then◌else◌}
 use Rattle.text.specs.Pages.{ascii, big_endian}
 use Rattle.text.specs.Runs.{run, is, is_not}
 use Rattle.decimal.specs.Decimals.{Reads}
@@ -62,8 +62,8 @@ pub record Record (l : List ℕ) (b : ℕ) (bs : List ℕ) : Type 0 where
 
 unfoldable pub words_end : List ℕ → ℕ
 words_end l =
-    if ltb (run (is_not 35) l) (length l) then run (is_not 35) l
-    else if eqb (get_or l (length l - 1) 0) 13 then length l - 1
+    when ltb (run (is_not 35) l) (length l) then run (is_not 35) l
+    else when eqb (get_or l (length l - 1) 0) 13 then length l - 1
     else length l
 
 abbrev pub spoken : List ℕ → List ℕ

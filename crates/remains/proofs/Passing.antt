@@ -7,7 +7,7 @@ use native.Mathlib.Omega.{arith}
 use borrow.Author.Tests.{eq-eqb, ne_eqb}
 use lib.Dec.{eqb}
 use lib.IntN.{ℤ}
-use Rattle.whole.specs.Choice.{if◌then◌else◌}
+use Rattle.whole.specs.Choice.{when◌then◌else◌}
 use Rattle.grid.specs.declared.Window.{Window}
 use Rattle.grid.specs.Sides.{Side}
 use Rattle.rings.specs.Lists.{All, ∅, ◌◂◌, nothing}
@@ -92,7 +92,7 @@ module _ (w : Window) {zs : List ℤ} (s : Side) (g : OutlineOnTable zs) where
     third_in (suc z) r u n k =
         rest_inside h (point_in m a) (ring_from m (suc from) x) (ring_from m (suc a) y) (subst Ring (three_points m from x y z) r) u n (k (omega arith))
 
-    next_point : (z : ℕ) → point_in m (if eqb b (b + z) then from else b) ≡ (next_of (corners_from m b z) (corner_in m from)).point
+    next_point : (z : ℕ) → point_in m (when eqb b (b + z) then from else b) ≡ (next_of (corners_from m b z) (corner_in m from)).point
     unfolding corners_from
     next_point zero = simp (eq-eqb b (b + 0) (sym (add-zero b)))
     next_point (suc z) = simp (ne_eqb b (b + suc z) (λ (e : b ≡ b + suc z). absurd (omega arith)))
@@ -100,7 +100,7 @@ module _ (w : Window) {zs : List ℤ} (s : Side) (g : OutlineOnTable zs) where
     -- what is left stands in a memory m' from the place at on: the first run up to its last corner, the corners t and c at the ends of the second, and the third
     pub cut_stands : (z : ℕ) → Held w zs m (places from (b + z)) → ((i : ℕ) → from ≤ i → i < a → In h (point_in m i))
         → ((i : ℕ) → a ≤ i → i < b → Out h (point_in m i)) → (b < b + z → In h (point_in m b))
-        → {t c : List Tagged} → Goes w zs s (corner_in m (from + x)) [] t → Comes w zs s (corner_in m (a + y)) (point_in m (if eqb b (b + z) then from else b)) c
+        → {t c : List Tagged} → Goes w zs s (corner_in m (from + x)) [] t → Comes w zs s (corner_in m (a + y)) (point_in m (when eqb b (b + z) then from else b)) c
         → (m' : List ℤ) (at n' : ℕ) → corners_from m' at n' ≡ (corners_from m from x ++ t) ++ (c ++ corners_from m b z) → n' + at ≤ suc (b + z)
         → Passed w zs s m (places from (b + z)) m' (places at (at + n'))
     unfolding corners_from

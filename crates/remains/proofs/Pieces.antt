@@ -8,7 +8,7 @@ use borrow.Author.Tests.{lt-ltb, le-ltb}
 use lib.Dec.{ltb}
 use lib.IntN.{ℤ, nat_abs}
 use lib.ListN.{length}
-use Rattle.whole.specs.Choice.{if◌then◌else◌}
+use Rattle.whole.specs.Choice.{when◌then◌else◌}
 use Rattle.whole.proofs.Order.{zarith, <→≤, ≡→≤}
 use Rattle.grid.specs.declared.Window.{Window}
 use Rattle.grid.specs.declared.Stroke.{Stroke}
@@ -49,7 +49,7 @@ module _ {h : Line} where
 
 -- ---- a tag names one stroke
 naming : Window → List ℤ → ℕ → Stroke
-naming w zs k = if ltb k 64 then edge_of zs k else side_stroke w (side_at (k - 64))
+naming w zs k = when ltb k 64 then edge_of zs k else side_stroke w (side_at (k - 64))
 
 names_are : {w : Window} {zs : List ℤ} {t : ℤ} {e : Stroke} → length zs ≤ 128 → Names w zs t e → e ≡ naming w zs (nat_abs t)
 unfolding naming

@@ -2,7 +2,7 @@
 #![tactic(auto)]
 
 ghost use Rattle.std.specs.Prelude.{◌≡◌, ◌+◌, ◌*◌, ◌<◌, ◌≤◌, eqb, length};
-ghost use Rattle.whole.specs.Choice.{if◌then◌else◌};
+ghost use Rattle.whole.specs.Choice.{when◌then◌else◌};
 ghost use Rattle.grid.specs.Sides.{side_at};
 ghost use Rattle.memory.specs.Memory.{point_in};
 ghost use Rattle.memory.specs.Tagged.{put_at};
@@ -24,7 +24,7 @@ pub fn turn_along(m: &mut [i32], i: usize, side: usize) -> usize
 // A ring has the places from one up to another, and b is where a run of its corners ends: the place of the corner that comes next. The ring is closed, so
 // after a run up to its very end the next corner is its first.
 pub fn after(b: usize, from: usize, to: usize) -> usize
-    ensures { result ≡ (if eqb b to then from else b) }
+    ensures { result ≡ (when eqb b to then from else b) }
 {
     if b == to {
         return from;

@@ -9,7 +9,7 @@
 --                       legend explains: 62 hundredths of the table's width from its left side, 5 wide and 3 high
 --   renter_art r zs      the group: the sample, and the strips of his 32 slots
 use Rattle.std.specs.Prelude.{List, [], ◌++◌, ℕ, zero, suc, ◌+◌, ◌*◌, eqb, ℤ, pos, length}
-use Rattle.whole.specs.Choice.{if◌then◌else◌}
+use Rattle.whole.specs.Choice.{when◌then◌else◌}
 use Rattle.text.specs.Pages.{ascii}
 use Rattle.marks.specs.Marks.{labelled}
 use Rattle.slots.specs.Slots.{slot_at, in_use, strips_in}
@@ -20,7 +20,7 @@ unfoldable pub strip_count : ℕ → List ℤ → ℕ
 strip_count r zs = length (strips_in (half (pos r) zs))
 
 unfoldable pub slot_art : ℕ → List ℤ → ℕ → List ℕ
-slot_art r zs k = let s = slot_at zs (first_slot (pos r) + k) in if in_use s then strip_art r k s.strip else []
+slot_art r zs k = let s = slot_at zs (first_slot (pos r) + k) in when in_use s then strip_art r k s.strip else []
 
 unfoldable pub slot_arts : ℕ → List ℤ → ℕ → List ℕ
 slot_arts r zs zero = []
@@ -28,7 +28,7 @@ slot_arts r zs (suc n) = slot_arts r zs n ++ slot_art r zs n
 
 unfoldable pub look : ℕ → List ℕ
 look r =
-    if eqb r 0 then ascii "<g color=\"#14324f\" stroke=\"#14324f\" fill=\"#14324f\""
+    when eqb r 0 then ascii "<g color=\"#14324f\" stroke=\"#14324f\" fill=\"#14324f\""
     else ascii "<g color=\"#8f4300\" stroke=\"#8f4300\" fill=\"#e9a23b\" stroke-dasharray=\"128 96\" stroke-linecap=\"butt\""
 
 abbrev pub sample_top : ℕ → ℕ

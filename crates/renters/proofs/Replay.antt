@@ -9,7 +9,7 @@ use lib.Dec.{eqb}
 use lib.IntN.{ℤ, pos, negsuc, nat_abs}
 use lib.ListN.{set}
 use lib.Seq.{sets}
-use Rattle.whole.specs.Choice.{if◌then◌else◌}
+use Rattle.whole.specs.Choice.{when◌then◌else◌}
 use Rattle.whole.proofs.Comparisons.{ff_tt, tt_ff}
 use Rattle.grid.specs.Calls.{Refused}
 use Rattle.grid.specs.declared.Window.{Window}
@@ -33,8 +33,8 @@ told renter ss (to_release z) = release renter z (release_told renter z ss)
 told renter ss (to_list out) = listing renter out (listing_told renter out ss) (output_told renter out ss)
 
 abbrev moved : List Slot → Asked → List Slot
-moved ss (to_book w a) = if eqb a.number 0 then set ss (lowest_free ss) (slot_of 1 w) else ss
-moved ss (to_release z) = if used_at ss z then set ss (nat_abs z) free_slot else ss
+moved ss (to_book w a) = when eqb a.number 0 then set ss (lowest_free ss) (slot_of 1 w) else ss
+moved ss (to_release z) = when used_at ss z then set ss (nat_abs z) free_slot else ss
 moved ss (to_list out) = ss
 
 -- the same of all his calls

@@ -7,7 +7,7 @@ use borrow.Author.Tests.{eqb-true, eqb-false}
 use lib.Dec.{eqb}
 use lib.IntN.{ℤ}
 use lib.ListN.{length}
-use Rattle.whole.specs.Choice.{if◌then◌else◌}
+use Rattle.whole.specs.Choice.{when◌then◌else◌}
 use Rattle.grid.specs.Calls.{Refused, Lent, written, answered, refused_by}
 use Rattle.grid.specs.Refusals.{none, refuse, window_refusal}
 use Rattle.grid.specs.declared.Answer.{Answer}
@@ -27,7 +27,7 @@ use Rattle.own_strips.proofs.Refusing.{refuses_renter as refuses-lister, lists}
 
 -- what is shown to a renter of a book: his half; who is no renter is shown nothing
 abbrev pub shown : ℤ → List ℤ → List Slot
-shown renter zs = if is_renter renter then half renter zs else []
+shown renter zs = when is_renter renter then half renter zs else []
 
 -- a call that refuses by a known refusal
 pub lent_refuses : {A M : Type 0} {blank : Refusal → A} {r q : Refusal} {Done : A → M → M → Type 0} {a : A} {before after : M}
@@ -38,7 +38,7 @@ lent_refuses {blank} p e n =
 
 -- ---- a release
 abbrev pub release_told : ℤ → ℤ → List Slot → ReleaseAnswer
-release_told renter z ss = release_answer (if is_renter renter then (if used_at ss z then none else refuse slot_not_in_use 0) else refuse unknown_renter 0)
+release_told renter z ss = release_answer (when is_renter renter then (when used_at ss z then none else refuse slot_not_in_use 0) else refuse unknown_renter 0)
 
 module _ {renter z : ℤ} {a : ReleaseAnswer} {book after : List ℤ} (b : is_book book ≡ true) (p : ReleaseSlot renter z a book after) where
   pub release_told_lem : a ≡ release_told renter z (shown renter book)
@@ -51,10 +51,10 @@ module _ {renter z : ℤ} {a : ReleaseAnswer} {book after : List ℤ} (b : is_bo
 
 -- ---- a listing
 abbrev pub listing_told : ℤ → List ℤ → List Slot → Answer
-listing_told renter out ss = if is_renter renter then answered (listed_from 0 ss) (length out) else refused_by (refuse unknown_renter 0)
+listing_told renter out ss = when is_renter renter then answered (listed_from 0 ss) (length out) else refused_by (refuse unknown_renter 0)
 
 abbrev pub output_told : ℤ → List ℤ → List Slot → List ℤ
-output_told renter out ss = if is_renter renter then written (listed_from 0 ss) out else out
+output_told renter out ss = when is_renter renter then written (listed_from 0 ss) out else out
 
 module _ (renter : ℤ) (book : List ℤ) {a : Answer} {out after : List ℤ} (b : is_book book ≡ true) (p : ListStrips renter book a out after) where
   pub listing_told_lem : (a ≡ listing_told renter out (shown renter book)) × (after ≡ output_told renter out (shown renter book))
@@ -69,9 +69,9 @@ module _ (renter : ℤ) (book : List ℤ) {a : Answer} {out after : List ℤ} (b
 -- ---- a booking: what is answered unless it is 16, and that is answered only where it would else be booked
 abbrev pub booking_told : ℤ → Window → List Slot → BookingAnswer
 booking_told renter w ss =
-    let free : BookingAnswer = if all in_use ss then refused_booking (refuse half_full 0) else booked_in (lowest_free ss) in
-    let known : BookingAnswer = if eqb (window_refusal w).number 0 then free else refused_booking (window_refusal w) in
-    if is_renter renter then known else refused_booking (refuse unknown_renter 0)
+    let free : BookingAnswer = when all in_use ss then refused_booking (refuse half_full 0) else booked_in (lowest_free ss) in
+    let known : BookingAnswer = when eqb (window_refusal w).number 0 then free else refused_booking (window_refusal w) in
+    when is_renter renter then known else refused_booking (refuse unknown_renter 0)
 
 pub number_told : {a b : BookingAnswer} → a ≡ b → a.number ≡ b.number
 number_told e = ap (λ (x : BookingAnswer). x.number) e

@@ -9,7 +9,7 @@
 --                          bookings; the calls of others may be any, as many and between which of his calls they like, also of renters that there
 --                          are not
 use Rattle.std.specs.Prelude.{◌≡◌, Bool, false, List, [], ◌∷◌, map, eqb, ℤ, pos, negsuc}
-use Rattle.whole.specs.Choice.{if◌then◌else◌}
+use Rattle.whole.specs.Choice.{when◌then◌else◌}
 use Rattle.grid.specs.declared.Window.{Window}
 use Rattle.strip_book.specs.declared.BookingAnswer.{BookingAnswer}
 use Rattle.bookkeeping.specs.Runs.{Event, booking, release, listing, renter_of, FromEmpty}
@@ -22,7 +22,7 @@ same_number (negsuc m) (pos n) = false
 
 unfoldable pub own_events : ℤ → List Event → List Event
 own_events renter [] = []
-own_events renter (e ∷ es) = if same_number (renter_of e) renter then e ∷ own_events renter es else own_events renter es
+own_events renter (e ∷ es) = when same_number (renter_of e) renter then e ∷ own_events renter es else own_events renter es
 
 pub data Asked : Type 0 where
   to_book : Window → BookingAnswer → Asked

@@ -15,7 +15,7 @@
 use Rattle.std.specs.Prelude.{◌≡◌, ℕ, zero, suc, Bool, List, eqb, ℤ, pos, neg_ℤ, get_or}
 use Rattle.grid.specs.declared.Answer.{Answer}
 use Rattle.grid.specs.declared.Window.{Window}
-use Rattle.whole.specs.Choice.{if◌then◌else◌}
+use Rattle.whole.specs.Choice.{when◌then◌else◌}
 use Rattle.replies.specs.declared.Reply.{Reply}
 
 pub data Field : Type 0 where
@@ -26,7 +26,7 @@ abbrev pub plain : ℕ → Field
 plain n = number (pos n)
 
 abbrev pub flag : Bool → Field
-flag b = plain (if b then 1 else 0)
+flag b = plain (when b then 1 else 0)
 
 infixl 30 ◌and◌
 pub data Fields : Type 0 where
@@ -40,7 +40,7 @@ abbrev pub answer_fields : Answer → Fields
 answer_fields a = none and plain a.number and plain a.place and plain a.count
 
 unfoldable pub field_of : ℕ → ℕ → Field
-field_of form size = if eqb form 1 then number (neg_ℤ (pos size)) else if eqb form 2 then float size else plain size
+field_of form size = when eqb form 1 then number (neg_ℤ (pos size)) else when eqb form 2 then float size else plain size
 
 unfoldable pub first_fields : ℕ → List ℕ → List ℕ → Fields
 first_fields zero forms sizes = none

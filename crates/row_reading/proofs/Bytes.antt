@@ -10,7 +10,7 @@ use borrow.Author.Tests.{ltb-true, ne_eqb}
 use lib.Dec.{ltb, lit<}
 use lib.IntN.{ℤ, pos, negsuc}
 use lib.ListN.{length, length-append}
-use Rattle.whole.specs.Choice.{if◌then◌else◌}
+use Rattle.whole.specs.Choice.{when◌then◌else◌}
 use Rattle.text.specs.Pages.{digits, natural, integer}
 use Rattle.text.specs.Runs.{run, is_not}
 use Rattle.text.proofs.Runs.{run_passed}
@@ -27,7 +27,7 @@ module _ (b : ℕ) (odd : (b < 45) ⊎ (57 < b)) where
   over_digits (suc k) n rest = go (ltb n 10) refl (λ (r : List ℕ). over_digits k (n / 10) r)
     where
       go : (t : Bool) → ltb n 10 ≡ t → ((r : List ℕ) → run (is_not b) (digits k (n / 10) ++ r) ≡ length (digits k (n / 10)) + run (is_not b) r)
-          → let ds = if t then (48 + n) ∷ [] else digits k (n / 10) ++ (48 + n % 10) ∷ [] in
+          → let ds = when t then (48 + n) ∷ [] else digits k (n / 10) ++ (48 + n % 10) ∷ [] in
           run (is_not b) (ds ++ rest) ≡ length ds + run (is_not b) rest
       go true e f = omega (arith, passes (48 + n) rest (omega arith) (omega (arith, ltb-true n 10 e)))
       go false e f =

@@ -4,19 +4,19 @@
 --   bar l e       the bar, l long and e high: five dark parts of ten. In it one unit is its length, and the other its height
 --   ruler e       the bar, and the words below it, where the unit is e
 use Rattle.std.specs.Prelude.{List, ◌++◌, ℕ, eqb, ltb}
-use Rattle.whole.specs.Choice.{if◌then◌else◌}
+use Rattle.whole.specs.Choice.{when◌then◌else◌}
 use Rattle.text.specs.Pages.{ascii}
 use Rattle.marks.specs.Marks.{labelled, labelled_pair}
 
 unfoldable pub bar_length : ℕ → ℕ
-bar_length e = if ltb e 5 then 32 else if ltb e 50 then 320 else if ltb e 500 then 3200 else if ltb e 5000 then 32000 else 320000
+bar_length e = when ltb e 5 then 32 else when ltb e 50 then 320 else when ltb e 500 then 3200 else when ltb e 5000 then 32000 else 320000
 
 unfoldable pub bar_words : ℕ → List ℕ
 bar_words l =
-    if eqb l 32 then ascii "0.01 mm"
-    else if eqb l 320 then ascii "0.1 mm"
-    else if eqb l 3200 then ascii "1 mm"
-    else if eqb l 32000 then ascii "10 mm"
+    when eqb l 32 then ascii "0.01 mm"
+    else when eqb l 320 then ascii "0.1 mm"
+    else when eqb l 3200 then ascii "1 mm"
+    else when eqb l 32000 then ascii "10 mm"
     else ascii "100 mm"
 
 unfoldable pub bar : ℕ → ℕ → List ℕ

@@ -9,7 +9,7 @@
 --   of_numbers l i n    the first slip in the next n words of l from the place i on, which should be numbers
 --   of_line l n         the slip in the line l, whose first word should be followed by n numbers
 use Rattle.std.specs.Prelude.{Bool, ◌&&◌, ◌||◌, List, ℕ, zero, suc, ◌-◌, eqb, leb, length, get_or, drop}
-use Rattle.whole.specs.Choice.{if◌then◌else◌}
+use Rattle.whole.specs.Choice.{when◌then◌else◌}
 use Rattle.text.specs.Runs.{run, is, is_in}
 use Rattle.decimal.specs.Decimals.{is_digit}
 use Rattle.pen_line.specs.Lines.{start_of, end_of, word}
@@ -26,16 +26,16 @@ unfoldable pub is_capital : ℕ → Bool
 is_capital b = leb 65 b && leb b 90
 
 unfoldable pub of_digits : List ℕ → Slip
-of_digits w = if is_in 101 w || is_in 69 w then Exponent else Other
+of_digits w = when is_in 101 w || is_in 69 w then Exponent else Other
 
 -- A comma before all else: what stands around it may be two numbers.
 unfoldable pub of_plain : List ℕ → Slip
 of_plain w =
-    if is_in 44 w then Comma
-    else if eqb (get_or w (length w - 1) 0) 46 then PointLast
-    else if eqb (get_or w 0 0) 46 then PointFirst
-    else if eqb (get_or w 0 0) 43 then Plus
-    else if is_digit (get_or w 0 0) then of_digits w
+    when is_in 44 w then Comma
+    else when eqb (get_or w (length w - 1) 0) 46 then PointLast
+    else when eqb (get_or w 0 0) 46 then PointFirst
+    else when eqb (get_or w 0 0) 43 then Plus
+    else when is_digit (get_or w 0 0) then of_digits w
     else Other
 
 unfoldable pub of_number : List ℕ → Slip
@@ -61,7 +61,7 @@ of_numbers l i (suc n) = of_number (word l i) or_else of_numbers l (end_of l i) 
 -- What is not seen on a screen comes first.
 unfoldable pub of_line : List ℕ → ℕ → Slip
 of_line l n =
-    if has_mark l then Mark
-    else if unseen l then Unseen
-    else if is_capital (get_or l (start_of l 0) 0) then Capital
+    when has_mark l then Mark
+    else when unseen l then Unseen
+    else when is_capital (get_or l (start_of l 0) 0) then Capital
     else of_numbers l (end_of l 0) n

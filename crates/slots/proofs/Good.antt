@@ -8,7 +8,7 @@ use native.Mathlib.Omega.{arith}
 use borrow.Author.Tests.{eq-eqb, ne_eqb}
 use lib.IntN.{ℤ, pos, negsuc}
 use lib.ListN.{length, drop, length-drop}
-use Rattle.whole.specs.Choice.{if◌then◌else◌}
+use Rattle.whole.specs.Choice.{when◌then◌else◌}
 use Rattle.whole.proofs.Comparisons.{ff_tt}
 use Rattle.grid.specs.Refusals.{window_refusal}
 use Rattle.racks.specs.Members.{all}
@@ -72,7 +72,7 @@ module _ (s : Slot) (ss : List Slot) where
   bad_strip p h =
       ap (λ (b : Bool). ((b || in_use s) && marks) && all good_strip (strips_in (s ∷ ss))) (is_not s.mark 0 p) ∙ go (in_use s)
     where
-      go : (u : Bool) → (u && marks) && all good_strip (if u then s.strip ∷ strips_in ss else strips_in ss) ≡ false
+      go : (u : Bool) → (u && marks) && all good_strip (when u then s.strip ∷ strips_in ss else strips_in ss) ≡ false
       go false = refl
       go true = ap (λ (g : Bool). marks && (g && strips)) (ne_eqb (window_refusal s.strip).number 0 h) ∙ none_last marks
 
@@ -81,7 +81,7 @@ module _ (s : Slot) (ss : List Slot) where
   unfolding strips_in all
   good_behind = go (good_mark s) (in_use s)
     where
-      go : (g u : Bool) → (g && all good_mark ss) && all good_strip (if u then s.strip ∷ strips_in ss else strips_in ss) ≡ true → each_good ss ≡ true
+      go : (g u : Bool) → (g && all good_mark ss) && all good_strip (when u then s.strip ∷ strips_in ss else strips_in ss) ≡ true → each_good ss ≡ true
       go false u e = absurd (ff_tt e)
       go true false e = e
       go true true e = both marks (good_strip s.strip) strips e
@@ -112,7 +112,7 @@ unfolding strips_in
 strips_few [] = omega arith
 strips_few (s ∷ ss) = go (in_use s) (strips_few ss)
   where
-    go : (u : Bool) → length (strips_in ss) ≤ length ss → length (if u then s.strip ∷ strips_in ss else strips_in ss) ≤ length (s ∷ ss)
+    go : (u : Bool) → length (strips_in ss) ≤ length ss → length (when u then s.strip ∷ strips_in ss else strips_in ss) ≤ length (s ∷ ss)
     go true h = omega arith
     go false h = omega arith
 
@@ -123,7 +123,7 @@ strips_full [] e = refl
 strips_full (s ∷ ss) e = go (in_use s) e (strips_full ss)
   where
     go : (u : Bool) → u && all in_use ss ≡ true → (all in_use ss ≡ true → length (strips_in ss) ≡ length ss)
-        → length (if u then s.strip ∷ strips_in ss else strips_in ss) ≡ length (s ∷ ss)
+        → length (when u then s.strip ∷ strips_in ss else strips_in ss) ≡ length (s ∷ ss)
     go true e h = ap suc (h e)
     go false e h = absurd (ff_tt e)
 
@@ -132,7 +132,7 @@ unfolding strips_in all
 full_strips [] e = refl
 full_strips (s ∷ ss) e = go (in_use s) e (full_strips ss)
   where
-    go : (u : Bool) → length (if u then s.strip ∷ strips_in ss else strips_in ss) ≡ length (s ∷ ss)
+    go : (u : Bool) → length (when u then s.strip ∷ strips_in ss else strips_in ss) ≡ length (s ∷ ss)
         → (length (strips_in ss) ≡ length ss → all in_use ss ≡ true) → (u && all in_use ss) ≡ true
     go true e h = h (omega arith)
     go false e h = absurd (omega (arith, e, strips_few ss))

@@ -7,7 +7,7 @@ use native.Mathlib.Omega.{arith}
 use lib.IntN.{ℤ}
 use lib.ListN.{length, take, get_or, length-take, drop_of_length-le}
 use lib.Seq.{slice, slice-cons}
-use Rattle.whole.specs.Choice.{if◌then◌else◌}
+use Rattle.whole.specs.Choice.{when◌then◌else◌}
 use Rattle.whole.proofs.Comparisons.{ff_tt, tt_ff}
 use Rattle.racks.specs.Members.{all}
 use Rattle.slots.specs.Slots.{Slot, slots_of, in_use, lowest_free, free_slot}
@@ -19,7 +19,7 @@ lowest_free_lem [] = refl
 lowest_free_lem (s ∷ ss) = go (in_use s) refl (lowest_free_lem ss)
   where
     go : (b : Bool) → in_use s ≡ b → in_use (get_or ss (lowest_free ss) free_slot) ≡ false
-        → in_use (get_or (s ∷ ss) (if b then suc (lowest_free ss) else 0) free_slot) ≡ false
+        → in_use (get_or (s ∷ ss) (when b then suc (lowest_free ss) else 0) free_slot) ≡ false
     go true e f = f
     go false e f = e
 
@@ -28,7 +28,7 @@ unfolding lowest_free
 used_below [] j h = absurd (omega arith)
 used_below (s ∷ ss) j h = go (in_use s) refl j h (used_below ss)
   where
-    go : (b : Bool) → in_use s ≡ b → (j : ℕ) → j < (if b then suc (lowest_free ss) else 0)
+    go : (b : Bool) → in_use s ≡ b → (j : ℕ) → j < (when b then suc (lowest_free ss) else 0)
         → ((i : ℕ) → i < lowest_free ss → in_use (get_or ss i free_slot) ≡ true) → in_use (get_or (s ∷ ss) j free_slot) ≡ true
     go true e zero h f = e
     go true e (suc j) h f = f j (omega arith)
@@ -40,7 +40,7 @@ free_among [] e = absurd (tt_ff e)
 free_among (s ∷ ss) e = go (in_use s) e (free_among ss)
   where
     go : (b : Bool) → (b && all in_use ss) ≡ false → (all in_use ss ≡ false → lowest_free ss < length ss)
-        → (if b then suc (lowest_free ss) else 0) < suc (length ss)
+        → (when b then suc (lowest_free ss) else 0) < suc (length ss)
     go true e f = omega (arith, f e)
     go false e f = omega arith
 
@@ -50,7 +50,7 @@ lowest_none [] e = refl
 lowest_none (s ∷ ss) e = go (in_use s) e (lowest_none ss)
   where
     go : (u : Bool) → u && all in_use ss ≡ true → (all in_use ss ≡ true → lowest_free ss ≡ length ss)
-        → (if u then suc (lowest_free ss) else 0) ≡ length (s ∷ ss)
+        → (when u then suc (lowest_free ss) else 0) ≡ length (s ∷ ss)
     go true e h = ap suc (h e)
     go false e h = absurd (ff_tt e)
 

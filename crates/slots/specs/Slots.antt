@@ -15,7 +15,7 @@
 --   lowest_free ss     the place of the first slot that is not in use; how many there are, if all are
 --   slot_numbers s     the five numbers of the slot s
 use Rattle.std.specs.Prelude.{Bool, true, false, not, ◌&&◌, ◌||◌, List, [], ◌∷◌, ℕ, suc, eqb, ℤ, pos, negsuc, length, get_or}
-use Rattle.whole.specs.Choice.{if◌then◌else◌}
+use Rattle.whole.specs.Choice.{when◌then◌else◌}
 use Rattle.grid.specs.Refusals.{window_refusal}
 use Rattle.grid.specs.Table.{sides}
 use Rattle.grid.specs.declared.Window.{Window}
@@ -52,7 +52,7 @@ in_use s = number_is 1 s.mark
 
 unfoldable pub strips_in : List Slot → List Window
 strips_in [] = []
-strips_in (s ∷ ss) = if in_use s then s.strip ∷ strips_in ss else strips_in ss
+strips_in (s ∷ ss) = when in_use s then s.strip ∷ strips_in ss else strips_in ss
 
 -- ---- a book
 
@@ -76,7 +76,7 @@ is_book zs = eqb (length zs) 320 && slots_good (slots_of zs)
 
 unfoldable pub lowest_free : List Slot → ℕ
 lowest_free [] = 0
-lowest_free (s ∷ ss) = if in_use s then suc (lowest_free ss) else 0
+lowest_free (s ∷ ss) = when in_use s then suc (lowest_free ss) else 0
 
 abbrev pub slot_numbers : Slot → List ℤ
 slot_numbers s = s.mark ∷ sides s.strip

@@ -6,7 +6,7 @@ use native.Mathlib.Omega.{arith}
 use lib.IntN.{ℤ, pos, ◌-ℤ◌, ◌*ℤ◌}
 use lib.ListN.{length, length-append}
 use lib.Signed.{lt_z}
-use Rattle.whole.specs.Choice.{if◌then◌else◌}
+use Rattle.whole.specs.Choice.{when◌then◌else◌}
 use Rattle.whole.specs.Within.{Within}
 use Rattle.whole.proofs.Comparisons.{by-test, lt_yes, lt_no}
 use Rattle.whole.proofs.Order.{zarith}
@@ -19,9 +19,9 @@ use Rattle.spans.proofs.SidedCuts.{kept_by_none, kept_by_more, sided_as_before, 
 
 unfoldable pub cut_by : ℤ → ℤ → ℕ → SidedSpan → SidedSpan
 cut_by p q k s =
-    if lt_z q (pos 0)
-    then (if lt_z p (pos 0)
-    then (if lt_z (s.span.first.num *ℤ (pos 0 -ℤ p)) ((pos 0 -ℤ q) *ℤ s.span.first.den) then record {
+    when lt_z q (pos 0)
+    then (when lt_z p (pos 0)
+    then (when lt_z (s.span.first.num *ℤ (pos 0 -ℤ p)) ((pos 0 -ℤ q) *ℤ s.span.first.den) then record {
       span = record { first = record { num = pos 0 -ℤ q; den = pos 0 -ℤ p }; last = s.span.last };
       side0 = k;
       side1 = s.side1;
@@ -31,7 +31,7 @@ cut_by p q k s =
       side0 = s.side0;
       side1 = s.side1;
     })
-    else (if lt_z q p then (if lt_z (q *ℤ s.span.last.den) (s.span.last.num *ℤ p) then record {
+    else (when lt_z q p then (when lt_z (q *ℤ s.span.last.den) (s.span.last.num *ℤ p) then record {
       span = record { first = s.span.first; last = record { num = q; den = p } };
       side0 = s.side0;
       side1 = k;

@@ -8,7 +8,7 @@
 --   strip_number w k     the number k in the middle of the strip w
 --   strip_art r k w      the strip w, which renter r has in his slot k: its name, the way along its sides, and its number
 use Rattle.std.specs.Prelude.{List, ◌++◌, ℕ, ◌*◌, ◌/◌, ltb}
-use Rattle.whole.specs.Choice.{if◌then◌else◌}
+use Rattle.whole.specs.Choice.{when◌then◌else◌}
 use Rattle.grid.specs.declared.Window.{Window}
 use Rattle.text.specs.Pages.{ascii}
 use Rattle.marks.specs.Marks.{labelled, point_mark}
@@ -16,7 +16,7 @@ use Rattle.view.specs.Views.{width, height}
 use Rattle.layers.specs.Layers.{round_path}
 
 unfoldable pub lesser : ℕ → ℕ → ℕ
-lesser m n = if ltb n m then n else m
+lesser m n = when ltb n m then n else m
 
 unfoldable pub number_size : Window → ℕ
 number_size w = lesser (lesser (8 * height w / 5) (width w)) 1600

@@ -10,7 +10,7 @@ use lib.Dec.{eqb}
 use lib.IntN.{ℤ, pos, negsuc, nat_abs}
 use lib.ListN.{length, get_or, get_or-eq_default}
 use lib.Signed.{◌≤ℤ◌, ◌<ℤ◌}
-use Rattle.whole.specs.Choice.{if◌then◌else◌}
+use Rattle.whole.specs.Choice.{when◌then◌else◌}
 use Rattle.whole.proofs.Comparisons.{ff_tt}
 use Rattle.whole.proofs.Order.{zarith, ≤_total}
 use Rattle.grid.specs.Refusals.{first, none, refuse, window_refusal}
@@ -64,8 +64,8 @@ module _ (renter : ℤ) (w : Window) (zs : List ℤ) where
       pub refuses_window : ((window_refusal w).number ≡ 0 → ⊥) → booking_refusal renter w zs ≡ window_refusal w
       unfolding booking_refusal renter_refusal table_refusal
       refuses_window n =
-          goes_on _ _ (ap (λ (b : Bool). (if b then none else refuse unknown_renter 0).number) known)
-          ∙ goes_on _ _ (ap (λ (b : Bool). (if b then none else refuse no_book 0).number) b)
+          goes_on _ _ (ap (λ (b : Bool). (when b then none else refuse unknown_renter 0).number) known)
+          ∙ goes_on _ _ (ap (λ (b : Bool). (when b then none else refuse no_book 0).number) b)
           ∙ stops _ _ n
 
       module _ (f : (window_refusal w).number ≡ 0) where

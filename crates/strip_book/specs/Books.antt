@@ -17,7 +17,7 @@
 --   ReleaseSlot renter z a before after   what `strip_book::release_slot` promises
 use Rattle.std.specs.Prelude.{◌≡◌, Bool, false, List, [], ◌∷◌, ℕ, ◌+◌, ◌*◌, ℤ, pos, negsuc, nat_abs, get_or}
 use Rattle.std.proofs.lemmas.List.Edits.{sets}
-use Rattle.whole.specs.Choice.{if◌then◌else◌}
+use Rattle.whole.specs.Choice.{when◌then◌else◌}
 use Rattle.grid.specs.Calls.{Lent}
 use Rattle.grid.specs.Refusals.{first, none, refuse, window_refusal}
 use Rattle.grid.specs.declared.Refusal.{Refusal}
@@ -49,23 +49,23 @@ slot_not_in_use = 18  --      the slot of the renter is not in use or not in 0 t
 -- ---- refusals
 
 unfoldable pub renter_refusal : ℤ → Refusal
-renter_refusal renter = if is_renter renter then none else refuse unknown_renter 0
+renter_refusal renter = when is_renter renter then none else refuse unknown_renter 0
 
 unfoldable pub table_refusal : List ℤ → Refusal
-table_refusal zs = if is_book zs then none else refuse no_book 0
+table_refusal zs = when is_book zs then none else refuse no_book 0
 
 unfoldable pub none_free : ℤ → List ℤ → Refusal
-none_free renter zs = if all in_use (half renter zs) then refuse half_full 0 else none
+none_free renter zs = when all in_use (half renter zs) then refuse half_full 0 else none
 
 unfoldable pub clash : Window → List ℤ → Refusal
-clash w zs = if any (shares_area w) (strips_in (slots_of zs)) then refuse strip_taken 0 else none
+clash w zs = when any (shares_area w) (strips_in (slots_of zs)) then refuse strip_taken 0 else none
 
 abbrev pub used_at : List Slot → ℤ → Bool
 used_at ss (pos k) = in_use (get_or ss k free_slot)
 used_at ss (negsuc k) = false
 
 unfoldable pub slot_refusal : ℤ → ℤ → List ℤ → Refusal
-slot_refusal renter z zs = if used_at (half renter zs) z then none else refuse slot_not_in_use 0
+slot_refusal renter z zs = when used_at (half renter zs) z then none else refuse slot_not_in_use 0
 
 unfoldable pub booking_refusal : ℤ → Window → List ℤ → Refusal
 booking_refusal renter w zs = first (renter_refusal renter ∷ table_refusal zs ∷ window_refusal w ∷ none_free renter zs ∷ clash w zs ∷ [])

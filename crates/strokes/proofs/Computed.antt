@@ -6,7 +6,7 @@ use native.Mathlib.Omega.{arith}
 use borrow.Author.Tests.{eqb-true, eqb-false}
 use lib.Dec.{eqb}
 use lib.IntN.{ℤ, neg_ℤ, ◌-ℤ◌}
-use Rattle.whole.specs.Choice.{if◌then◌else◌}
+use Rattle.whole.specs.Choice.{when◌then◌else◌}
 use Rattle.whole.specs.Within.{Within}
 use Rattle.whole.proofs.Comparisons.{by-test}
 use Rattle.whole.proofs.Expressions.{◌⊖◌, neg, x0, x1, x2, x3}
@@ -83,7 +83,7 @@ ends s r =
     kept_answer (end_at s f r.side0) (end_at s g r.side1) (lowest_of f.num f.den) (lowest_of g.num g.den)
 
 unfoldable pub clipped_of : Window → Stroke → StrokeAnswer
-clipped_of w s = let r = span_of w s in if less_than r.span.last r.span.first then blank none else ends s r
+clipped_of w s = let r = span_of w s in when less_than r.span.last r.span.first then blank none else ends s r
 
 pub clipped_of_is : {w : Window} {s : Stroke} → WindowOnTable w → StrokeOnTable s → Clipped w s (clipped_of w s)
 unfolding clipped_of
@@ -104,7 +104,7 @@ clipped_of_is {w} {s} g h =
     (lowest_of_is _ k.proper.den0) (lowest_of_is _ k.proper.den1))
 
 unfoldable pub answer_of : Window → Stroke → StrokeAnswer
-answer_of w s = if eqb (stroke_call_refusal w s).number 0 then clipped_of w s else blank (stroke_call_refusal w s)
+answer_of w s = when eqb (stroke_call_refusal w s).number 0 then clipped_of w s else blank (stroke_call_refusal w s)
 
 pub answer_of_is : (w : Window) (s : Stroke) → Clipping w s (answer_of w s)
 unfolding answer_of

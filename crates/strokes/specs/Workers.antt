@@ -27,7 +27,7 @@
 --   whole_answer s        the answer for a stroke that is kept whole
 use Rattle.std.specs.Prelude.{◌≡◌, true, ◌⊎◌, ℕ, ◌+◌, ◌*◌, ◌<◌, ◌≤◌, ℤ, pos, ◌-ℤ◌, ◌*ℤ◌, ◌≤ℤ◌, ◌<ℤ◌}
 use Rattle.std.specs.Int.Signed.{lt_z}
-use Rattle.whole.specs.Choice.{if◌then◌else◌}
+use Rattle.whole.specs.Choice.{when◌then◌else◌}
 use Rattle.whole.specs.Within.{Within}
 use Rattle.fraction.specs.declared.Fraction.{Fraction}
 use Rattle.fraction.specs.Fraction.{LowestOf}
@@ -137,7 +137,7 @@ pub record OnWay (f : Fraction) : Type 0 where
   pub small : Within 32766 f.den
 
 abbrev pub side_met : ℤ → ℤ → ℕ → ℕ → ℕ
-side_met a b i j = if lt_z b a then j else i
+side_met a b i j = when lt_z b a then j else i
 
 pub data StartBy (s : Stroke) (x y : Way) : Fraction → ℕ → Type 0 where
   uncut : x.start ≡ 0 → y.start ≡ 0 → StartBy s x y zeroth no_side

@@ -10,7 +10,7 @@ use lib.Dec.{T, ltb, lit<, lit≤}
 use lib.IntN.{ℤ, pos, negsuc, nat_abs}
 use lib.ListN.{length, set, length-append}
 use lib.Signed.{lt_z, mag}
-use Rattle.whole.specs.Choice.{if◌then◌else◌}
+use Rattle.whole.specs.Choice.{when◌then◌else◌}
 use Rattle.io.specs.Digits as Io
 use Rattle.text.specs.Pages.{Put, digits, natural, integer}
 use Rattle.text.proofs.Puts.{put_nothing, put_byte, put_then}
@@ -32,7 +32,7 @@ digits_few zero (suc k) n h l = rw (lt-ltb n 10 h) (omega arith)
 digits_few (suc j) (suc k) n h l =
     go (ltb n 10) (digits_few j k (n / 10) ((div-lt_iff_lt-mul (lit< tt)).1 (subst (λ (x : ℕ). n < x) (pow-suc 10 (suc j)) h)) (omega arith))
   where
-    go : (b : Bool) → length (digits k (n / 10)) ≤ suc j → length (if b then (48 + n) ∷ [] else digits k (n / 10) ++ (48 + n % 10) ∷ []) ≤ suc (suc j)
+    go : (b : Bool) → length (digits k (n / 10)) ≤ suc j → length (when b then (48 + n) ∷ [] else digits k (n / 10) ++ (48 + n % 10) ∷ []) ≤ suc (suc j)
     go true r = omega arith
     go false r = omega (arith, length-append (digits k (n / 10)) ((48 + n % 10) ∷ []))
 

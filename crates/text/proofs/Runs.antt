@@ -7,7 +7,7 @@ use native.Mathlib.Numerals.{add-one}
 use native.Mathlib.Omega.{arith}
 use lib.ListN.{length, get_or, drop, drop_of_length-le}
 use lib.Seq.{drop-cons}
-use Rattle.whole.specs.Choice.{if◌then◌else◌}
+use Rattle.whole.specs.Choice.{when◌then◌else◌}
 use Rattle.text.specs.Runs.{run}
 
 pub run_passed : (test : ℕ → Bool) (b : ℕ) (bs : List ℕ) → test b ≡ true → run test (b ∷ bs) ≡ suc (run test bs)
@@ -23,7 +23,7 @@ unfolding run
 run_le test [] = omega arith
 run_le test (b ∷ bs) = go (test b) (run_le test bs)
   where
-    go : (t : Bool) → run test bs ≤ length bs → (if t then suc (run test bs) else 0) ≤ suc (length bs)
+    go : (t : Bool) → run test bs ≤ length bs → (when t then suc (run test bs) else 0) ≤ suc (length bs)
     go true h = omega arith
     go false h = omega arith
 

@@ -9,7 +9,7 @@
 use Rattle.std.specs.Prelude.{◌≡◌, List, [], ◌∷◌, ◌++◌, ℕ, zero, suc, ◌+◌, ◌/◌, ◌%◌, ◌^◌, ◌≤◌, ltb, ℤ, pos, negsuc, length, take, drop}
 use Prim.Native.Char.{code}
 use Prim.Native.String as Text
-use Rattle.whole.specs.Choice.{if◌then◌else◌}
+use Rattle.whole.specs.Choice.{when◌then◌else◌}
 
 pub record Put (before after : List ℕ) (at end : ℕ) (word : List ℕ) : Type 0 where
   pub text : take end after ≡ take at before ++ word
@@ -24,7 +24,7 @@ ascii (Text.◌∷◌ c t) = code c ∷ ascii t
 
 unfoldable pub digits : ℕ → ℕ → List ℕ
 digits zero n = []
-digits (suc k) n = if ltb n 10 then (48 + n) ∷ [] else digits k (n / 10) ++ (48 + n % 10) ∷ []
+digits (suc k) n = when ltb n 10 then (48 + n) ∷ [] else digits k (n / 10) ++ (48 + n % 10) ∷ []
 
 unfoldable pub natural : ℕ → List ℕ
 natural n = digits 20 n

@@ -9,7 +9,7 @@ use lib.Dec.{eqb, leb}
 use lib.IntN.{ℤ, pos, nat_abs}
 use lib.ListN.{length, take, drop}
 use lib.Seq.{take-append_seam, drop-append_seam}
-use Rattle.whole.specs.Choice.{if◌then◌else◌}
+use Rattle.whole.specs.Choice.{when◌then◌else◌}
 use Rattle.whole.proofs.Certificates.{gt, lt}
 use Rattle.whole.proofs.Comparisons.{same_test}
 use Rattle.whole.proofs.Expressions.{◌⊖◌, ◌⊗◌, x0, x1, x2, x3}
@@ -36,7 +36,7 @@ use Rattle.turned_round.proofs.Strokes.{clipped_turned}
 -- ---- the strokes of the list
 unfoldable turn_some : (ℕ → Bool) → ℕ → List Stroke → List Stroke
 turn_some which k [] = []
-turn_some which k (s ∷ ss) = (if which k then turn_round s else s) ∷ turn_some which (suc k) ss
+turn_some which k (s ∷ ss) = (when which k then turn_round s else s) ∷ turn_some which (suc k) ss
 
 strokes_turned : (which : ℕ → Bool) (k : ℕ) (zs : List ℤ) → strokes_of (strokes_turned_round which k zs) ≡ turn_some which k (strokes_of zs)
 unfolding strokes_of strokes_turned_round turn_some
@@ -50,7 +50,7 @@ strokes_turned which k (a ∷ b ∷ c ∷ d ∷ zs) = go (which k) (strokes_turn
     this = record { x1 = a; y1 = b; x2 = c; y2 = d }
 
     go : (turn : Bool) (rest : List ℤ) {ss : List Stroke} → strokes_of rest ≡ ss
-        → strokes_of (swap turn a b c d ++ rest) ≡ (if turn then turn_round this else this) ∷ ss
+        → strokes_of (swap turn a b c d ++ rest) ≡ (when turn then turn_round this else this) ∷ ss
     go true rest e = ap (λ (ss : List Stroke). turn_round this ∷ ss) e
     go false rest e = ap (λ (ss : List Stroke). this ∷ ss) e
 
@@ -91,7 +91,7 @@ module _ (touches : Bool) (which : ℕ → Bool) where
   row_turned k a b t xs = go (which k) refl t
     where
       five : Bool → StrokeAnswer → List ℤ
-      five given c = if given then five_of k c else []
+      five given c = when given then five_of k c else []
 
       -- a row where the stroke is turned round, or not
       said : {turn : Bool} → which k ≡ turn → (c : StrokeAnswer)
@@ -122,7 +122,7 @@ module _ (touches : Bool) (which : ℕ → Bool) where
   each_turned {w} k (lists.◌and◌ {x = s} {y = a} {ys = answers} p ps) (lists.◌and◌ {y = b} {ys = others} q qs) =
       row_turned k a b (go (which k) q) (rows touches (suc k) answers) ∙ ap (λ (xs : List ℤ). row touches k b ++ xs) (each_turned (suc k) ps qs)
     where
-      go : (turn : Bool) → Clipped w (if turn then turn_round s else s) b → Turns turn a b
+      go : (turn : Bool) → Clipped w (when turn then turn_round s else s) b → Turns turn a b
       go true q = clipped_turned p q
       go false q = clipped_unique p q
 
@@ -151,21 +151,21 @@ unfolding answered_by
 answered_turned which xs room = ap of_length (rows_length which xs)
   where
     of_length : ℕ → Answer
-    of_length n = let r = room_refusal n room in if eqb r.number 0 then record { number = 0; place = 0; count = n } else refused_by r
+    of_length n = let r = room_refusal n room in when eqb r.number 0 then record { number = 0; place = 0; count = n } else refused_by r
 
 written_turned : (which : ℕ → Bool) (xs out : List ℤ) → let n = (answered xs (length out)).count in
     written (rows_turned_round which xs) out ≡ rows_turned_round which (take n (written xs out)) ++ drop n (written xs out)
 unfolding written answered_by room_refusal rows_turned_round
 written_turned which xs out =
-    ap (λ (n : ℕ). if leb n (length out) then rows_turned_round which xs ++ drop n out else out) (rows_length which xs) ∙ go (leb (length xs) (length out))
+    ap (λ (n : ℕ). when leb n (length out) then rows_turned_round which xs ++ drop n out else out) (rows_length which xs) ∙ go (leb (length xs) (length out))
   where
     given : Bool → List ℤ
-    given t = if t then xs ++ drop (length xs) out else out
+    given t = when t then xs ++ drop (length xs) out else out
 
     count : Bool → ℕ
-    count t = let r = if t then none else refuse no_room (length xs) in (if eqb r.number 0 then gives_all xs else refused_by r).count
+    count t = let r = when t then none else refuse no_room (length xs) in (when eqb r.number 0 then gives_all xs else refused_by r).count
 
-    go : (t : Bool) → (if t then rows_turned_round which xs ++ drop (length xs) out else out)
+    go : (t : Bool) → (when t then rows_turned_round which xs ++ drop (length xs) out else out)
         ≡ rows_turned_round which (take (count t) (given t)) ++ drop (count t) (given t)
     go true = λ i. rows_turned_round which (sym (take-append_seam xs (drop (length xs) out)) i) ++ sym (drop-append_seam xs (drop (length xs) out)) i
     go false = refl

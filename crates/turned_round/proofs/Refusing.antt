@@ -8,7 +8,7 @@ use borrow.Author.Tests.{lt-ltb}
 use lib.Dec.{eqb, leb, ltb, leb-suc-suc}
 use lib.IntN.{ℤ}
 use lib.ListN.{length}
-use Rattle.whole.specs.Choice.{if◌then◌else◌}
+use Rattle.whole.specs.Choice.{when◌then◌else◌}
 use Rattle.grid.specs.declared.Refusal.{Refusal}
 use Rattle.grid.specs.declared.Stroke.{Stroke}
 use Rattle.grid.specs.declared.Window.{Window}
@@ -39,7 +39,7 @@ some_off [] = refl
 some_off (z ∷ zs) = go (on_table z) (some_off zs)
   where
     go : (b : Bool) → ltb (first_off zs) (length zs) ≡ not (all_on zs)
-        → ltb (if b then suc (first_off zs) else 0) (suc (length zs)) ≡ not (b && all_on zs)
+        → ltb (when b then suc (first_off zs) else 0) (suc (length zs)) ≡ not (b && all_on zs)
     go true e = leb-suc-suc (suc (first_off zs)) (length zs) ∙ e
     go false e = lt-ltb 0 (suc (length zs)) (omega arith)
 
@@ -87,7 +87,7 @@ unfolding off_table
 off_alike zs ys h = go (ltb (first_off zs) (length zs)) (some_off ys ∙ ap not h ∙ sym (some_off zs))
   where
     chosen : Bool → List ℤ → Refusal
-    chosen b xs = if b then refuse number_off (first_off xs) else none
+    chosen b xs = when b then refuse number_off (first_off xs) else none
 
     go : (b : Bool) → ltb (first_off ys) (length ys) ≡ b → SameRefusal (chosen b zs) (chosen (ltb (first_off ys) (length ys)) ys)
     go true e = record { number = ap (λ (b : Bool). (chosen b ys).number) e; place = λ n. absurd (n refl) }
@@ -95,15 +95,15 @@ off_alike zs ys h = go (ltb (first_off zs) (length zs)) (some_off ys ∙ ap not 
 
 bad_alike : (zs ys : List ℤ) → length ys ≡ length zs → bad_strokes ys ≡ bad_strokes zs
 unfolding bad_strokes
-bad_alike zs ys h = ap (λ (n : ℕ). if eqb (n % 4) 0 && leb n (4 * most_strokes) then none else refuse wrong_length 0) h
+bad_alike zs ys h = ap (λ (n : ℕ). when eqb (n % 4) 0 && leb n (4 * most_strokes) then none else refuse wrong_length 0) h
 
 -- ---- the first that applies
 only_turned : {r q : Refusal} → SameRefusal r q → SameRefusal (first (r ∷ [])) (first (q ∷ []))
 unfolding first
 only_turned {r} {q} h =
-    subst (λ (n : ℕ). SameRefusal (if eqb r.number 0 then none else r) (if eqb n 0 then none else q)) (sym h.number) (go (eqb r.number 0))
+    subst (λ (n : ℕ). SameRefusal (when eqb r.number 0 then none else r) (when eqb n 0 then none else q)) (sym h.number) (go (eqb r.number 0))
   where
-    go : (b : Bool) → SameRefusal (if b then none else r) (if b then none else q)
+    go : (b : Bool) → SameRefusal (when b then none else r) (when b then none else q)
     go true = same none
     go false = h
 
@@ -111,7 +111,7 @@ later_turned : (r : Refusal) (rs qs : List Refusal) → SameRefusal (first rs) (
 unfolding first
 later_turned r rs qs h = go (eqb r.number 0)
   where
-    go : (b : Bool) → SameRefusal (if b then first rs else r) (if b then first qs else r)
+    go : (b : Bool) → SameRefusal (when b then first rs else r) (when b then first qs else r)
     go true = h
     go false = same r
 

@@ -20,7 +20,7 @@
 --                       behind them nothing differs
 --   TurnedRoundInRows   so answer `batch::batch` and `batch::batch_with_touches`, whichever of their strokes are turned round
 use Rattle.std.specs.Prelude.{◌≡◌, Bool, true, false, List, [], ◌∷◌, ◌++◌, ℕ, suc, ℤ, pos, nat_abs, ◌+ℤ◌, ◌-ℤ◌, ◌*ℤ◌, drop, ◌<ℤ◌}
-use Rattle.whole.specs.Choice.{if◌then◌else◌}
+use Rattle.whole.specs.Choice.{when◌then◌else◌}
 use Rattle.fraction.specs.declared.Fraction.{Fraction}
 use Rattle.fraction.specs.Fraction.{Divides}
 use Rattle.fraction.specs.Rounding.{Rounded}
@@ -81,7 +81,7 @@ TurnedRoundInCorners = (zs : List ℤ) (s : Stroke) (a b : CornerAnswer) → Cyr
 
 -- ---- many strokes
 abbrev pub swap : Bool → ℤ → ℤ → ℤ → ℤ → List ℤ
-swap turn x1 y1 x2 y2 = if turn then x2 ∷ y2 ∷ x1 ∷ y1 ∷ [] else x1 ∷ y1 ∷ x2 ∷ y2 ∷ []
+swap turn x1 y1 x2 y2 = when turn then x2 ∷ y2 ∷ x1 ∷ y1 ∷ [] else x1 ∷ y1 ∷ x2 ∷ y2 ∷ []
 
 unfoldable pub strokes_turned_round : (ℕ → Bool) → ℕ → List ℤ → List ℤ
 strokes_turned_round which k (x1 ∷ y1 ∷ x2 ∷ y2 ∷ zs) = swap (which k) x1 y1 x2 y2 ++ strokes_turned_round which (suc k) zs

@@ -5,7 +5,7 @@
 --   width r, height r        the sides of a rectangle
 --   extent r                 the longer of them
 use Rattle.std.specs.Prelude.{List, ℕ, zero, suc, ◌+◌, ◌*◌, ltb, ℤ, pos, nat_abs, ◌-ℤ◌, get_or}
-use Rattle.whole.specs.Choice.{if◌then◌else◌}
+use Rattle.whole.specs.Choice.{when◌then◌else◌}
 use Rattle.whole.specs.Extremes.{lesser, greater}
 use Rattle.grid.specs.declared.Window.{Window}
 
@@ -26,4 +26,4 @@ unfoldable pub height : Window → ℕ
 height r = apart r.bottom r.top
 
 unfoldable pub extent : Window → ℕ
-extent r = if ltb (width r) (height r) then height r else width r
+extent r = when ltb (width r) (height r) then height r else width r

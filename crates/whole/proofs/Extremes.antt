@@ -3,7 +3,7 @@ use mathlib.Core.Path.{◌≡◌, refl}
 use mathlib.Core.Bool.{Bool, true, false}
 use lib.IntN.{ℤ}
 use lib.Signed.{◌≤ℤ◌, ◌<ℤ◌, lt_z}
-use Rattle.whole.specs.Choice.{if◌then◌else◌}
+use Rattle.whole.specs.Choice.{when◌then◌else◌}
 use Rattle.whole.specs.Extremes.{lesser, greater}
 use Rattle.whole.proofs.Order.{zarith}
 use Rattle.whole.proofs.Comparisons.{lt_yes, lt_no}
@@ -13,7 +13,7 @@ module _ {a b r : ℤ} where
   unfolding lesser
   lesser_below e = go (lt_z b a) refl e
     where
-      go : (t : Bool) → lt_z b a ≡ t → r ≡ (if t then b else a) → (r ≤ℤ a) × (r ≤ℤ b)
+      go : (t : Bool) → lt_z b a ≡ t → r ≡ (when t then b else a) → (r ≤ℤ a) × (r ≤ℤ b)
       go true t e = let is : r ≡ b = e in let l : b <ℤ a = lt_yes refl refl t in (omega zarith, omega zarith)
       go false t e = let is : r ≡ a = e in let l : a ≤ℤ b = lt_no refl refl t in (omega zarith, omega zarith)
 
@@ -21,7 +21,7 @@ module _ {a b r : ℤ} where
   unfolding lesser
   lesser_least e c = go (lt_z b a) e
     where
-      go : (t : Bool) → r ≡ (if t then b else a) → c ≤ℤ a → c ≤ℤ b → c ≤ℤ r
+      go : (t : Bool) → r ≡ (when t then b else a) → c ≤ℤ a → c ≤ℤ b → c ≤ℤ r
       go true e h k = let is : r ≡ b = e in omega zarith
       go false e h k = let is : r ≡ a = e in omega zarith
 
@@ -29,7 +29,7 @@ module _ {a b r : ℤ} where
   unfolding greater
   greater_above e = go (lt_z a b) refl e
     where
-      go : (t : Bool) → lt_z a b ≡ t → r ≡ (if t then b else a) → (a ≤ℤ r) × (b ≤ℤ r)
+      go : (t : Bool) → lt_z a b ≡ t → r ≡ (when t then b else a) → (a ≤ℤ r) × (b ≤ℤ r)
       go true t e = let is : r ≡ b = e in let l : a <ℤ b = lt_yes refl refl t in (omega zarith, omega zarith)
       go false t e = let is : r ≡ a = e in let l : b ≤ℤ a = lt_no refl refl t in (omega zarith, omega zarith)
 
@@ -37,6 +37,6 @@ module _ {a b r : ℤ} where
   unfolding greater
   greater_least e c = go (lt_z a b) e
     where
-      go : (t : Bool) → r ≡ (if t then b else a) → a ≤ℤ c → b ≤ℤ c → r ≤ℤ c
+      go : (t : Bool) → r ≡ (when t then b else a) → a ≤ℤ c → b ≤ℤ c → r ≤ℤ c
       go true e h k = let is : r ≡ b = e in omega zarith
       go false e h k = let is : r ≡ a = e in omega zarith

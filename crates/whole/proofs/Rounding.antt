@@ -13,7 +13,7 @@ use lib.IntN.{ℤ, pos, negsuc, neg_ℤ, nat_abs, ◌+ℤ◌, ◌-ℤ◌, ◌*�
 use lib.Signed.{◌≤ℤ◌, ◌<ℤ◌}
 use lib.Ieee.{nearest}
 use lib.Ieee.Nearest.{closest}
-use Rattle.whole.specs.Choice.{if◌then◌else◌}
+use Rattle.whole.specs.Choice.{when◌then◌else◌}
 use Rattle.whole.specs.Rounding.{Rule, Rounds, to_even}
 use Rattle.whole.proofs.Naturals.{neg_plus, neg_minus, add_is, abs_is}
 use Rattle.whole.proofs.Expressions.{Expr, var, con, ◌⊕◌, ◌⊖◌, ◌⊗◌, neg, x0, x1, x2, x3}
@@ -166,7 +166,7 @@ module _ (up : Rule) (n : ℕ) {d : ℕ} (h : 0 < d) where
       let m = mod-lt n h in
       record { nearest = record { low = omega zarith; high = omega zarith }; above = λ k. absurd (omega zarith); below = λ k. absurd (omega zarith) }
 
-  pub at_half : n % d * 2 ≡ d → Rounds up (pos n) (pos d) (pos (if up (pos (n / d)) then suc (n / d) else n / d))
+  pub at_half : n % d * 2 ≡ d → Rounds up (pos n) (pos d) (pos (when up (pos (n / d)) then suc (n / d) else n / d))
   at_half l =
       let e = div-add-mod' n d in
       let back : pos (suc (n / d)) -ℤ pos 1 ≡ pos (n / d) = omega (zarith, sub_is (pos (suc (n / d))) (pos 1)) in
@@ -199,7 +199,7 @@ module _ (up : Rule) (n : ℕ) {d u : ℕ} (h : 0 < d) (one : u ≤ 1) (goes : u
 -- by how the doubled remainder compares with d
 abbrev by_half : Rule → ℕ → Ordering → ℕ
 by_half up q Ordering.lt = q
-by_half up q Ordering.eq = if up (pos q) then suc q else q
+by_half up q Ordering.eq = when up (pos q) then suc q else q
 by_half up q Ordering.gt = suc q
 
 abbrev Compared : Ordering → ℕ → ℕ → Type 0
@@ -232,11 +232,11 @@ rounding_is up (negsuc n) {d} h =
     (by_half_lem (λ k. not (up (neg_ℤ k -ℤ pos 1))) (suc n) h (compare (suc n % d * 2) d) (compared (suc n % d * 2) d))
 
 -- ---- halves to even: an odd quotient takes its half up
-pub to_even_lem : (q : ℕ) → (if to_even (pos q) then suc q else q) ≡ q + q % 2
+pub to_even_lem : (q : ℕ) → (when to_even (pos q) then suc q else q) ≡ q + q % 2
 unfolding to_even
 to_even_lem q = go (q % 2) refl
   where
-    go : (r : ℕ) → q % 2 ≡ r → (if eqb r 1 then suc q else q) ≡ q + r
+    go : (r : ℕ) → q % 2 ≡ r → (when eqb r 1 then suc q else q) ≡ q + r
     go zero e = omega arith
     go (suc zero) e = omega arith
     go (suc (suc r)) e = absurd (omega arith)

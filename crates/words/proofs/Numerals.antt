@@ -9,7 +9,7 @@ use borrow.Author.Tests.{leb-true}
 use lib.Dec.{eqb, leb, leb-zero, leb-suc-zero, leb-suc-suc}
 use lib.IntN.{ℤ, pos, negsuc, neg_ℤ}
 use lib.ListN.{length, get_or, drop}
-use Rattle.whole.specs.Choice.{if◌then◌else◌}
+use Rattle.whole.specs.Choice.{when◌then◌else◌}
 use Rattle.words.specs.Digits.{word_value}
 use Rattle.words.specs.Words.{up_to, has_minus, numeral, unsigned, as_integer}
 use Rattle.words.specs.declared.Natural.{Natural}
@@ -39,7 +39,7 @@ unfolding up_to
 up_to_is most n none h = let z : ◌≡◌ {A = ℕ} 0 1 = cc in omega arith
 up_to_is most n (some m) h = go (leb m most) refl h
   where
-    go : (t : Bool) → leb m most ≡ t → Natural.Is n ≡ (if t then Natural.Is m else Natural.Bad) → n ≤ most
+    go : (t : Bool) → leb m most ≡ t → Natural.Is n ≡ (when t then Natural.Is m else Natural.Bad) → n ≤ most
     go true e k = let same : n ≡ m = cc in omega (arith, leb-true m most e)
     go false e k = let z : ◌≡◌ {A = ℕ} 0 1 = cc in omega arith
 
@@ -75,7 +75,7 @@ module _ (w : List ℕ) where
       go (some zero) = refl
       go (some (suc n)) = at (leb (suc n) (2 ^ 31))
         where
-          at : (t : Bool) → (if t then Integer.Is (neg_ℤ (pos (suc n))) else Integer.Bad) ≡ minus (if t then Natural.Is (suc n) else Natural.Bad)
+          at : (t : Bool) → (when t then Integer.Is (neg_ℤ (pos (suc n))) else Integer.Bad) ≡ minus (when t then Natural.Is (suc n) else Natural.Bad)
           at true = refl
           at false = refl
 
@@ -87,7 +87,7 @@ module _ (w : List ℕ) where
       go none = refl
       go (some n) = rw (leb-suc-suc n 2147483647) (at (leb n 2147483647))
         where
-          at : (t : Bool) → (if t then Integer.Is (pos n) else Integer.Bad) ≡ plus (if t then Natural.Is n else Natural.Bad)
+          at : (t : Bool) → (when t then Integer.Is (pos n) else Integer.Bad) ≡ plus (when t then Natural.Is n else Natural.Bad)
           at true = refl
           at false = refl
 

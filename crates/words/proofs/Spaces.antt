@@ -8,7 +8,7 @@ use native.Mathlib.Omega.{arith}
 use lib.Dec.{eqb}
 use lib.ListN.{length, take, drop}
 use lib.Seq.{drop-cons, drop-drop}
-use Rattle.whole.specs.Choice.{if◌then◌else◌}
+use Rattle.whole.specs.Choice.{when◌then◌else◌}
 use Rattle.text.specs.Runs.{run, is_not}
 use Rattle.words.specs.Words.{numeral, as_integer, words, arguments, onto, and_integer, integers}
 use Rattle.words.specs.declared.Integer.{Integer}
@@ -23,8 +23,8 @@ words_cut [] = refl
 words_cut (b ∷ l) = go (eqb b 32) (words_cut l)
   where
     go : (t : Bool) → words l ≡ take (to_space l) l ∷ arguments (drop (to_space l) l)
-        → (if t then [] ∷ words l else onto b (words l)) ≡ take (if not t then suc (to_space l) else 0) (b ∷ l)
-        ∷ arguments (drop (if not t then suc (to_space l) else 0) (b ∷ l))
+        → (when t then [] ∷ words l else onto b (words l)) ≡ take (when not t then suc (to_space l) else 0) (b ∷ l)
+        ∷ arguments (drop (when not t then suc (to_space l) else 0) (b ∷ l))
     go true e = refl
     go false e = ap (onto b) e
 

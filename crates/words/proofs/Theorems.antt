@@ -13,7 +13,7 @@ use lib.Ieee.Bits.{to_bits-lt, of_bits-to_bits}
 use lib.IntN.{ℤ, pos, negsuc, nat_abs}
 use lib.ListN.{length, length-append}
 use Rattle.io.specs.Digits.{hex_digit_ascii, last_digits}
-use Rattle.whole.specs.Choice.{if◌then◌else◌}
+use Rattle.whole.specs.Choice.{when◌then◌else◌}
 use Rattle.words.specs.Digits.{between, digit_of, value_from, word_value}
 use Rattle.text.specs.Pages as Pages
 use Rattle.words.specs.Words.{has_minus, numeral, up_to, single, pattern}
@@ -43,9 +43,9 @@ unfolding value_from
 last base n m b [] e h = let same : n ≡ m = cc in simp (lt-ltb (digit_of b) base h, same)
 last base n m b (a ∷ w) e h = go (ltb (digit_of a) base) refl e (λ k. last base (n * base + digit_of a) m b w k h)
   where
-    go : (t : Bool) → ltb (digit_of a) base ≡ t → (if t then value_from base (n * base + digit_of a) w else none) ≡ some m
+    go : (t : Bool) → ltb (digit_of a) base ≡ t → (when t then value_from base (n * base + digit_of a) w else none) ≡ some m
         → (value_from base (n * base + digit_of a) w ≡ some m → value_from base (n * base + digit_of a) (w ++ (b ∷ [])) ≡ some (m * base + digit_of b))
-        → (if t then value_from base (n * base + digit_of a) (w ++ (b ∷ [])) else none) ≡ some (m * base + digit_of b)
+        → (when t then value_from base (n * base + digit_of a) (w ++ (b ∷ [])) else none) ≡ some (m * base + digit_of b)
     go true s k rest = rest k
     go false s k rest = let z : ◌≡◌ {A = ℕ} 0 1 = cc in absurd (omega arith)
 
@@ -71,7 +71,7 @@ naturals_back zero n h = rw (lt-ltb n 10 h) (omega arith, simp (decimal_back n h
 naturals_back (suc k) n h = go (ltb n 10) refl (naturals_back k (n / 10) ((div-lt_iff_lt-mul (lit< tt)).1 (rw pow-suc at h))).1
   where
     go : (t : Bool) → ltb n 10 ≡ t → value_from 10 0 (Pages.digits (suc k) (n / 10)) ≡ some (n / 10)
-        → let w = if t then (48 + n) ∷ [] else Pages.digits (suc k) (n / 10) ++ (48 + n % 10) ∷ [] in (0 < length w) × (value_from 10 0 w ≡ some n)
+        → let w = when t then (48 + n) ∷ [] else Pages.digits (suc k) (n / 10) ++ (48 + n % 10) ∷ [] in (0 < length w) × (value_from 10 0 w ≡ some n)
     go true e r = (omega arith, simp (decimal_back n (ltb-true n 10 e), e) (ap some (omega arith)))
     go false e r =
         let small = mod-lt n (lit< tt) in

@@ -11,7 +11,7 @@ use borrow.Author.Tests.{lt-ltb, le-ltb, lt-leb, ltb-true}
 use lib.Dec.{ltb}
 use lib.ListN.{length, get_or, drop}
 use lib.Seq.{drop-cons}
-use Rattle.whole.specs.Choice.{if◌then◌else◌}
+use Rattle.whole.specs.Choice.{when◌then◌else◌}
 use Rattle.words.specs.Digits.{digit_of, value_from, word_value}
 use Rattle.words.specs.Words.{up_to}
 use Rattle.words.specs.declared.Natural.TheVariants as Natural
@@ -44,7 +44,7 @@ too_large base most n [] h = simp (lt-leb _ _ h)
 too_large base most n (b ∷ w) h = go (ltb (digit_of b) base) refl (λ k. too_large base most (n * base + digit_of b) w k)
   where
     go : (t : Bool) → ltb (digit_of b) base ≡ t → (most < n * base + digit_of b → up_to most (value_from base (n * base + digit_of b) w) ≡ Natural.Bad)
-        → up_to most (if t then value_from base (n * base + digit_of b) w else none) ≡ Natural.Bad
+        → up_to most (when t then value_from base (n * base + digit_of b) w else none) ≡ Natural.Bad
     go true e k = k (omega (arith, grows base n (digit_of b) (ltb-true _ _ e)))
     go false e k = refl
 

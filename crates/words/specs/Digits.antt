@@ -5,21 +5,21 @@
 --   word_value base w     the number that the word w is, one digit or more
 use Rattle.std.specs.Prelude.{Bool, ◌&&◌, List, [], ◌∷◌, ℕ, ◌+◌, ◌*◌, ◌-◌, leb, ltb}
 use Rattle.std.proofs.Math.Option.{Option, none, some}
-use Rattle.whole.specs.Choice.{if◌then◌else◌}
+use Rattle.whole.specs.Choice.{when◌then◌else◌}
 
 unfoldable pub between : ℕ → ℕ → ℕ → Bool
 between lo hi b = leb lo b && leb b hi
 
 unfoldable pub digit_of : ℕ → ℕ
 digit_of b =
-    if between 48 57 b then b - 48
-    else if between 65 70 b then b - 65 + 10
-    else if between 97 102 b then b - 97 + 10
+    when between 48 57 b then b - 48
+    else when between 65 70 b then b - 65 + 10
+    else when between 97 102 b then b - 97 + 10
     else 16
 
 unfoldable pub value_from : ℕ → ℕ → List ℕ → Option ℕ
 value_from base n [] = some n
-value_from base n (b ∷ w) = if ltb (digit_of b) base then value_from base (n * base + digit_of b) w else none
+value_from base n (b ∷ w) = when ltb (digit_of b) base then value_from base (n * base + digit_of b) w else none
 
 unfoldable pub word_value : ℕ → List ℕ → Option ℕ
 word_value base [] = none

@@ -21,7 +21,7 @@ use Rattle.std.specs.Float.{binary32}
 use Rattle.std.specs.Float.Ieee.{of_bits, to_bits}
 use Rattle.std.specs.Int.Signed.{mag}
 use Rattle.io.specs.Digits.{last_digits}
-use Rattle.whole.specs.Choice.{if◌then◌else◌}
+use Rattle.whole.specs.Choice.{when◌then◌else◌}
 use Rattle.words.specs.Digits.{digit_of, word_value}
 use Rattle.words.specs.declared.Natural.{Natural}
 use Rattle.words.specs.declared.Integer.{Integer}
@@ -32,30 +32,30 @@ use Rattle.words.specs.declared.Single.{Single}
 
 unfoldable pub up_to : ℕ → Option ℕ → Natural
 up_to most none = Natural.Bad
-up_to most (some n) = if leb n most then Natural.Is n else Natural.Bad
+up_to most (some n) = when leb n most then Natural.Is n else Natural.Bad
 
 unfoldable pub has_minus : List ℕ → Bool
 has_minus [] = false
 has_minus (b ∷ w) = eqb b 45
 
 unfoldable pub numeral : List ℕ → Option ℤ
-numeral w = if has_minus w then map (λ n. neg_ℤ (pos n)) (word_value 10 (drop 1 w)) else map pos (word_value 10 w)
+numeral w = when has_minus w then map (λ n. neg_ℤ (pos n)) (word_value 10 (drop 1 w)) else map pos (word_value 10 w)
 
 unfoldable pub unsigned : ℕ → Option ℤ → Natural
 unsigned most none = Natural.Bad
-unsigned most (some (pos n)) = if leb n most then Natural.Is n else Natural.Bad
+unsigned most (some (pos n)) = when leb n most then Natural.Is n else Natural.Bad
 unsigned most (some (negsuc n)) = Natural.Bad
 
 unfoldable pub as_integer : Option ℤ → Integer
 as_integer none = Integer.Bad
-as_integer (some z) = if ltb (mag z) (2 ^ 31) then Integer.Is z else Integer.Bad
+as_integer (some z) = when ltb (mag z) (2 ^ 31) then Integer.Is z else Integer.Bad
 
 abbrev pub with_bits : Natural → Single
 with_bits Natural.Bad = Single.Bad
 with_bits (Natural.Is n) = Single.Is (of_bits binary32 n)
 
 unfoldable pub single : List ℕ → Single
-single w = if eqb (length w) 8 then with_bits (up_to 0xffff_ffff (word_value 16 w)) else Single.Bad
+single w = when eqb (length w) 8 then with_bits (up_to 0xffff_ffff (word_value 16 w)) else Single.Bad
 
 abbrev pub pattern : Float → List ℕ
 pattern x = last_digits 16 8 (to_bits binary32 x)
@@ -68,7 +68,7 @@ onto b (w ∷ ws) = (b ∷ w) ∷ ws
 
 unfoldable pub words : List ℕ → List (List ℕ)
 words [] = [] ∷ []
-words (b ∷ l) = if eqb b 32 then [] ∷ words l else onto b (words l)
+words (b ∷ l) = when eqb b 32 then [] ∷ words l else onto b (words l)
 
 unfoldable pub arguments : List ℕ → List (List ℕ)
 arguments [] = []
@@ -91,12 +91,12 @@ integers (w ∷ ws) = and_integer (as_integer (numeral w)) (integers ws)
 unfoldable pub pairs : List ℕ → Option (List ℕ)
 pairs [] = some []
 pairs (a ∷ []) = none
-pairs (a ∷ b ∷ w) = if ltb (digit_of a) 16 && ltb (digit_of b) 16 then and (digit_of a * 16 + digit_of b) (pairs w) else none
+pairs (a ∷ b ∷ w) = when ltb (digit_of a) 16 && ltb (digit_of b) 16 then and (digit_of a * 16 + digit_of b) (pairs w) else none
 
 unfoldable pub bytes : List ℕ → Option (List ℕ)
 bytes w =
-    if eqb (length w) 0 then none
-    else if has_minus w then (if eqb (length w) 1 then some [] else none)
+    when eqb (length w) 0 then none
+    else when has_minus w then (when eqb (length w) 1 then some [] else none)
     else pairs w
 
 pub record Into {A : Type 0} (o : Option (List A)) (out : List A) (r : Read) : Type 0 where

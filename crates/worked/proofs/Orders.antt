@@ -6,7 +6,7 @@ use Prim.Native.Nat.{ℕ, suc, ◌+◌, ◌*◌, ◌≤◌}
 use native.Mathlib.Omega.{arith}
 use borrow.Author.Tests.{eqb-true}
 use lib.Dec.{eqb}
-use Rattle.whole.specs.Choice.{if◌then◌else◌}
+use Rattle.whole.specs.Choice.{when◌then◌else◌}
 use Rattle.convex.specs.Corners.{corners_of, every, next, joins, is_left, strictly_convex}
 use Rattle.convex.specs.Corners.{right_count, count_refusal, convex_refusal}
 use Rattle.convex.proofs.Places.{every_at}
@@ -40,7 +40,7 @@ seen =
 
 place : ℕ → List ℕ → ℕ
 place n [] = 0
-place n (x ∷ xs) = if eqb n x then 0 else suc (place n xs)
+place n (x ∷ xs) = when eqb n x then 0 else suc (place n xs)
 
 -- the order that an answer tells
 told : OutlineAnswer → ℕ

@@ -4,7 +4,7 @@ use mathlib.Core.Path.{◌≡◌, ap, ◌∙◌}
 use mathlib.Core.Bool.{Bool}
 use native.Mathlib.Omega.{arith}
 use lib.ListN.{length}
-use Rattle.whole.specs.Choice.{if◌then◌else◌}
+use Rattle.whole.specs.Choice.{when◌then◌else◌}
 use Rattle.batch.proofs.Rows.{rows_from, rows_none, rows_length, computed_rows, rows_unique}
 use Rattle.batch.proofs.Writing.{stroke_left}
 use Rattle.batch.proofs.count_rows.Lts.{then-gives, else-gives}
@@ -51,8 +51,8 @@ loop-again c =
     let counted = rows_length a.args.touches p a.requires.0 a.requires.1 (whole b) k.before.stroke_at.ensures k.gives.ensures in
     let left = length (rows_from a.args.touches a.args.w a.args.s.now (p + 4)) in
     elim c.if-gives.branch [
-      | then-gives w ↦ omega (arith, whole b, w.needed-is, counted ∙ ap (λ (t : Bool). (if t then 5 else 0) + left) w.if-gives.true)
-      | else-gives w ↦ omega (arith, whole b, w.needed-is, counted ∙ ap (λ (t : Bool). (if t then 5 else 0) + left) w.if-gives.false)
+      | then-gives w ↦ omega (arith, whole b, w.needed-is, counted ∙ ap (λ (t : Bool). (when t then 5 else 0) + left) w.if-gives.true)
+      | else-gives w ↦ omega (arith, whole b, w.needed-is, counted ∙ ap (λ (t : Bool). (when t then 5 else 0) + left) w.if-gives.false)
     ]
 
 returns : tie.Need-returns invariant_loop decreases_loop

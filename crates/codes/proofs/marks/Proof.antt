@@ -4,7 +4,7 @@ use borrow.Author.Rules.{rules}
 use lib.Bits.{bit_or}
 use lib.Signed.{lt_z}
 use mir.Facts.{to_z-of_z}
-use Rattle.whole.specs.Choice.{if◌then◌else◌}
+use Rattle.whole.specs.Choice.{when◌then◌else◌}
 use Rattle.codes.proofs.marks.Statement.{statement}
 use Rattle.codes.proofs.marks.Tie as tie
 
@@ -18,8 +18,8 @@ returns : tie.Need-returns
 returns c =
     let f = c.before.before.ranges in
     let a = c.before.before.args in
-    let low = c.before.mark.ensures ∙ (λ i. if lt_z (to_z-of_z f.x i) (to_z-of_z f.lo i) then a.under else 0) in
-    let high = c.mark-2.ensures ∙ (λ i. if lt_z (to_z-of_z f.hi i) (to_z-of_z f.x i) then a.over else 0) in
+    let low = c.before.mark.ensures ∙ (λ i. when lt_z (to_z-of_z f.x i) (to_z-of_z f.lo i) then a.under else 0) in
+    let high = c.mark-2.ensures ∙ (λ i. when lt_z (to_z-of_z f.hi i) (to_z-of_z f.x i) then a.over else 0) in
     λ i. bit_or (low i) (high i)
 
 pub marks_spec : {M : Type 1} → statement M

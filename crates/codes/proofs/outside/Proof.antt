@@ -10,7 +10,7 @@ use lib.IntN.{pos, ◌-ℤ◌}
 use lib.Signed.{lt_z}
 use mir.Syntax.{w32, w64}
 use Rattle.whole.proofs.Comparisons.{diff_test}
-use Rattle.whole.specs.Choice.{if◌then◌else◌}
+use Rattle.whole.specs.Choice.{when◌then◌else◌}
 use Rattle.whole.proofs.Expressions.{Env, means}
 use Rattle.whole.proofs.Machine.{Code, par, add, sub, mul, cast, need, value, erase, machine, ok}
 use Rattle.whole.proofs.Ranges.{Bounds}
@@ -85,8 +85,8 @@ tested : (c : tie.Start) (k l : Code) → T (ok β k) → T (ok β l)
     → lt_z (machine (env c) k) (machine (env c) l) ≡ lt_z (pos 0) (means (env c) (erase l) -ℤ means (env c) (erase k))
 tested c k l s t = (λ i. lt_z (value β (env c) (bounds c) k s i) (value β (env c) (bounds c) l t i)) ∙ diff_test (means (env c) (erase k)) (means (env c) (erase l))
 
-marked : (n : ℕ) {m : ℕ} {t u : Bool} → m ≡ (if t then n else 0) → t ≡ u → m ≡ (if u then n else 0)
-marked n p q = p ∙ ap (λ (b : Bool). if b then n else 0) q
+marked : (n : ℕ) {m : ℕ} {t u : Bool} → m ≡ (when t then n else 0) → t ≡ u → m ≡ (when u then n else 0)
+marked n p q = p ∙ ap (λ (b : Bool). when b then n else 0) q
 
 returns : tie.Need-returns
 returns c =

@@ -5,7 +5,7 @@ use lib.IntN.{pos}
 use lib.Signed.{lt_z}
 use mir.Syntax.{w32}
 use mir.Val.{to_z, of_z}
-use Rattle.whole.specs.Choice.{if◌then◌else◌}
+use Rattle.whole.specs.Choice.{when◌then◌else◌}
 use Rattle.whole.proofs.Comparisons.{back}
 use Rattle.convex.specs.Ways.{down, change_of}
 use Rattle.convex.proofs.change.Statement.{statement}
@@ -19,11 +19,11 @@ read c =
 
 returns : tie.Need-returns-then-a-b
 unfolding change_of xor
-returns c = ap (λ (t : Bool). if t then 1 else 0) (sym c.if-a-b.true ∙ read c.before)
+returns c = ap (λ (t : Bool). when t then 1 else 0) (sym c.if-a-b.true ∙ read c.before)
 
 returns-2 : tie.Need-returns
 unfolding change_of xor
-returns-2 c = ap (λ (t : Bool). if t then 1 else 0) (sym c.if-a-b.false ∙ read c.before)
+returns-2 c = ap (λ (t : Bool). when t then 1 else 0) (sym c.if-a-b.false ∙ read c.before)
 
 pub change_spec : {M : Type 1} → statement M
 change_spec = tie.close (tie.spec returns returns-2)

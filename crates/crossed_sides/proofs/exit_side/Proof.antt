@@ -4,14 +4,14 @@ use mathlib.Core.Bool.{Bool}
 use Prim.Native.Nat.{ℕ}
 use lib.Signed.{lt_z}
 use mir.Syntax.{w32}
-use Rattle.whole.specs.Choice.{if◌then◌else◌}
+use Rattle.whole.specs.Choice.{when◌then◌else◌}
 use Rattle.whole.proofs.Comparisons.{back}
 use Rattle.crossed_sides.proofs.exit_side.Statement.{statement}
 use Rattle.crossed_sides.proofs.exit_side.Tie as tie
 
 -- whether it is a level side, and the high one of two
 abbrev number : Bool → Bool → Bool → ℕ
-number level top right = if level then (if top then 3 else 2) else (if right then 1 else 0)
+number level top right = when level then (when top then 3 else 2) else (when right then 1 else 0)
 
 returns : tie.Need-returns-then-s
 returns c =

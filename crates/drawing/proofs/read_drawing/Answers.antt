@@ -1,7 +1,7 @@
 -- `drawing::read_drawing` meets its contract: each way out is a way of a reading, by what the survey said of the bytes.
 use Rattle.std.proofs.Common.{◌≡◌, ℕ, ◌*◌, refl, sym, ap, ◌∙◌, arith, length}
 use lib.Dec.{eqb}
-use Rattle.whole.specs.Choice.{if◌then◌else◌}
+use Rattle.whole.specs.Choice.{when◌then◌else◌}
 use Rattle.grid.specs.Refusals.{no_area, room_refusal}
 use Rattle.grid.specs.Calls.{written}
 use Rattle.grid.specs.declared.Refusal.{Refusal}
@@ -16,7 +16,7 @@ use Rattle.drawing.proofs.read_drawing.Goals as goal
 
 -- 3 for the window, or else 8
 decided : (w : Window) (count needed room : ℕ) (area room_is r : Refusal) → area ≡ no_area w → room_is ≡ room_refusal (4 * count) room → count ≡ needed
-    → r ≡ (if eqb area.number 0 then room_is else area) → r ≡ decision w (4 * needed) room
+    → r ≡ (when eqb area.number 0 then room_is else area) → r ≡ decision w (4 * needed) room
 decided w count needed room area room_is r a m n d = simp (d, m, a, n)
 
 pub returns-then-found-ne0 : goal.returns-then-found-ne0

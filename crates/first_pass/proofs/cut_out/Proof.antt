@@ -11,7 +11,7 @@ use borrow.Author.Tests.{eqb-false}
 use lib.Dec.{eqb}
 use lib.IntN.{ℤ}
 use lib.ListN.{length}
-use Rattle.whole.specs.Choice.{if◌then◌else◌, Decides}
+use Rattle.whole.specs.Choice.{when◌then◌else◌, Decides}
 use Rattle.whole.proofs.Comparisons.{by-test}
 use Rattle.grid.specs.declared.Window.{Window}
 use Rattle.grid.specs.Sides.{Side, side_at}
@@ -91,7 +91,7 @@ module _ (c : tie.After-end_of_run-b) where
 
   -- the corner after it
   abbrev next : ℕ
-  next = if eqb b (n start) then 0 else b
+  next = when eqb b (n start) then 0 else b
 
   next_of_ring : (next < n start) × In (h start) (point_in (g start) next)
   next_of_ring =

@@ -7,7 +7,7 @@ use native.Mathlib.Omega.{arith}
 use borrow.Author.Tests.{lt-ltb, le-ltb, le-leb, lt-leb, eq-eqb, ne_eqb}
 use lib.Dec.{eqb}
 use lib.ListN.{length, get_or}
-use Rattle.whole.specs.Choice.{if◌then◌else◌}
+use Rattle.whole.specs.Choice.{when◌then◌else◌}
 use Rattle.format.specs.Format.{float_at, record_at}
 use Rattle.format.specs.declared.Step.TheVariants as Step
 use Rattle.format.specs.declared.Found.{Found}
@@ -17,8 +17,8 @@ use Rattle.format.proofs.record_at.Tie as tie
 -- a record of nine bytes, by its first
 abbrev nine : List ℕ → ℕ → Found
 nine bs at =
-    if eqb (get_or bs at 0) 0x4D then Found.Record (Step.Move (float_at bs (at + 1)) (float_at bs (at + 5))) (at + 9)
-    else if eqb (get_or bs at 0) 0x4C then Found.Record (Step.Line (float_at bs (at + 1)) (float_at bs (at + 5))) (at + 9)
+    when eqb (get_or bs at 0) 0x4D then Found.Record (Step.Move (float_at bs (at + 1)) (float_at bs (at + 5))) (at + 9)
+    else when eqb (get_or bs at 0) 0x4C then Found.Record (Step.Line (float_at bs (at + 1)) (float_at bs (at + 5))) (at + 9)
     else Found.Bad
 
 passed : (c : tie.Else-s-at-lt9) → let a = c.before.before.before.before.before.args in record_at a.s.now a.at ≡ nine a.s.now a.at

@@ -11,7 +11,7 @@ use borrow.Author.Tests.{eqb-false}
 use lib.Dec.{eqb}
 use lib.IntN.{ℤ}
 use lib.ListN.{length}
-use Rattle.whole.specs.Choice.{if◌then◌else◌, Decides}
+use Rattle.whole.specs.Choice.{when◌then◌else◌, Decides}
 use Rattle.whole.proofs.Comparisons.{by-test}
 use Rattle.grid.specs.Sides.{side_at}
 use Rattle.rings.specs.Points.{Point, Line, In, Out, On}
@@ -77,7 +77,7 @@ module _ (c : tie.After-end_of_run-b) where
 
   -- the corner after it
   abbrev next : ℕ
-  next = if eqb b start.args.to then start.args.from else b
+  next = when eqb b start.args.to then start.args.from else b
 
   next_of_ring : (start.args.from ≤ next) × (next < start.args.to) × In (h start) (point_in (m start) next)
   next_of_ring =
