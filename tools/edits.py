@@ -186,6 +186,51 @@ def flat(lines):
     return " ".join(line.strip() for line in lines if line.strip())
 
 
+def paired(one, other, is_code):
+    """Gives each new line an old one, in order, so that they are as much alike as can be: what the old lines become, '' for those that go."""
+    if len(other) > len(one):
+        # more lines than before: the last ones come behind the last old line
+        if is_code:
+            other = [*other[: len(one) - 1], flat(other[len(one) - 1 :])]
+        else:
+            other = [*other[: len(one) - 1], " ¶ ".join(other[len(one) - 1 :])]
+    alike = [[difflib.SequenceMatcher(None, x, y).ratio() for y in other] for x in one]
+    best = [[0.0] * (len(other) + 1) for _ in range(len(one) + 1)]
+    for n in range(1, len(one) + 1):
+        for m in range(1, min(n, len(other)) + 1):
+            best[n][m] = best[n - 1][m - 1] + alike[n - 1][m - 1] + 0.001
+            if m < n:
+                best[n][m] = max(best[n][m], best[n - 1][m])
+    found, m = [], len(other)
+    for n in range(len(one), 0, -1):
+        if m and (m == n or best[n][m] != best[n - 1][m]):
+            found.append((n - 1, one[n - 1], other[m - 1]))
+            m -= 1
+        else:
+            found.append((n - 1, one[n - 1], ""))
+    return found[::-1]
+
+
+def ordered(pairs, text, cut):
+    """The pairs in such an order that each old text stands once when its turn comes."""
+    rest, out, shown = list(pairs), [], text
+    while rest:
+        for it in rest:
+            old, put = cut(it, shown)
+            if shown.count(old) != 1:
+                continue
+            then = shown.replace(old, put)
+            if all(then.count(cut(other, then)[0]) == 1 or shown.count(cut(other, shown)[0]) != 1 for other in rest if other is not it):
+                break
+        else:
+            it = rest[0]
+            old, put = cut(it, shown)
+        rest.remove(it)
+        out.append((it, old, put))
+        shown = shown.replace(old, put) if shown.count(old) == 1 else shown
+    return out
+
+
 def hunks(base, wrong, is_code):
     """What differs, as [line, old text, new text], one line each."""
     a, b = ([line for line in text.split("\n") if line.strip()] for text in (base, wrong))
@@ -208,23 +253,7 @@ def hunks(base, wrong, is_code):
             indent = re.match(r"\s*", one[0])[0]
             found.append([i, one[0], indent + flat(other)])
         else:
-            # line by line, each old line with the new line that is most like it
-            rest = list(other)
-            for n, x in enumerate(one):
-                best = max(rest, key=lambda y: difflib.SequenceMatcher(None, x, y).ratio(), default=None)
-                if best is not None and difflib.SequenceMatcher(None, x, best).ratio() > 0.5:
-                    before = rest[: rest.index(best)]
-                    rest = rest[rest.index(best) + 1 :]
-                    if before and is_code:
-                        found.append([i + n, x, re.match(r"\s*", x)[0] + flat([*before, best])])
-                    elif before:
-                        found.append([i + n, x, " ¶ ".join([*before, best]) + " ¶"])
-                    elif x != best:
-                        found.append([i + n, x, best])
-                elif x.strip():
-                    found.append([i + n, x, ""])
-            if rest:
-                found.append([j - 1, "", "¶ " + " ¶ ".join(rest)])
+            found += [[i + n, x, y] for n, x, y in paired(one, other, is_code) if x != y]
     return found
 
 
