@@ -189,11 +189,17 @@ def flat(lines):
 def paired(one, other, is_code):
     """Gives each new line an old one, in order, so that they are as much alike as can be: what the old lines become, '' for those that go."""
     if len(other) > len(one):
-        # more lines than before: the last ones come behind the last old line
-        if is_code:
-            other = [*other[: len(one) - 1], flat(other[len(one) - 1 :])]
-        else:
-            other = [*other[: len(one) - 1], " ¶ ".join(other[len(one) - 1 :])]
+        # more lines than before: each new line that is like no old one goes in front of the next that is
+        back = paired(other, one, is_code)
+        grouped, waits = [], []
+        for _, y, x in back:
+            waits.append(y)
+            if x:
+                grouped.append(waits)
+                waits = []
+        grouped[-1] += waits
+        joined = [re.match(r"\s*", it[0])[0] + flat(it) if is_code else " ¶ ".join(it) for it in grouped]
+        return [(n, x, y) for n, (x, y) in enumerate(zip(one, joined))]
     alike = [[difflib.SequenceMatcher(None, x, y).ratio() for y in other] for x in one]
     best = [[0.0] * (len(other) + 1) for _ in range(len(one) + 1)]
     for n in range(1, len(one) + 1):
