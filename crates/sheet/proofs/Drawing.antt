@@ -7,7 +7,6 @@ use lib.ListN.{length}
 use Rattle.text.specs.Pages.{Put}
 use Rattle.book_text.specs.Readings.{ReadsAs}
 use Rattle.book_text.specs.declared.Verdict.{Verdict}
-use Rattle.book_text.specs.declared.Verdict.TheVariants as Verdict
 use Rattle.sheet_art.specs.SheetArt.{sheet}
 use Rattle.sheet.specs.Sheets.{Draws, drawn, faulty}
 use Rattle.sheet.specs.declared.Drawn.{Drawn}

@@ -27,24 +27,24 @@ fn draw(text: &[u8], page: &mut [u8]) -> Drawn
 }
 
 // Reads, draws and writes, in the memory that main lends.
-fn run(text: &mut [u8], page: &mut [u8])
+fn run(rt: &HostRuntime, text: &mut [u8], page: &mut [u8])
     requires { 35000 ≤ length page.old }
 {
-    let taken = streams::read_all(text);
+    let taken = streams::read_all(rt, text);
     if taken.failed {
         return;
     }
     match draw(&text[..taken.count], page) {
         Drawn::Sheet(end) => {
-            streams::write(&page[..end]);
+            streams::write(rt, &page[..end]);
         }
-        Drawn::Faulty(line) => faults::tell(line, b"\n"),
+        Drawn::Faulty(line) => faults::tell(rt, line, b"\n"),
     }
 }
 
-fn main() {
+fn main(rt: HostRuntime) {
     // More than the text of any book has.
     let mut text = [0u8; 40000];
     let mut page = [0u8; 35000];
-    run(&mut text, &mut page);
+    run(&rt, &mut text, &mut page);
 }
