@@ -36,15 +36,16 @@ fn answer(line: &[u8], have: usize, table: &mut [i32], page: &mut [u8]) -> Servi
 }
 
 // Writes an answer, and says whether that could be done.
-fn write_out(page: &[u8], end: usize) -> bool
+fn write_out(rt: &HostRuntime, page: &[u8], end: usize) -> bool
     requires { end ≤ length page.now }
 {
-    streams::write(&page[..end])
+    streams::write(rt, &page[..end])
 }
 
 // Answers a line: where it has changed the table, that is kept before its answer is written. Says whether both could be done, and whether the line was
 // refused.
 fn serve(
+    rt: &HostRuntime,
     new: &[u8],
     long: usize,
     line: &[u8],
@@ -59,7 +60,7 @@ fn serve(
 {
     let service = answer(line, have, table, page);
     if service.changed {
-        if !storing::save(new, long, table) {
+        if !storing::save(rt, new, long, table) {
             return Turn {
                 done: false,
                 refused: false,
@@ -67,13 +68,14 @@ fn serve(
         }
     }
     Turn {
-        done: write_out(page, service.end),
+        done: write_out(rt, page, service.end),
         refused: service.refused,
     }
 }
 
 // Answers the lines of standard input one after another, and says whether one was refused. It ends with the input, or where something failed.
 fn sit(
+    rt: &HostRuntime,
     new: &[u8],
     long: usize,
     chunk: &mut Chunk,
@@ -88,11 +90,11 @@ fn sit(
     let mut refused = false;
     let mut turns: u64 = 0;
     while turns < 0x4000_0000_0000_0000 {
-        source = input::next_line(chunk, line, source);
+        source = input::next_line(rt, chunk, line, source);
         if !source.whole {
             break;
         }
-        let turn = serve(new, long, line, source.have, table, page);
+        let turn = serve(rt, new, long, line, source.have, table, page);
         if turn.refused {
             refused = true;
         }
@@ -105,27 +107,35 @@ fn sit(
 }
 
 // The sitting, with the book in hand.
-fn hold(new: &[u8], long: usize, chunk: &mut Chunk, line: &mut Line, page: &mut Page)
+fn hold(
+    rt: &HostRuntime,
+    new: &[u8],
+    long: usize,
+    chunk: &mut Chunk,
+    line: &mut Line,
+    page: &mut Page,
+)
     requires { IsNewName new.now long }
 {
-    if !keeping::is_own(&new[..long]) {
+    if !keeping::is_own(rt, &new[..long]) {
         return;
     }
-    if !keeping::is_clear(new) {
+    if !keeping::is_clear(rt, new) {
         return;
     }
     let mut table = [0i32; 320];
-    if !storing::load(&new[..long], &mut table) {
+    if !storing::load(rt, &new[..long], &mut table) {
         return;
     }
-    if sit(new, long, chunk, line, &mut table, page) {
-        streams::tell(b"not every line was done: its answer says why\n");
+    if sit(rt, new, long, chunk, line, &mut table, page) {
+        streams::tell(rt, b"not every line was done: its answer says why\n");
     }
 }
 
 // Takes the book in hand, holds the sitting, and lets the book go. The names are lent: that of the file which says that the book is in hand, and that of
 // the new file, which begins with that of the book's own, so many bytes.
 pub fn keep_book(
+    rt: &HostRuntime,
     busy: &[u8],
     new: &[u8],
     long: usize,
@@ -135,10 +145,9 @@ pub fn keep_book(
 )
     requires { IsNewName new.now long }
 {
-    let held = keeping::take(busy);
-    if held < 0 {
+    let Some(held) = keeping::take(rt, busy) else {
         return;
-    }
-    hold(new, long, chunk, line, page);
-    keeping::leave(busy, held);
+    };
+    hold(rt, new, long, chunk, line, page);
+    keeping::leave(rt, busy, held);
 }
