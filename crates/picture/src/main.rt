@@ -66,26 +66,26 @@ fn draw(bytes: &[u8], strokes: &mut [i32], rows: &mut [i32], page: &mut [u8]) ->
 }
 
 // Reads, draws and writes, in the memory that main lends.
-fn run(bytes: &mut [u8], strokes: &mut [i32], rows: &mut [i32], page: &mut [u8])
+fn run(rt: &HostRuntime, bytes: &mut [u8], strokes: &mut [i32], rows: &mut [i32], page: &mut [u8])
     requires value { 16384 ≡ length strokes.old }
     requires value_2 { 20480 ≡ length rows.old }
     requires in_bounds { 820000 ≤ length page.old }
 {
-    let taken = streams::read_all(bytes);
+    let taken = streams::read_all(rt, bytes);
     if taken.failed {
         return;
     }
     let made = draw(&bytes[..taken.count], strokes, rows, page);
-    if streams::write(&page[..made.end]) {
-        reports::tell(made.number, made.place);
+    if streams::write(rt, &page[..made.end]) {
+        reports::tell(rt, made.number, made.place);
     }
 }
 
-fn main() {
+fn main(rt: HostRuntime) {
     // One byte more than a drawing may have.
     let mut bytes = [0u8; 65537];
     let mut strokes = [0i32; 16384];
     let mut rows = [0i32; 20480];
     let mut page = [0u8; 820000];
-    run(&mut bytes, &mut strokes, &mut rows, &mut page);
+    run(&rt, &mut bytes, &mut strokes, &mut rows, &mut page);
 }
