@@ -3,7 +3,7 @@
 --   side_p s k, side_q w s k   the p and the q of the side k: at t the stroke is inside the side or on it where p·t ≤ q
 --   condition w s k          both of them
 --   four_sides                the sides, in the order of their numbers: 0 left, 1 right, 2 bottom, 3 top
---   conditions w s           the conditions of the four, in this order
+--   conditions w s           those of the four sides, in the order of their numbers: 0 left, 1 right, 2 bottom, 3 top
 use Rattle.std.specs.Prelude.{List, [], ◌∷◌, map, ℤ, neg_ℤ, ◌-ℤ◌}
 use Rattle.grid.specs.declared.Stroke.{Stroke}
 use Rattle.grid.specs.declared.Window.{Window}
@@ -35,4 +35,4 @@ abbrev pub four_sides : List Side
 four_sides = left ∷ right ∷ bottom ∷ top ∷ []
 
 abbrev pub conditions : Window → Stroke → List Condition
-conditions w s = map (condition w s) four_sides
+conditions w s = map (condition w s) (left ∷ right ∷ bottom ∷ top ∷ [])
