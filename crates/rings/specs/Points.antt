@@ -1,6 +1,6 @@
 -- Points and lines of the plane in whole numbers: on which side of a line a point lies, and when two points are the same.
 --   Point         (X, Y, W), which stands for the point (X/W, Y/W)
---   Line          (A, B, C), which has the value A-as-X + B-as-Y + C-as-W at a point and its inside where that is positive
+--   Line          (A, B, C), which has the value A·X + B·Y + C·W at a point and its inside where that is positive
 --   value h p     the value of the line h at p
 --   through a b   the line from a to b, its inside to the left
 --   det a b p     the determinant of the rows a, b, p, which is the value at p of the line from a to b
