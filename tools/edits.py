@@ -12,12 +12,12 @@ file once, port.py and spell.py turn each copy, and what then differs from NEW's
 in the order in which the edit had them. Files without an edit must come out as NEW has them; the script says which don't. With names of
 crates, only their edits are written.
 
-What it can't do: names that Rattle generates for a proof of the wrong program are those of the old kit. They are mended by hand.
+What it can't do: names that Rattle generates for a proof of the wrong program are those of the old kit. They are mended by hand, so run it
+once: it writes over crates/*/must-fail.
 """
 
 import difflib
 import glob
-import json
 import os
 import re
 import shutil
@@ -296,18 +296,22 @@ def rewritten(text, crate, room, plans, new, name):
         else:
             left.append(f"{path}: {len(lines)} lines were changed, and now {len(found)}")
             found = [(mine[0], *it) for it in sorted(found)]
+        def cut(it, text):
+            _, _, old, put = it
+            if len(old) < 140 or not put:
+                return old, put
+            one, other = shortened(old, put, text)
+            return (one, other) if text.count(one) == 1 else (old, put)
+
         shown = base
-        for first, _, old, put in sorted(found, key=lambda it: it[0]):
-            if "¶" in put:
-                left.append(f"{path}: more lines than before: {put[:80]}")
-            a, b = (old, put) if len(old) < 140 or not put else shortened(old, put, shown)
-            if shown.count(a) != 1:
-                a, b = old, put
-            if shown.count(a) != 1:
-                left.append(f"{path}: stands {shown.count(a)} times: {a}")
+        for it, one, other in ordered(sorted(found, key=lambda it: it[0]), base, cut):
+            if "¶" in other:
+                left.append(f"{path}: more lines than before: {other[:80]}")
+            if shown.count(one) != 1:
+                left.append(f"{path}: stands {shown.count(one)} times: {one}")
             else:
-                shown = shown.replace(a, b)
-            made.append((first, path, a, b))
+                shown = shown.replace(one, other)
+            made.append((it[0], path, one, other))
         if same(shown, is_code) != same(wrong, is_code):
             left.append(f"{path}: does not give the turned file")
     made.sort(key=lambda it: it[0])
