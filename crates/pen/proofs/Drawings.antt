@@ -18,7 +18,7 @@ use Rattle.pen.specs.Workers.{Counted, counted, none}
 use Rattle.pen.specs.declared.Outcome.{Outcome}
 
 -- lines are counted from one
-pub from_one : {t bs : List ℕ} {room n i : ℕ} → Told t room n i bs → 1 ≤ n
+pub from_one : {t : List ℕ} {room : ℕ} {bs : List ℕ} {n i : ℕ} → Told t room n i bs → 1 ≤ n
 from_one start = omega arith
 from_one (next p w a) = omega (arith, from_one p)
 

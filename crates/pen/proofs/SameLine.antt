@@ -18,7 +18,7 @@ unfolding from
 one_more zero t = refl
 one_more (suc n) t = one_more n (drop (run (is_not 10) t + 1) t)
 
-starts_there : {t bs : List ℕ} {room n i : ℕ} → Told t room n i bs → from (n - 1) t ≡ drop i t
+starts_there : {t : List ℕ} {room : ℕ} {bs : List ℕ} {n i : ℕ} → Told t room n i bs → from (n - 1) t ≡ drop i t
 unfolding from
 starts_there start = refl
 starts_there {t} (next {n = n} {i = i} p w a) =

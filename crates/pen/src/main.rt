@@ -66,21 +66,21 @@ fn draw(text: &[u8], page: &mut [u8]) -> Outcome
 }
 
 // Says why a line of a text is not taken.
-fn complain(text: &[u8], line: usize, fault: Fault)
+fn complain(rt: &HostRuntime, text: &[u8], line: usize, fault: Fault)
     requires { 1 ≤ line }
 {
     let mut words = [0u8; 128];
     let end = complaints::put(&mut words, text, line, fault);
-    streams::tell(&words[..end]);
+    streams::tell(rt, &words[..end]);
 }
 
 // Draws the text on standard input into a page, and writes the page, or why a line is not taken. There is room for a byte
 // more than a text and its line end may have, so that a longer text is seen to be longer.
-fn run(text: &mut [u8], page: &mut [u8])
+fn run(rt: &HostRuntime, text: &mut [u8], page: &mut [u8])
     requires most_text_value { most_text + 2 ≡ length text.old }
     requires value { 65536 ≡ length page.old }
 {
-    let taken = streams::read_all(text);
+    let taken = streams::read_all(rt, text);
     if taken.failed {
         return;
     }
@@ -90,16 +90,16 @@ fn run(text: &mut [u8], page: &mut [u8])
     let step = outcome.step;
     match step {
         Step::Done(length) => {
-            streams::write(&page[..length]);
+            streams::write(rt, &page[..length]);
         }
         Step::Wrong(fault) => {
-            complain(&text[..count], line, fault);
+            complain(rt, &text[..count], line, fault);
         }
     }
 }
 
-fn main() {
+fn main(rt: HostRuntime) {
     let mut text = [0u8; 524290];
     let mut page = [0u8; 65536];
-    run(&mut text, &mut page);
+    run(&rt, &mut text, &mut page);
 }

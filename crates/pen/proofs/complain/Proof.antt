@@ -5,17 +5,17 @@ use borrow.Author.Rules.{rules}
 use Rattle.pen.proofs.complain.Statement.{statement}
 use Rattle.pen.proofs.complain.Tie as tie
 
-slice-aggregate-put : tie.Need-slice-aggregate-put
+slice-aggregate-put : tie.Need-slice_bounds-put-end
 slice-aggregate-put c = search rules
 
-put-requires : tie.Need-put-requires
+put-requires : tie.Need-put-end-requires
 put-requires c κs = search rules
 
-array-share-prefix-words : tie.Need-array-share-prefix-words
+array-share-prefix-words : tie.Need-slice_bounds-words-end
 array-share-prefix-words c = search rules
 
-slice-aggregate-tell : tie.Need-slice-aggregate-tell
-slice-aggregate-tell c = sym (length-take-le _ _ c.before.before.put.ensures.fits)
+slice-aggregate-tell : tie.Need-slice_bounds-tell-end
+slice-aggregate-tell c = sym (length-take-le _ _ c.before.before.put-end.ensures.fits)
 
 tell-requires : tie.Need-tell-requires
 tell-requires c κs = search rules

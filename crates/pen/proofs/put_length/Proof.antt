@@ -6,23 +6,23 @@ use borrow.Author.Rules.{rules}
 use Rattle.pen.proofs.put_length.Statement.{statement}
 use Rattle.pen.proofs.put_length.Tie as tie
 
-returns : tie.Need-returns
-returns c = none c.if1.true
+returns : tie.Need-returns-then-at-eq4
+returns c = none c.if-at-eq4.true
 
-sub-put-bytes : tie.Need-overflow-sub-put-bytes
+sub-put-bytes : tie.Need-overflow_sub-at
 sub-put-bytes c = search rules
 
-cast-put-bytes : tie.Need-overflow-cast-put-bytes
+cast-put-bytes : tie.Need-overflow_cast-at
 cast-put-bytes c = search rules
 
-put-bytes-requires : tie.Need-put-bytes-requires
+put-bytes-requires : tie.Need-put_bytes-requires
 put-bytes-requires c κs = search rules
 
-same_length : tie.Need-same-length
+same_length : tie.Need-shape_of-page
 same_length c = search rules
 
-returns-2 : tie.Need-returns-2
-returns-2 c = let p = c.before.before.put-bytes.ensures in counted c.before.before.before.before.if1.false (put_to 4 (omega (arith, p.ends)) p)
+returns-2 : tie.Need-returns
+returns-2 c = let p = c.before.before.put_bytes.ensures in counted c.before.before.before.before.if-at-eq4.false (put_to 4 (omega (arith, p.ends)) p)
 
 pub put_length_spec : {M : Type 1} → statement M
 put_length_spec =
