@@ -5,12 +5,18 @@ use input::{Chunk, Line};
 use output::Page;
 
 // Answers every line. A proved loop has to end, so it counts its lines, to a number that no run reaches.
-fn run(chunk: &mut Chunk, line: &mut Line, lent: &mut [i32; 40960], page: &mut Page) {
+fn run(
+    rt: &HostRuntime,
+    chunk: &mut Chunk,
+    line: &mut Line,
+    lent: &mut [i32; 40960],
+    page: &mut Page,
+) {
     let mut talk = exchange::start();
     let mut reply = replies::unknown();
     let mut number: u64 = 0;
     while number < 0x4000_0000_0000_0000 {
-        talk = exchange::turn(chunk, line, lent, page, talk, number, reply);
+        talk = exchange::turn(rt, chunk, line, lent, page, talk, number, reply);
         if !talk.source.whole {
             break;
         }
@@ -19,10 +25,10 @@ fn run(chunk: &mut Chunk, line: &mut Line, lent: &mut [i32; 40960], page: &mut P
     }
 }
 
-fn main() {
+fn main(rt: HostRuntime) {
     let mut chunk = [0u8; 65536];
     let mut line = [0u8; 400001];
     let mut lent = [0i32; 40960];
     let mut page = [0u8; 557536];
-    run(&mut chunk, &mut line, &mut lent, &mut page);
+    run(&rt, &mut chunk, &mut line, &mut lent, &mut page);
 }
