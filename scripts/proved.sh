@@ -1,10 +1,10 @@
 # Proves and builds what is not proved yet, with a line for each crate as it is done. It is sourced by bash, after programs.sh.
 
 # sums ROOT FILE: two sums on a line, over the sources' bytes and over those of what was made from them. Dates say nothing: a checkout may bring a
-# change that is older than the program.
+# change that is older than the program. What rt puts down in out/ is no source, though it has copies of some.
 sums() {
     local sources made
-    sources=$(find "$1/crates.txt" "$1/crates" -type f \( -name '*.rt' -o -name '*.antt' -o -name crates.txt \) -print0 | LC_ALL=C sort -z |
+    sources=$(find "$1/crates.txt" "$1/crates" -name out -prune -o -type f \( -name '*.rt' -o -name '*.antt' -o -name crates.txt \) -print0 | LC_ALL=C sort -z |
         xargs -0 cat -- | sha256sum)
     made=$(sha256sum <"$2")
     echo "${sources%% *} ${made%% *}"

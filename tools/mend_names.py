@@ -61,7 +61,6 @@ def mend(text,info,func):
         out.append(l)
     text='\n'.join(out)
     text=re.sub(r'tie\.([^\s(){}.,;]+)',lambda m: 'tie.'+places.get(norm(m[1]),m[1]) if not m[1].startswith('Need-') else m[0],text)
-    fields=set(); 
     def step_sub(m):
         w=m[1]
         return '.'+steps.get(norm(w),w)

@@ -79,8 +79,10 @@ crossing-requires : tie.Need-crossing-requires
 crossing-requires c κs =
     let k = c.before.before in
     let reaching = c.before.outside.ensures.1 c.if-outside.false in
-    let l = k.before.before.before in
-    (window_on_table _ (window_done k.before.before.before.before.before), (stroke_on_table _ (stroke_done k), (reaching, λ p q. l.before.inside.ensures.1 l.if-inside.false (dot_inside reaching p q))))
+    let l = k.before.before.before in (
+      window_on_table _ (window_done k.before.before.before.before.before),
+      (stroke_on_table _ (stroke_done k), (reaching, λ p q. l.before.inside.ensures.1 l.if-inside.false (dot_inside reaching p q))),
+    )
 
 returns-5 : tie.Need-returns
 returns-5 c = let k = c.before.before.before in done_stroke (window_done k.before.before.before.before.before) (stroke_done k) c.crossing.ensures

@@ -11,20 +11,20 @@ use Rattle.cross_product.proofs.crossing.Statement.{statement}
 use Rattle.cross_product.proofs.crossing.Tie as tie
 
 course-past-requires : tie.Need-course_past-x-requires
-course-past-requires c κs = let p = c.before.before.before.before.requires in course_asks p.0.left p.0.right p.1.0.x1 p.1.0.x2
+course-past-requires c κs = let p = c.requires in course_asks p.0.left p.0.right p.1.0.x1 p.1.0.x2
 
 course-past-requires-2 : tie.Need-course_past-y-requires
-course-past-requires-2 c κs = let p = c.before.before.before.before.before.before.before.before.before.requires in course_asks p.0.bottom p.0.top p.1.0.y1 p.1.0.y2
+course-past-requires-2 c κs = let p = c.requires in course_asks p.0.bottom p.0.top p.1.0.y1 p.1.0.y2
 
 -- the two courses
-course_x : (c : tie.After-course_past-y) → let a = c.before.before.before.before.before.before.before.before.before.before.args in CourseOf a.w.left a.w.right a.s.x1 a.s.x2 c.before.before.before.before.before.course_past-x.result
-course_x c = let p = c.before.before.before.before.before.before.before.before.before.before.requires in course_plain p.0.left p.0.right p.1.0.x1 p.1.0.x2 c.before.before.before.before.before.course_past-x.ensures
+course_x : (c : tie.After-course_past-y) → CourseOf c.args.w.left c.args.w.right c.args.s.x1 c.args.s.x2 c.course_past-x.result
+course_x c = let p = c.requires in course_plain p.0.left p.0.right p.1.0.x1 p.1.0.x2 c.course_past-x.ensures
 
-course_y : (c : tie.After-course_past-y) → let a = c.before.before.before.before.before.before.before.before.before.before.args in CourseOf a.w.bottom a.w.top a.s.y1 a.s.y2 c.course_past-y.result
-course_y c = let p = c.before.before.before.before.before.before.before.before.before.before.requires in course_plain p.0.bottom p.0.top p.1.0.y1 p.1.0.y2 c.course_past-y.ensures
+course_y : (c : tie.After-course_past-y) → CourseOf c.args.w.bottom c.args.w.top c.args.s.y1 c.args.s.y2 c.course_past-y.result
+course_y c = let p = c.requires in course_plain p.0.bottom p.0.top p.1.0.y1 p.1.0.y2 c.course_past-y.ensures
 
 find-requires : tie.Need-find-line-requires
-find-requires c κs = let p = c.before.before.before.before.before.before.before.before.before.before.requires in (p.0, (p.1.0, (p.1.1.1, (course_x c, course_y c))))
+find-requires c κs = let p = c.requires in (p.0, (p.1.0, (p.1.1.1, (course_x c, course_y c))))
 
 blank-requires : tie.Need-blank-requires
 blank-requires c κs = search rules

@@ -5,7 +5,8 @@ use borrow.Author.Rules.{rules}
 use Rattle.spans.specs.Sides.{FirstOf}
 use Rattle.strokes.specs.Sides.{four_sides}
 use Rattle.crossed_sides.specs.Line.{GoesOut, exit_side}
-use Rattle.cross_product.proofs.Given.{within_reach, cut_off, x_small, y_small, own_end_level, end_level_asks, end_level_found, own_end_upright, end_upright_asks, end_upright_found}
+use Rattle.cross_product.proofs.Given.{within_reach, cut_off, x_small, y_small}
+use Rattle.cross_product.proofs.Given.{own_end_level, end_level_asks, end_level_found, own_end_upright, end_upright_asks, end_upright_found}
 use Rattle.cross_product.proofs.finish.Statement.{statement}
 use Rattle.cross_product.proofs.finish.Tie as tie
 
@@ -20,7 +21,8 @@ returns : tie.Need-returns-then-y
 returns c =
     let st = c.before.before.before.before.before in
     let p = st.requires in
-    own_end_level p.0 p.1.0 p.1.1.0 p.1.1.1.0 p.1.1.1.1.0 (first st c.before.before.before.before.if-level.true) (within_reach (y_small p.0 p.1.0 p.1.1.0 p.1.1.1.0 p.1.1.1.1.0).0 (y_small p.0 p.1.0 p.1.1.0 p.1.1.1.0 p.1.1.1.1.0).1.1 c.before.if-y.true) c.own_end.ensures
+    let y = y_small p.0 p.1.0 p.1.1.0 p.1.1.1.0 p.1.1.1.1.0 in
+    own_end_level p.0 p.1.0 p.1.1.0 p.1.1.1.0 p.1.1.1.1.0 (first st c.if-level.true) (within_reach y.0 y.1.1 c.if-y.true) c.own_end.ensures
 
 exit-side-requires : tie.Need-exit_side-requires
 exit-side-requires c κs = search rules
@@ -29,14 +31,17 @@ at-level-requires : tie.Need-at_level-requires
 at-level-requires c κs =
     let st = c.before.before.before.before.before.before.before.before in
     let p = st.requires in
-    (p.1.0, end_level_asks p.0 p.1.0 p.1.1.0 p.1.1.1.0 p.1.1.1.1.0 (first st c.before.before.before.before.before.before.before.if-level.true) (cut_off (y_small p.0 p.1.0 p.1.1.0 p.1.1.1.0 p.1.1.1.1.0).0 (y_small p.0 p.1.0 p.1.1.0 p.1.1.1.0 p.1.1.1.1.0).1.1 c.before.before.before.before.if-y.false))
+    let y = y_small p.0 p.1.0 p.1.1.0 p.1.1.1.0 p.1.1.1.1.0 in
+    (p.1.0, end_level_asks p.0 p.1.0 p.1.1.0 p.1.1.1.0 p.1.1.1.1.0 (first st c.if-level.true) (cut_off y.0 y.1.1 c.if-y.false))
 
 returns-2 : tie.Need-returns-then-level
 returns-2 c =
     let st = c.before.before.before.before.before.before.before.before.before in
     let p = st.requires in
-    let l = c.before.before.before.before.before.before.before.before.if-level.true in
-    end_level_found p.0 p.1.0 p.1.1.0 p.1.1.1.0 p.1.1.1.1.0 (first st l) (cut_off (y_small p.0 p.1.0 p.1.1.0 p.1.1.1.0 p.1.1.1.1.0).0 (y_small p.0 p.1.0 p.1.1.0 p.1.1.1.0 p.1.1.1.1.0).1.1 c.before.before.before.before.before.if-y.false) (c.before.before.before.before.exit_side.ensures ∙ ap (exit_side st.args.s) l) c.at_level.ensures
+    let y = y_small p.0 p.1.0 p.1.1.0 p.1.1.1.0 p.1.1.1.1.0 in
+    let l = c.if-level.true in
+    end_level_found p.0 p.1.0 p.1.1.0 p.1.1.1.0 p.1.1.1.1.0 (first st l) (cut_off y.0 y.1.1 c.if-y.false)
+    (c.exit_side.ensures ∙ ap (exit_side st.args.s) l) c.at_level.ensures
 
 own-end-requires-2 : tie.Need-own_end-requires-then-x
 own-end-requires-2 c κs = c.before.before.before.before.requires.1.0
@@ -45,7 +50,8 @@ returns-3 : tie.Need-returns-then-x
 returns-3 c =
     let st = c.before.before.before.before.before in
     let p = st.requires in
-    own_end_upright p.0 p.1.0 p.1.1.0 p.1.1.1.0 p.1.1.1.1.0 (first st c.before.before.before.before.if-level.false) (within_reach (x_small p.0 p.1.0 p.1.1.0 p.1.1.1.0 p.1.1.1.1.0).0 (x_small p.0 p.1.0 p.1.1.0 p.1.1.1.0 p.1.1.1.1.0).1.1 c.before.if-x.true) c.own_end-then-x.ensures
+    let x = x_small p.0 p.1.0 p.1.1.0 p.1.1.1.0 p.1.1.1.1.0 in
+    own_end_upright p.0 p.1.0 p.1.1.0 p.1.1.1.0 p.1.1.1.1.0 (first st c.if-level.false) (within_reach x.0 x.1.1 c.if-x.true) c.own_end-then-x.ensures
 
 exit-side-requires-2 : tie.Need-exit_side-requires-2
 exit-side-requires-2 c κs = search rules
@@ -54,14 +60,17 @@ at-upright-requires : tie.Need-at_upright-requires
 at-upright-requires c κs =
     let st = c.before.before.before.before.before.before.before.before in
     let p = st.requires in
-    (p.1.0, end_upright_asks p.0 p.1.0 p.1.1.0 p.1.1.1.0 p.1.1.1.1.0 (first st c.before.before.before.before.before.before.before.if-level.false) (cut_off (x_small p.0 p.1.0 p.1.1.0 p.1.1.1.0 p.1.1.1.1.0).0 (x_small p.0 p.1.0 p.1.1.0 p.1.1.1.0 p.1.1.1.1.0).1.1 c.before.before.before.before.if-x.false))
+    let x = x_small p.0 p.1.0 p.1.1.0 p.1.1.1.0 p.1.1.1.1.0 in
+    (p.1.0, end_upright_asks p.0 p.1.0 p.1.1.0 p.1.1.1.0 p.1.1.1.1.0 (first st c.if-level.false) (cut_off x.0 x.1.1 c.if-x.false))
 
 returns-4 : tie.Need-returns
 returns-4 c =
     let st = c.before.before.before.before.before.before.before.before.before in
     let p = st.requires in
-    let l = c.before.before.before.before.before.before.before.before.if-level.false in
-    end_upright_found p.0 p.1.0 p.1.1.0 p.1.1.1.0 p.1.1.1.1.0 (first st l) (cut_off (x_small p.0 p.1.0 p.1.1.0 p.1.1.1.0 p.1.1.1.1.0).0 (x_small p.0 p.1.0 p.1.1.0 p.1.1.1.0 p.1.1.1.1.0).1.1 c.before.before.before.before.before.if-x.false) (c.before.before.before.before.exit_side-2.ensures ∙ ap (exit_side st.args.s) l) c.at_upright.ensures
+    let x = x_small p.0 p.1.0 p.1.1.0 p.1.1.1.0 p.1.1.1.1.0 in
+    let l = c.if-level.false in
+    end_upright_found p.0 p.1.0 p.1.1.0 p.1.1.1.0 p.1.1.1.1.0 (first st l) (cut_off x.0 x.1.1 c.if-x.false)
+    (c.exit_side-2.ensures ∙ ap (exit_side st.args.s) l) c.at_upright.ensures
 
 pub finish_spec : {M : Type 1} → statement M
 finish_spec =

@@ -73,7 +73,9 @@ mul-upright-out : tie.Need-overflow_mul-upright_out
 mul-upright-out c = let a = c.before.before.before.before.before.before.before.before.before.before.before.before.before in product_fits (y_small a).0 (x_small a).1.1
 
 mul-level-in : tie.Need-overflow_mul-level_in
-mul-level-in c = let a = c.before.before.before.before.before.before.before.before.before.before.before.before.before.before.before.before.before in product_fits (x_small a).0 (y_small a).1.0
+mul-level-in c =
+    let a = c.before.before.before.before.before.before.before.before.before.before.before.before.before.before.before.before.before in
+    product_fits (x_small a).0 (y_small a).1.0
 
 returns-2 : tie.Need-returns-then-upright_out-level_in
 returns-2 c = let a = c.before.before.before.before.before.before.before.before.before.before.before.before.before.before.before.before.before.before in record {

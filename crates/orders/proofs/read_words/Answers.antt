@@ -20,16 +20,28 @@ pub returns-then-end-start : goal.returns-then-end-start
 returns-then-end-start c = blank (no_word _ 0 c.skip-start.ensures.value c.find-end.ensures.value c.if-end-start.true)
 
 pub read_booking-requires : goal.read_booking-requires
-read_booking-requires c = let p = c.skip-start.ensures.value in let q = c.find-end.ensures.value in begun _ p q c.find-end.ensures.upper_bound (named _ p q Command.Book c.in-Book.ensures)
+read_booking-requires c =
+    let p = c.skip-start.ensures.value in
+    let q = c.find-end.ensures.value in
+    begun _ p q c.find-end.ensures.upper_bound (named _ p q Command.Book c.in-Book.ensures)
 
 pub read_release-requires : goal.read_release-requires
-read_release-requires c = let p = c.skip-start.ensures.value in let q = c.find-end.ensures.value in begun _ p q c.find-end.ensures.upper_bound (named _ p q Command.Release c.in-Release.ensures)
+read_release-requires c =
+    let p = c.skip-start.ensures.value in
+    let q = c.find-end.ensures.value in
+    begun _ p q c.find-end.ensures.upper_bound (named _ p q Command.Release c.in-Release.ensures)
 
 pub read_strips-requires : goal.read_strips-requires
-read_strips-requires c = let p = c.skip-start.ensures.value in let q = c.find-end.ensures.value in begun _ p q c.find-end.ensures.upper_bound (named _ p q Command.Strips c.in-Strips.ensures)
+read_strips-requires c =
+    let p = c.skip-start.ensures.value in
+    let q = c.find-end.ensures.value in
+    begun _ p q c.find-end.ensures.upper_bound (named _ p q Command.Strips c.in-Strips.ensures)
 
 pub read_show-requires : goal.read_show-requires
-read_show-requires c = let p = c.skip-start.ensures.value in let q = c.find-end.ensures.value in begun _ p q c.find-end.ensures.upper_bound (named _ p q Command.Show c.in-Show.ensures)
+read_show-requires c =
+    let p = c.skip-start.ensures.value in
+    let q = c.find-end.ensures.value in
+    begun _ p q c.find-end.ensures.upper_bound (named _ p q Command.Show c.in-Show.ensures)
 
 pub returns-in-Other : goal.returns-in-Other
 returns-in-Other c =

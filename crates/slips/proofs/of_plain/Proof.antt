@@ -35,7 +35,8 @@ returns-4 c =
 
 returns-5 : tie.Need-returns-then-first-eq43
 returns-5 c =
-    plus _ (sym c.has.ensures ∙ c.if-has.false) (λ e. c.if-byte_at-eq46.false (c.byte_at.ensures ∙ e)) (λ e. c.if-first-eq46.false (c.byte_at-first.ensures ∙ e)) (sym c.byte_at-first.ensures ∙ c.if-first-eq43.true)
+    plus _ (sym c.has.ensures ∙ c.if-has.false) (λ e. c.if-byte_at-eq46.false (c.byte_at.ensures ∙ e))
+    (λ e. c.if-first-eq46.false (c.byte_at-first.ensures ∙ e)) (sym c.byte_at-first.ensures ∙ c.if-first-eq43.true)
 
 is-digit-requires : tie.Need-is_digit-requires
 is-digit-requires c κs = search rules
@@ -47,12 +48,14 @@ returns-6 : tie.Need-returns-then-is_digit
 returns-6 c =
     c.of_digits.ensures
     ∙ a_digit _ (sym c.has.ensures ∙ c.if-has.false) (λ e. c.if-byte_at-eq46.false (c.byte_at.ensures ∙ e))
-    (λ e. c.if-first-eq46.false (c.byte_at-first.ensures ∙ e)) (λ e. c.if-first-eq43.false (c.byte_at-first.ensures ∙ e)) (sym (c.is_digit.ensures ∙ ap is_digit c.byte_at-first.ensures) ∙ c.if-is_digit.true)
+    (λ e. c.if-first-eq46.false (c.byte_at-first.ensures ∙ e)) (λ e. c.if-first-eq43.false (c.byte_at-first.ensures ∙ e))
+    (sym (c.is_digit.ensures ∙ ap is_digit c.byte_at-first.ensures) ∙ c.if-is_digit.true)
 
 returns-7 : tie.Need-returns
 returns-7 c =
     no_digit _ (sym c.has.ensures ∙ c.if-has.false) (λ e. c.if-byte_at-eq46.false (c.byte_at.ensures ∙ e))
-    (λ e. c.if-first-eq46.false (c.byte_at-first.ensures ∙ e)) (λ e. c.if-first-eq43.false (c.byte_at-first.ensures ∙ e)) (sym (c.is_digit.ensures ∙ ap is_digit c.byte_at-first.ensures) ∙ c.if-is_digit.false)
+    (λ e. c.if-first-eq46.false (c.byte_at-first.ensures ∙ e)) (λ e. c.if-first-eq43.false (c.byte_at-first.ensures ∙ e))
+    (sym (c.is_digit.ensures ∙ ap is_digit c.byte_at-first.ensures) ∙ c.if-is_digit.false)
 
 pub of_plain_spec : {M : Type 1} → statement M
 of_plain_spec =

@@ -34,7 +34,9 @@ is-capital-requires c κs = search rules
 
 returns-3 : tie.Need-returns-then-is_capital
 returns-3 c =
-    capital _ _ (sym c.marked.ensures ∙ c.if-marked.false) (sym c.unseen.ensures ∙ c.if-unseen.false) (sym (let l = c.args.line.now in c.is_capital.ensures ∙ ap is_capital (c.byte_at.ensures ∙ ap (λ (k : ℕ). get_or l k 0) c.skip-start.ensures.0)) ∙ c.if-is_capital.true)
+    let l = c.args.line.now in
+    capital _ _ (sym c.marked.ensures ∙ c.if-marked.false) (sym c.unseen.ensures ∙ c.if-unseen.false)
+    (sym (c.is_capital.ensures ∙ ap is_capital (c.byte_at.ensures ∙ ap (λ (k : ℕ). get_or l k 0) c.skip-start.ensures.0)) ∙ c.if-is_capital.true)
 
 find-requires : tie.Need-find-end-requires
 find-requires c κs = search rules
@@ -45,11 +47,12 @@ of-numbers-requires c κs = search rules
 returns-4 : tie.Need-returns
 returns-4 c =
     let a = c.args in
+    let l = a.line.now in
     c.of_numbers.ensures
     ∙ ap (λ (k : ℕ). of_numbers a.line.now k a.count)
     (end_is a.line.now 0 c.skip-start.ensures.0 c.find-end.ensures.0)
     ∙ small _ _ (sym c.marked.ensures ∙ c.if-marked.false) (sym c.unseen.ensures ∙ c.if-unseen.false)
-    (sym (let l = c.args.line.now in c.is_capital.ensures ∙ ap is_capital (c.byte_at.ensures ∙ ap (λ (k : ℕ). get_or l k 0) c.skip-start.ensures.0)) ∙ c.if-is_capital.false)
+    (sym (c.is_capital.ensures ∙ ap is_capital (c.byte_at.ensures ∙ ap (λ (k : ℕ). get_or l k 0) c.skip-start.ensures.0)) ∙ c.if-is_capital.false)
 
 pub of_words_spec : {M : Type 1} → statement M
 of_words_spec =
