@@ -38,11 +38,10 @@ fn run(rt: &HostRuntime, bytes: &mut [u8], strokes: &mut [i32], rows: &mut [i32]
     requires value { 20480 ≡ length rows.old }
     requires in_bounds_2 { 262144 ≤ length page.old }
 {
-    let taken = streams::read_all(rt, bytes);
-    if taken.failed {
+    let Some(count) = streams::read_all(rt, bytes) else {
         return;
-    }
-    let made = list(&bytes[..taken.count], strokes, rows, page);
+    };
+    let made = list(&bytes[..count], strokes, rows, page);
     if streams::write(rt, &page[..made.end]) {
         reports::tell(rt, made.number, made.place);
     }

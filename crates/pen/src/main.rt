@@ -80,11 +80,9 @@ fn run(rt: &HostRuntime, text: &mut [u8], page: &mut [u8])
     requires most_text_value { most_text + 2 ≡ length text.old }
     requires value { 65536 ≡ length page.old }
 {
-    let taken = streams::read_all(rt, text);
-    if taken.failed {
+    let Some(count) = streams::read_all(rt, text) else {
         return;
-    }
-    let count = taken.count;
+    };
     let outcome = draw(&text[..count], page);
     let line = outcome.line;
     let step = outcome.step;

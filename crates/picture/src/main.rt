@@ -71,11 +71,10 @@ fn run(rt: &HostRuntime, bytes: &mut [u8], strokes: &mut [i32], rows: &mut [i32]
     requires value_2 { 20480 ≡ length rows.old }
     requires in_bounds { 820000 ≤ length page.old }
 {
-    let taken = streams::read_all(rt, bytes);
-    if taken.failed {
+    let Some(count) = streams::read_all(rt, bytes) else {
         return;
-    }
-    let made = draw(&bytes[..taken.count], strokes, rows, page);
+    };
+    let made = draw(&bytes[..count], strokes, rows, page);
     if streams::write(rt, &page[..made.end]) {
         reports::tell(rt, made.number, made.place);
     }

@@ -2,18 +2,14 @@
 // what fails is told in a line on standard error.
 #![tactic(auto)]
 
-ghost use Rattle.std.specs.Prelude.{◌≡◌, ◌≤◌, length, IfOk};
+ghost use Rattle.std.specs.Prelude.{◌≤◌, length, IfOk, IfSome};
 ghost use Rattle.io.specs.Counts.{IsPrefixLen};
 
 use std::io::{Error, ErrorKind, Read, Write};
 use std::thread;
 
-// What was read: how many bytes; or that a read failed, of which standard error then says why.
-#[derive(Drop)]
-pub struct Received {
-    pub count: usize,
-    pub failed: bool,
-}
+// How many turns a wait may take: a proved loop has to end, so it has a number of turns that no run reaches.
+const MOST_TURNS: u64 = 0x4000_0000_0000_0000;
 
 // Whether the call that just failed is worth another try: a signal came before it moved a byte, or the other side is not ready. Other programs run
 // meanwhile.
@@ -32,12 +28,10 @@ fn try_again(error: &Error) -> bool {
 fn words_end(text: &[u8]) -> usize
     ensures { result ≤ length text.now }
 {
-    for i in 0..text.len() {
-        if text[i] == b'(' {
-            return i.saturating_sub(1);
-        }
+    match text.iter().position(|byte| *byte == b'(') {
+        Some(place) => place.saturating_sub(1),
+        None => text.len(),
     }
-    text.len()
 }
 
 // Tells what failed, as the caller names it, and why. The words of an error of the system or of std are fewer than the page holds.
@@ -54,76 +48,62 @@ pub fn fail(rt: &HostRuntime, what: &[u8], error: &Error) {
     tell(rt, b"\n");
 }
 
-// Tells that a read failed.
-fn unread(rt: &HostRuntime, error: &Error) -> Received
-    ensures { result.count ≡ 0 }
+// Reads what is there, and waits where nothing is there yet; no bytes are the end.
+fn read_from<R: Read>(from: &mut R, buf: &mut [u8]) -> Result<usize, Error>
+    ensures { IfOk result (λ count. IsPrefixLen count buf.new) }
 {
-    fail(rt, b"could not read", error);
-    Received {
-        count: 0,
-        failed: true,
-    }
-}
-
-// Reads what is there, and waits where nothing is there yet; no bytes are the end. A proved loop has to end, so it counts its turns, to a number that
-// no run reaches.
-fn read_from<R: Read>(rt: &HostRuntime, from: &mut R, buf: &mut [u8]) -> Received
-    ensures { IsPrefixLen result.count buf.new }
-{
-    let mut turns: u64 = 0;
-    while turns < 0x4000_0000_0000_0000 {
+    for _ in 0..MOST_TURNS {
         match from.read(buf) {
-            Ok(count) => {
-                return Received {
-                    count,
-                    failed: false,
-                };
-            }
+            Ok(count) => return Ok(count),
             Err(error) => {
                 if !try_again(&error) {
-                    return unread(rt, &error);
+                    return Err(error);
                 }
             }
         }
-        turns += 1;
     }
-    unread(rt, &Error::from(ErrorKind::TimedOut))
+    Err(Error::from(ErrorKind::TimedOut))
+}
+
+// Reads what is there: how many bytes, or none where the read failed, of which standard error then says why.
+fn told<R: Read>(rt: &HostRuntime, from: &mut R, buf: &mut [u8]) -> Option<usize>
+    ensures { IfSome result (λ count. IsPrefixLen count buf.new) }
+{
+    match read_from(from, buf) {
+        Ok(count) => Some(count),
+        Err(error) => {
+            fail(rt, b"could not read", &error);
+            None
+        }
+    }
 }
 
 // The same of standard input.
-pub fn read_some(rt: &HostRuntime, buf: &mut [u8]) -> Received
-    ensures { IsPrefixLen result.count buf.new }
+pub fn read_some(rt: &HostRuntime, buf: &mut [u8]) -> Option<usize>
+    ensures { IfSome result (λ count. IsPrefixLen count buf.new) }
 {
-    read_from(rt, &mut rt.stdin(), buf)
+    told(rt, &mut rt.stdin(), buf)
 }
 
-// Reads a file until it ends or buf is full.
-pub fn read_file<R: Read>(rt: &HostRuntime, from: &mut R, buf: &mut [u8]) -> Received
-    ensures { IsPrefixLen result.count buf.new }
+// Reads a file until it ends or buf is full: how many bytes, or none where a read failed, of which standard error then says why.
+pub fn read_file<R: Read>(rt: &HostRuntime, from: &mut R, buf: &mut [u8]) -> Option<usize>
+    ensures { IfSome result (λ count. IsPrefixLen count buf.new) }
 {
     let mut count = 0;
+    // A while: a turn goes on by as many bytes as were there, so that no range has it.
     while count < buf.len() {
-        let taken = read_from(rt, from, &mut buf[count..]);
-        if taken.failed {
-            return Received {
-                count,
-                failed: true,
-            };
-        }
-        if taken.count == 0 {
+        let taken = told(rt, from, &mut buf[count..])?;
+        if taken == 0 {
             break;
         }
-        count += taken.count;
+        count += taken;
     }
-    Received {
-        count,
-        failed: false,
-    }
+    Some(count)
 }
 
 // The same of standard input.
-pub fn read_all(rt: &HostRuntime, buf: &mut [u8]) -> Received
-    ensures { IsPrefixLen result.count buf.new }
+pub fn read_all(rt: &HostRuntime, buf: &mut [u8]) -> Option<usize>
+    ensures { IfSome result (λ count. IsPrefixLen count buf.new) }
 {
     read_file(rt, &mut rt.stdin(), buf)
 }
@@ -132,8 +112,7 @@ pub fn read_all(rt: &HostRuntime, buf: &mut [u8]) -> Received
 fn write_some<W: Write>(to: &mut W, bytes: &[u8]) -> Result<usize, Error>
     ensures { IfOk result (λ n. n ≤ length bytes.now) }
 {
-    let mut turns: u64 = 0;
-    while turns < 0x4000_0000_0000_0000 {
+    for _ in 0..MOST_TURNS {
         match to.write(bytes) {
             Ok(count) => return Ok(count),
             Err(error) => {
@@ -142,20 +121,19 @@ fn write_some<W: Write>(to: &mut W, bytes: &[u8]) -> Result<usize, Error>
                 }
             }
         }
-        turns += 1;
     }
     Err(Error::from(ErrorKind::TimedOut))
 }
 
 // Writes all of the bytes; an error where that could not be done.
 pub fn write_to<W: Write>(to: &mut W, bytes: &[u8]) -> Result<(), Error> {
-    let mut done = 0;
-    while done < bytes.len() {
-        let put = write_some(to, &bytes[done..])?;
-        if put == 0 {
+    let mut left = bytes;
+    while !left.is_empty() {
+        let taken = write_some(to, left)?;
+        if taken == 0 {
             return Err(Error::from(ErrorKind::WriteZero));
         }
-        done += put;
+        left = &left[taken..];
     }
     Ok(())
 }

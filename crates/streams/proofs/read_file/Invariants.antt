@@ -1,3 +1,4 @@
+-- What was read lies within the memory lent, and the room behind it gets shorter.
 use Rattle.std.proofs.Common.{◌-◌, ◌≤◌, length}
 use Rattle.streams.proofs.read_file.Given as goal
 
