@@ -6,7 +6,7 @@ ghost use Rattle.memory.specs.Memory.{point_of, point_in};
 ghost use Rattle.memory.specs.Tagged.{tag_in, put_at, Brought};
 
 // A corner at (x/den, y/den).
-#[derive(Drop)]
+#[derive(Clone, Copy)]
 pub struct Corner {
     pub x: i32,
     pub y: i32,
@@ -14,7 +14,7 @@ pub struct Corner {
 }
 
 // The places that a ring has in a memory: from one up to another.
-#[derive(Drop)]
+#[derive(Clone, Copy)]
 pub struct Places {
     pub from: usize,
     pub to: usize,
@@ -39,61 +39,27 @@ pub fn put(m: &mut [i32], i: usize, p: Corner, tag: i32)
     ensures { m.new ≡ put_at m.old i (point_of p) tag }
 {
     let at = 4 * i;
-    let x = p.x;
-    let y = p.y;
-    let den = p.den;
-    m[at] = x;
-    m[at + 1] = y;
-    m[at + 2] = den;
+    m[at] = p.x;
+    m[at + 1] = p.y;
+    m[at + 2] = p.den;
     m[at + 3] = tag;
 }
 
-// Copies the corner at the place i to the place k.
-fn copy(m: &mut [i32], i: usize, k: usize)
-    requires i_in_bounds { 4 * i + 4 ≤ length m.old }
-    requires k_in_bounds { 4 * k + 4 ≤ length m.old }
-    ensures { m.new ≡ put_at m.old k (point_in m.old i) (tag_in m.old i) }
-{
-    let from = 4 * i;
-    let to = 4 * k;
-    let x = m[from];
-    let y = m[from + 1];
-    let den = m[from + 2];
-    let tag = m[from + 3];
-    m[to] = x;
-    m[to + 1] = y;
-    m[to + 2] = den;
-    m[to + 3] = tag;
-}
-
-// Moves the corners from one place up to another down, to begin at a third; the first goes first.
+// Moves the corners from one place up to another down, to begin at a third.
 pub fn move_down(m: &mut [i32], from: usize, to: usize, at: usize)
     requires at_le_from { at ≤ from }
     requires from_le_to { from ≤ to }
     requires to_in_bounds { 4 * to ≤ length m.old }
     ensures { Brought m.old m.old m.new from to at }
 {
-    if at == from {
-        return;
-    }
-    let mut i = from;
-    let mut k = at;
-    while i < to {
-        copy(m, i, k);
-        i += 1;
-        k += 1;
-    }
+    m.copy_within(4 * from..4 * to, 4 * at);
 }
 
-// Moves the corners from one place up to another up by one place; the last goes first.
+// Moves the corners from one place up to another up by one place.
 pub fn move_up(m: &mut [i32], from: usize, to: usize)
     requires from_le_to { from ≤ to }
     requires to_in_bounds { 4 * to + 4 ≤ length m.old }
     ensures { Brought m.old m.old m.new from to (from + 1) }
 {
-    let mut i = to;
-    while from < i {
-        copy(m, i - 1, i);
-        i -= 1;
-    }
+    m.copy_within(4 * from..4 * to, 4 * (from + 1));
 }
