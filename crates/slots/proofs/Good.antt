@@ -86,13 +86,6 @@ module _ (s : Slot) (ss : List Slot) where
       go true false e = e
       go true true e = both marks (good_strip s.strip) strips e
 
-  pub bad_behind : each_good ss ≡ false → each_good (s ∷ ss) ≡ false
-  bad_behind f = go (each_good (s ∷ ss)) refl
-    where
-      go : (b : Bool) → each_good (s ∷ ss) ≡ b → each_good (s ∷ ss) ≡ false
-      go false e = e
-      go true e = absurd (ff_tt (sym f ∙ good_behind e))
-
 -- ---- a table and its slots from a place on
 good_drop : (k : ℕ) (ss : List Slot) → each_good ss ≡ true → each_good (drop k ss) ≡ true
 good_drop zero ss g = g

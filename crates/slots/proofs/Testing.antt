@@ -17,26 +17,10 @@ use Rattle.racks.specs.Members.{all}
 use Rattle.racks.specs.Pairs.{Crowd}
 use Rattle.racks.specs.Racks.{strips_on, Carries}
 use Rattle.slots.specs.Slots.{Slot, slots_of, strips_in, no_two_share, slots_good, is_book}
-use Rattle.slots.specs.Workers.{slot_in, slots_from, each_good, Gathered, OnRack, Finds}
-use Rattle.slots.specs.Workers as workers
-use Rattle.slots.specs.declared.Tested.{Tested}
+use Rattle.slots.specs.Workers.{slot_in, slots_from, each_good, Gathered, OnRack}
 use Rattle.slots.proofs.Places.{slots_more}
 use Rattle.slots.proofs.Apart.{all_apart, not_apart}
-use Rattle.slots.proofs.Good.{free_strips, free_good, bad_mark, used_strips, bad_strip, good_use, bad_behind, bad_later}
-
--- ---- what a test found
-module _ {Bad : Type 0} {Fine : ℕ → Type 0} where
-  at_faulty : Finds Bad Fine Tested.Faulty → Bad
-  at_faulty (workers.faulty b) = b
-
-  at_good : (n : ℕ) → Finds Bad Fine (Tested.Good n) → Fine n
-  at_good n (workers.good f) = f
-
-  pub found_faulty : {r : Tested} → r ≡ Tested.Faulty → Finds Bad Fine r → Bad
-  found_faulty e f = at_faulty (subst (Finds Bad Fine) e f)
-
-  pub found_good : {r : Tested} (n : ℕ) → r ≡ Tested.Good n → Finds Bad Fine r → Fine n
-  found_good n e f = at_good n (subst (Finds Bad Fine) e f)
+use Rattle.slots.proofs.Good.{free_strips, free_good, bad_mark, used_strips, bad_strip, good_use, bad_later}
 
 -- ---- the slot whose mark stands at the place p
 module _ (zs : List ℤ) (p : ℕ) (h : p + 5 ≤ length zs) where
@@ -48,9 +32,6 @@ module _ (zs : List ℤ) (p : ℕ) (h : p + 5 ≤ length zs) where
 
   more : slots_from p zs ≡ here ∷ behind
   more = slots_more zs p h
-
-  pub fails_behind : each_good behind ≡ false → each_good (slots_from p zs) ≡ false
-  fails_behind f = ap each_good more ∙ bad_behind here behind f
 
   -- ---- its mark
   pub mark_is : mag here.mark < 2 ^ 31 → (n : ℕ) → n < 2 ^ 31 → of_z w32 here.mark ≡ n → here.mark ≡ pos n
@@ -99,9 +80,6 @@ module _ (zs : List ℤ) (h : length zs ≡ 320) where
   fails p e f =
       let fives : p ≡ 5 * (p / 5) = omega arith in
       bad_later zs (p / 5) (subst (λ (q : ℕ). each_good (slots_from q zs) ≡ false) fives f)
-
-  pub passes : {n : ℕ} {rack : List ℤ} (p : ℕ) → p ≡ 0 → Gathered (slots_from p zs) n rack → Gathered (slots_of zs) n rack
-  passes {n} {rack} p e r = subst (λ (q : ℕ). Gathered (slots_from q zs) n rack) e r
 
 -- ---- whether a table is a book
 module _ (zs : List ℤ) where

@@ -4,14 +4,13 @@
 --   each_good ss        the marks of the slots ss and their strips in use are good, whether or not they share area
 --   Gathered ss n rack   the slots ss are good each by itself, and their n strips are on the rack
 --   OnRack ss n rack   the slots ss are good, and their n strips are on the rack
---   Finds Bad Fine r   a test finds r: Faulty, and then Bad holds, or Good n, and then Fine holds of n
---   Gathers ss r rack  the test of the slots ss, each by itself, finds r, and leaves their strips on the rack where they are good
---   BookTest zs r rack   the test of a whole table finds r: whether it is a book, and then its strips are on the rack
-use Rattle.std.specs.Prelude.{◌≡◌, Bool, true, false, ◌&&◌, List, ℕ, ◌+◌, ℤ, pos, length, drop, get_or}
+--   Gathers ss r rack  the test of the slots ss, each by itself, finds r: None where one of them is not good, or how many strips they have, which are
+--                      then on the rack
+--   BookTest zs r rack   the test of a whole table finds r: None where it is no book, or how many strips it has, which are then on the rack
+use Rattle.std.specs.Prelude.{◌≡◌, Bool, true, false, ◌&&◌, List, ℕ, ◌+◌, ℤ, pos, length, drop, get_or, Option, MatchOption}
 use Rattle.grid.specs.declared.Window.{Window}
 use Rattle.racks.specs.Members.{all}
 use Rattle.racks.specs.Racks.{Carries}
-use Rattle.slots.specs.declared.Tested.{Tested}
 use Rattle.slots.specs.Slots.{Slot, slots_of, strips_in, good_mark, good_strip, slots_good, is_book}
 
 abbrev pub strip_in : List ℤ → ℕ → Window
@@ -37,12 +36,8 @@ pub record OnRack (ss : List Slot) (n : ℕ) (rack : List ℤ) : Type 0 where
   pub count : n ≡ length (strips_in ss)
   pub holds : Carries rack (strips_in ss)
 
-pub data Finds (Bad : Type 0) (Fine : ℕ → Type 0) : Tested → Type 0 where
-  faulty : Bad → Finds Bad Fine Tested.Faulty
-  good : {n : ℕ} → Fine n → Finds Bad Fine (Tested.Good n)
+abbrev pub Gathers : List Slot → Option ℕ → List ℤ → Type 0
+Gathers ss r rack = MatchOption r (each_good ss ≡ false) (λ n. Gathered ss n rack)
 
-abbrev pub Gathers : List Slot → Tested → List ℤ → Type 0
-Gathers ss r rack = Finds (each_good ss ≡ false) (λ n. Gathered ss n rack) r
-
-abbrev pub BookTest : List ℤ → Tested → List ℤ → Type 0
-BookTest zs r rack = Finds (is_book zs ≡ false) (λ n. (is_book zs ≡ true) × OnRack (slots_of zs) n rack) r
+abbrev pub BookTest : List ℤ → Option ℕ → List ℤ → Type 0
+BookTest zs r rack = MatchOption r (is_book zs ≡ false) (λ n. (is_book zs ≡ true) × OnRack (slots_of zs) n rack)

@@ -6,16 +6,9 @@ ghost use Rattle.std.proofs.lemmas.List.Edits.{sets};
 ghost use Rattle.std.proofs.Math.Seq.{slice};
 ghost use Rattle.racks.specs.Racks.{Carries};
 ghost use Rattle.slots.specs.Slots.{slots_of, slot_of, slot_at, in_use, lowest_free, slot_numbers};
-ghost use Rattle.slots.specs.Workers.{strip_in, slots_from, Gathers, BookTest};
+ghost use Rattle.slots.specs.Workers.{strip_in, slots_from, Gathered, Gathers, BookTest};
 
 use grid::Window;
-
-// What a test of slots finds: they pass, and so many strips of them are then on a rack, or they are faulty.
-#[derive(Drop)]
-pub enum Tested {
-    Good(usize),
-    Faulty,
-}
 
 // The strip of the slot whose mark stands at the place p.
 pub fn strip_at(book: &[i32], p: usize) -> Window
@@ -30,88 +23,57 @@ pub fn strip_at(book: &[i32], p: usize) -> Window
     }
 }
 
-// Goes on with the slot whose mark stands at the place p, where the test of the slots behind it has found so much: the slot is tested, and its
-// strip put on the rack, where the n strips of those behind it are. Whether the mark is 1 is asked last: the compiler then leaves the mark in memory,
-// so that a free slot costs one comparison.
-fn gather_slot(book: &[i32], p: usize, rack: &mut [i16; 288], behind: Tested) -> Tested
+// Tests the slot whose mark stands at the place p and puts its strip on the rack, where the n strips of the slots behind it are, and tells how many
+// are there then; None where the slot is faulty. Whether the mark is 1 is asked last: the compiler then leaves the mark in memory, so that a free slot
+// costs one comparison.
+fn gather_slot(book: &[i32], p: usize, rack: &mut [i16; 288], n: usize) -> Option<usize>
     requires p_bound { p + 5 ≤ 320 }
     requires book_len { length book.now ≡ 320 }
-    requires gathers { Gathers (slots_from (p + 5) book.now) behind rack.old }
+    requires gathered { Gathered (slots_from (p + 5) book.now) n rack.old }
     ensures { Gathers (slots_from p book.now) result rack.new }
 {
-    let Tested::Good(n) = behind else {
-        return Tested::Faulty;
-    };
     if book[p] == 0 {
-        return Tested::Good(n);
+        return Some(n);
     }
     let w = strip_at(book, p);
     let refusal = grid::window_refusal(w);
     if refusal.number != 0 {
-        return Tested::Faulty;
+        return None;
     }
     racks::put(rack, n, w);
     if book[p] != 1 {
-        return Tested::Faulty;
+        return None;
     }
-    Tested::Good(n + 1)
+    Some(n + 1)
 }
 
-// The same with the eight slots from the place p on, the last of them first. They are written out, so that the loop over them has few turns.
-fn gather_eight(book: &[i32], p: usize, rack: &mut [i16; 288], behind: Tested) -> Tested
-    requires p_bound { p + 40 ≤ 320 }
-    requires book_len { length book.now ≡ 320 }
-    requires gathers { Gathers (slots_from (p + 40) book.now) behind rack.old }
-    ensures { Gathers (slots_from p book.now) result rack.new }
-{
-    let from7 = gather_slot(book, p + 35, rack, behind);
-    let from6 = gather_slot(book, p + 30, rack, from7);
-    let from5 = gather_slot(book, p + 25, rack, from6);
-    let from4 = gather_slot(book, p + 20, rack, from5);
-    let from3 = gather_slot(book, p + 15, rack, from4);
-    let from2 = gather_slot(book, p + 10, rack, from3);
-    let from1 = gather_slot(book, p + 5, rack, from2);
-    gather_slot(book, p, rack, from1)
-}
-
-// Tests the marks and the strips of all slots, from the last to the first, and puts the strips on a rack, on which there is none before.
-fn gather(book: &[i32], rack: &mut [i16; 288]) -> Tested
+// Tests the marks and the strips of all slots, from the last to the first, and puts the strips on a rack, on which there is none before. How many there
+// are; None where a slot is faulty.
+fn gather(book: &[i32], rack: &mut [i16; 288]) -> Option<usize>
     requires book_len { length book.now ≡ 320 }
     requires carries { Carries rack.old [] }
     ensures { Gathers (slots_of book.now) result rack.new }
 {
     let mut n = 0;
-    let mut p = 320;
-    while 0 < p {
-        p -= 40;
-        match gather_eight(book, p, rack, Tested::Good(n)) {
-            Tested::Good(m) => {
-                n = m;
-            }
-            Tested::Faulty => {
-                return Tested::Faulty;
-            }
-        }
+    for behind in 0..64 {
+        n = gather_slot(book, 315 - 5 * behind, rack, n)?;
     }
-    Tested::Good(n)
+    Some(n)
 }
 
-// Whether a table is a book, and then its strips on a rack, on which there is none before.
-pub fn test_book(book: &[i32], rack: &mut [i16; 288]) -> Tested
+// How many strips a book has, which are then on a rack, on which there is none before; None where the table is no book.
+pub fn test_book(book: &[i32], rack: &mut [i16; 288]) -> Option<usize>
     requires { Carries rack.old [] }
     ensures { BookTest book.now result rack.new }
 {
     if book.len() != 320 {
-        return Tested::Faulty;
+        return None;
     }
-    let gathered = gather(book, rack);
-    let Tested::Good(n) = gathered else {
-        return Tested::Faulty;
-    };
+    let n = gather(book, rack)?;
     if racks::crowded(rack, n) {
-        return Tested::Faulty;
+        return None;
     }
-    Tested::Good(n)
+    Some(n)
 }
 
 // Whether the slot k is in use.
@@ -123,24 +85,19 @@ pub fn in_use(book: &[i32], k: usize) -> bool
     book[5 * k] == 1
 }
 
-// Of the slots from one up to another the first that is not in use; the other, where all are. The place of its mark goes along, so that none is
-// computed from k.
+// Of the slots from one up to another the first that is not in use; the other, where all are.
 pub fn lowest_free(book: &[i32], from: usize, to: usize) -> usize
     requires from_le_to { from ≤ to }
     requires to_bound { to ≤ 64 }
     requires book_len { length book.now ≡ 320 }
     ensures { result ≡ from + lowest_free (slice from to (slots_of book.now)) }
 {
-    let mut k = from;
-    let mut p = 5 * from;
-    while k < to {
-        if book[p] != 1 {
+    for k in from..to {
+        if !in_use(book, k) {
             return k;
         }
-        k += 1;
-        p += 5;
     }
-    k
+    to
 }
 
 // Puts a mark and a strip in the five numbers from the place p on.
