@@ -17,12 +17,10 @@ pub fn put_rows(page: &mut [u8], at: usize, book: &[i32], from: usize, to: usize
     ensures upper_bound { result ≤ at + 580 * (to - from) }
 {
     let mut end = at;
-    let mut k = from;
-    while k < to {
+    for k in from..to {
         if slots::in_use(book, k) {
             end = strip_lines::put_row(page, end, k, slots::strip_at(book, 5 * k));
         }
-        k += 1;
     }
     end
 }

@@ -1,5 +1,5 @@
 -- A slot shows its strip where it is in use, and nothing where it is free; the strips of slots are put one after another.
-use mathlib.Core.Path.{◌≡◌, ap, subst}
+use mathlib.Core.Path.{◌≡◌, ap}
 use mathlib.Core.Bool.{true, false}
 use mathlib.Core.List.{List, []}
 use Prim.Native.Nat.{ℕ, ◌+◌, ◌*◌, ◌≤◌, ◌<◌}
@@ -30,6 +30,3 @@ module _ (r : ℕ) (zs : List ℤ) where
         → Put before next at to (slot_arts r zs (k + 1))
     unfolding slot_arts
     arts_on k p q = rw add-one (put_then p q)
-
-    pub arts_end : {k n : ℕ} → k ≡ n → Put before after at end (slot_arts r zs k) → Put before after at end (slot_arts r zs n)
-    arts_end e p = subst (λ (m : ℕ). Put before after at end (slot_arts r zs m)) e p

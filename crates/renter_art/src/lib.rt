@@ -41,10 +41,8 @@ fn put_slots(page: &mut [u8], at: usize, book: &[i32], renter: usize) -> usize
     ensures upper_bound { result ≤ at + 16000 }
 {
     let mut end = at;
-    let mut k = 0;
-    while k < 32 {
+    for k in 0..32 {
         end = put_slot(page, end, book, renter, k);
-        k += 1;
     }
     end
 }

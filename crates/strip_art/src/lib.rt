@@ -3,19 +3,9 @@
 
 ghost use Rattle.std.specs.Prelude.{◌≡◌, ◌+◌, ◌≤◌, length};
 ghost use Rattle.text.specs.Pages.{Put};
-ghost use Rattle.strip_art.specs.StripArt.{lesser, number_size, strip_name, number_place, strip_number, strip_art};
+ghost use Rattle.strip_art.specs.StripArt.{number_size, strip_name, number_place, strip_number, strip_art};
 
 use grid::Window;
-
-// The lesser of two numbers.
-fn lesser(m: u64, n: u64) -> u64
-    ensures { result ≡ lesser m n }
-{
-    if n < m {
-        return n;
-    }
-    m
-}
 
 // How high the number of a strip is, in half grid steps: 1600 of them are 25 mm.
 fn number_size(w: Window) -> u64
@@ -23,7 +13,7 @@ fn number_size(w: Window) -> u64
 {
     let high = view::height(w);
     let wide = view::width(w);
-    lesser(lesser(8 * high / 5, wide), 1600)
+    (8 * high / 5).min(wide).min(1600)
 }
 
 // Puts the words that name a strip.
