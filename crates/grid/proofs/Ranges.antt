@@ -9,11 +9,11 @@ use lib.Ieee.Bits.{is_true}
 use lib.IntN.{ℤ, pos, neg_ℤ}
 use lib.ListN.{length, get_or, drop, drop_of_length-le}
 use lib.Seq.{drop-cons}
-use lib.Signed.{le_z, le_z_yes, mag}
+use lib.Signed.{◌<ℤ◌, le_z, le_z_yes, mag}
 use mir.Syntax.{w32}
 use mir.Val.{to_z, of_z}
 use Rattle.whole.specs.Within.{Within}
-use Rattle.whole.proofs.Comparisons.{true-T, ff_tt, back}
+use Rattle.whole.proofs.Comparisons.{true-T, ff_tt, back, plain, bits}
 use Rattle.whole.specs.Choice.{when◌then◌else◌}
 use Rattle.grid.specs.Table.{farthest, on_table, first_off}
 
@@ -30,7 +30,10 @@ pub off_none : 0 ≡ first_off []
 unfolding first_off
 off_none = refl
 
--- of four fields as they are read
+-- of a number as it is read, and of four
+pub read_one : (z : ℤ) → mag z < 2 ^ 31 → on_table (to_z w32 (of_z w32 z)) ≡ on_table z
+read_one z h = λ i. on_table (back w32 z h i)
+
 pub read_four : (a b c d : ℤ) → mag a < 2 ^ 31 → mag b < 2 ^ 31 → mag c < 2 ^ 31 → mag d < 2 ^ 31
     → first_off (to_z w32 (of_z w32 a) ∷ to_z w32 (of_z w32 b) ∷ to_z w32 (of_z w32 c) ∷ to_z w32 (of_z w32 d) ∷ []) ≡ first_off (a ∷ b ∷ c ∷ d ∷ [])
 read_four a b c d ha hb hc hd = λ i. first_off (back w32 a ha i ∷ back w32 b hb i ∷ back w32 c hc i ∷ back w32 d hd i ∷ [])
@@ -77,3 +80,12 @@ before_off (z ∷ s) k h l = go (on_table z) refl k h l (λ j. before_off s j)
     go true e zero h l f = on_within z e
     go true e (suc k) h l f = f k (omega arith) (omega arith)
     go false e k h l f = absurd (omega arith)
+
+-- two numbers as they are read are in order where the two are, and the other way
+pub order_read : {low high : ℤ} → mag low < 2 ^ 31 → mag high < 2 ^ 31 → to_z w32 (of_z w32 low) <ℤ to_z w32 (of_z w32 high) → low <ℤ high
+order_read {low} {high} l h p =
+    plain {w = w32} (λ z. z <ℤ high) (record { sfits = l }) (plain {w = w32} (λ z. to_z w32 (of_z w32 low) <ℤ z) (record { sfits = h }) p)
+
+pub order_put : {low high : ℤ} → mag low < 2 ^ 31 → mag high < 2 ^ 31 → low <ℤ high → to_z w32 (of_z w32 low) <ℤ to_z w32 (of_z w32 high)
+order_put {low} {high} l h p =
+    bits {w = w32} (λ z. z <ℤ to_z w32 (of_z w32 high)) (record { sfits = l }) (bits {w = w32} (λ z. low <ℤ z) (record { sfits = h }) p)

@@ -8,7 +8,10 @@
 --   bad_strokes zs  5 where a list is not a multiple of four numbers or has more than 4,096 strokes
 --   window_refusal, stroke_refusal, strokes_refusal   what a call refuses in a window, a stroke, a list of strokes
 --   room_refusal need room   8 with the numbers needed, where an output of `room` numbers is too short
-use Rattle.std.specs.Prelude.{◌&&◌, List, [], ◌∷◌, ℕ, ◌*◌, ◌%◌, eqb, leb, ltb, ℤ, length}
+--   tested r       what a test says that refuses by r: the error r where r applies, else Ok
+use Rattle.std.specs.Prelude.{◌&&◌, List, [], ◌∷◌, ℕ, ◌*◌, ◌%◌, eqb, leb, ltb, ℤ, length, ⊤}
+use Rattle.std.specs.declared.result.Result.{Result}
+use Rattle.std.specs.declared.result.Result.TheVariants.{Ok, Err}
 use Rattle.std.specs.Int.Signed.{lt_z}
 use Rattle.whole.specs.Choice.{when◌then◌else◌}
 use Rattle.grid.specs.Table.{first_off, sides, ends}
@@ -82,3 +85,6 @@ strokes_refusal zs = first (bad_strokes zs ∷ off_table number_off zs ∷ [])
 
 unfoldable pub room_refusal : ℕ → ℕ → Refusal
 room_refusal need room = when leb need room then none else refuse no_room need
+
+unfoldable pub tested : Refusal → Result ⊤ Refusal
+tested r = when eqb r.number 0 then Ok tt else Err r

@@ -1,12 +1,11 @@
 // The table: its range, windows and strokes, the refusals that every call shares, and the answer of a call that gives numbers into a lent output.
 #![tactic(auto)]
 
-ghost use Rattle.std.specs.Prelude.{◌≡◌, true, [], ◌∷◌, ◌+◌, ◌≤◌, eqb, length};
+ghost use Rattle.std.specs.Prelude.{◌≡◌, true, [], ◌∷◌, ◌+◌, ◌≤◌, ◌<ℤ◌, length};
 ghost use Rattle.std.proofs.lemmas.List.Edits.{sets};
-ghost use Rattle.whole.specs.Choice.{when◌then◌else◌};
 ghost use Rattle.whole.specs.Within.{Within};
 ghost use Rattle.grid.specs.Table.{farthest, on_table, first_off, ends, stroke_at, WindowOnTable};
-ghost use Rattle.grid.specs.Refusals.{window_refusal, stroke_refusal, strokes_refusal, room_refusal};
+ghost use Rattle.grid.specs.Refusals.{tested, window_refusal, stroke_refusal, strokes_refusal, room_refusal};
 ghost use Rattle.grid.specs.Calls.{refused_by};
 
 // The numbers of the refusals, as specs/Refusals.antt defines them.
@@ -50,7 +49,7 @@ pub struct Stroke {
     pub y2: i32,
 }
 
-// A refusal's number and place; number 0 refuses nothing.
+// A refusal's number and place.
 #[derive(Clone, Copy)]
 pub struct Refusal {
     pub number: u8,
@@ -70,10 +69,7 @@ pub struct Answer {
 pub fn on_table(x: i32) -> bool
     ensures { result ≡ on_table x }
 {
-    if -16383 <= x {
-        return x <= 16383;
-    }
-    false
+    -16383 <= x && x <= 16383
 }
 
 // Whether all numbers are on the table. The loop has no way out, so that it can go several numbers at a time.
@@ -81,12 +77,10 @@ fn all_on(s: &[i32]) -> bool
     ensures { result ≡ true → length s.now ≡ first_off s.now }
 {
     let mut on = true;
-    let mut i = 0;
-    while i < s.len() {
-        if !on_table(s[i]) {
+    for x in s {
+        if !on_table(*x) {
             on = false;
         }
-        i += 1;
     }
     on
 }
@@ -95,13 +89,7 @@ fn all_on(s: &[i32]) -> bool
 fn short(x: i32) -> i16
     ensures { Within farthest result → on_table x ≡ true }
 {
-    if x < -32768 {
-        return -32768;
-    }
-    if 32767 < x {
-        return 32767;
-    }
-    x as i16
+    x.clamp(-32768, 32767) as i16
 }
 
 // Whether all numbers of a long list are on the table: the least and the greatest are. The loop has fewer instructions than that of `all_on`, since
@@ -111,21 +99,12 @@ fn long_list_on(s: &[i32]) -> bool
 {
     let mut least: i16 = 0;
     let mut most: i16 = 0;
-    let mut i = 0;
-    while i < s.len() {
-        let x = short(s[i]);
-        if x < least {
-            least = x;
-        }
-        if most < x {
-            most = x;
-        }
-        i += 1;
+    for x in s {
+        let nearest = short(*x);
+        least = least.min(nearest);
+        most = most.max(nearest);
     }
-    if -16383 <= least {
-        return most <= 16383;
-    }
-    false
+    -16383 <= least && most <= 16383
 }
 
 // The index of the first number off the table, or how many there are. It is searched for only where there is one.
@@ -135,14 +114,12 @@ pub fn first_off(s: &[i32]) -> usize
     if all_on(s) {
         return s.len();
     }
-    let mut i = 0;
-    while i < s.len() {
+    for i in 0..s.len() {
         if !on_table(s[i]) {
             return i;
         }
-        i += 1;
     }
-    i
+    s.len()
 }
 
 // Of four numbers the index of the first off the table, or 4.
@@ -164,7 +141,7 @@ fn first_off_of_four(a: i32, b: i32, c: i32, d: i32) -> usize
     4
 }
 
-// What a call refuses in a bad window, whose numbers are looked at in their order.
+// What a test refuses in a bad window, whose numbers are looked at in their order.
 fn bad_window(w: Window) -> Refusal
     requires { WindowOnTable w → ⊥ }
     ensures { result ≡ window_refusal w }
@@ -182,84 +159,59 @@ fn bad_window(w: Window) -> Refusal
     }
 }
 
-// What a call refuses in a window. Where left < right only left can be too low and only right too high, and so it is with bottom and top.
-pub fn window_refusal(w: Window) -> Refusal
-    ensures { result ≡ window_refusal w }
+// Whether two numbers are on the table, the first below the second. Then only the first can be too low and only the second too high.
+fn in_order(low: i32, high: i32) -> bool
+    ensures yes { result ≡ true → (Within farthest low) × (Within farthest high) × (low <ℤ high) }
+    ensures no { Within farthest low → Within farthest high → low <ℤ high → result ≡ true }
 {
-    if w.left < -16383 {
-        return bad_window(w);
-    }
-    if w.right <= w.left {
-        return bad_window(w);
-    }
-    if 16383 < w.right {
-        return bad_window(w);
-    }
-    if w.bottom < -16383 {
-        return bad_window(w);
-    }
-    if w.top <= w.bottom {
-        return bad_window(w);
-    }
-    if 16383 < w.top {
-        return bad_window(w);
-    }
-    Refusal {
-        number: 0,
-        place: 0,
-    }
+    -16383 <= low && low < high && high <= 16383
 }
 
-// What a call refuses in a stroke.
-pub fn stroke_refusal(s: Stroke) -> Refusal
-    ensures { result ≡ stroke_refusal s }
+// Tests a window.
+pub fn test_window(w: Window) -> Result<(), Refusal>
+    ensures { result ≡ tested (window_refusal w) }
+{
+    if in_order(w.left, w.right) && in_order(w.bottom, w.top) {
+        return Ok(());
+    }
+    Err(bad_window(w))
+}
+
+// Tests a stroke.
+pub fn test_stroke(s: Stroke) -> Result<(), Refusal>
+    ensures { result ≡ tested (stroke_refusal s) }
 {
     let off = first_off_of_four(s.x1, s.y1, s.x2, s.y2);
     if off < 4 {
-        return Refusal {
+        return Err(Refusal {
             number: NUMBER_OFF,
             place: off,
-        };
+        });
     }
-    Refusal {
-        number: 0,
-        place: 0,
-    }
+    Ok(())
 }
 
-// What a call refuses in a list of strokes.
-pub fn strokes_refusal(s: &[i32]) -> Refusal
-    ensures { result ≡ strokes_refusal s.now }
+// Tests a list of strokes.
+pub fn test_strokes(s: &[i32]) -> Result<(), Refusal>
+    ensures { result ≡ tested (strokes_refusal s.now) }
 {
-    if s.len() % 4 != 0 {
-        return Refusal {
+    if s.len() % 4 != 0 || 16384 < s.len() {
+        return Err(Refusal {
             number: WRONG_LENGTH,
             place: 0,
-        };
-    }
-    if 16384 < s.len() {
-        return Refusal {
-            number: WRONG_LENGTH,
-            place: 0,
-        };
+        });
     }
     if long_list_on(s) {
-        return Refusal {
-            number: 0,
-            place: 0,
-        };
+        return Ok(());
     }
     let off = first_off(s);
     if off < s.len() {
-        return Refusal {
+        return Err(Refusal {
             number: NUMBER_OFF,
             place: off,
-        };
+        });
     }
-    Refusal {
-        number: 0,
-        place: 0,
-    }
+    Ok(())
 }
 
 // The stroke whose first number stands at p.
@@ -290,30 +242,17 @@ pub fn put_stroke(out: &mut [i32], n: usize, s: Stroke)
     out[n + 3] = y2;
 }
 
-// The refusal of an output that is shorter than needed.
-pub fn room_refusal(need: usize, room: usize) -> Refusal
-    ensures { result ≡ room_refusal need room }
+// Tests an output, which may be shorter than needed.
+pub fn test_room(need: usize, room: usize) -> Result<(), Refusal>
+    ensures { result ≡ tested (room_refusal need room) }
 {
     if room < need {
-        return Refusal {
+        return Err(Refusal {
             number: NO_ROOM,
             place: need,
-        };
+        });
     }
-    Refusal {
-        number: 0,
-        place: 0,
-    }
-}
-
-// Of two refusals the first that applies.
-pub fn first_of(a: Refusal, b: Refusal) -> Refusal
-    ensures { result ≡ (when eqb a.number 0 then b else a) }
-{
-    if a.number != 0 {
-        return a;
-    }
-    b
+    Ok(())
 }
 
 // The answer of a call that refuses.
