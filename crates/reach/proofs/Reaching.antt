@@ -2,7 +2,7 @@
 use mathlib.Core.Path.{◌≡◌, refl, sym, subst}
 use mathlib.Core.Bool.{Bool, true, false}
 use mathlib.Core.List.{List}
-use Prim.Native.Nat.{ℕ, ◌+◌, ◌*◌, ◌/◌, ◌%◌, ◌^◌, ◌<◌, ◌≤◌}
+use Prim.Native.Nat.{ℕ, ◌+◌, ◌*◌, ◌/◌, ◌%◌, ◌^◌, ◌<◌}
 use native.Mathlib.Omega.{arith}
 use borrow.Author.Count.{below_more}
 use borrow.Author.Tests.{eqb-true, eqb-false}
@@ -15,7 +15,6 @@ use mir.Val.{to_z, of_z}
 use Rattle.whole.specs.Within.{Within}
 use Rattle.whole.proofs.Comparisons.{back}
 use Rattle.whole.proofs.Order.{zarith}
-use Rattle.grid.specs.Sides.{Side, left, right, bottom, top, Clear}
 use Rattle.grid.specs.Table.{farthest, NumbersOnTable}
 use Rattle.grid.specs.declared.Window.{Window}
 use Rattle.reach.specs.Reach.{Round, Reaches, ReachOnTable}
@@ -35,12 +34,6 @@ is_reading b l o r t = λ i. record {
   top = sym (back w32 b.top t) i;
 }
 
-pub all_clear : {w b : Window} → w.left ≤ℤ b.left → b.right ≤ℤ w.right → w.bottom ≤ℤ b.bottom → b.top ≤ℤ w.top → (k : Side) → Clear w b k
-all_clear l r o t left = l
-all_clear l r o t right = r
-all_clear l r o t bottom = o
-all_clear l r o t top = t
-
 -- ---- the rectangle round the first n corners
 -- one corner more, and a rectangle that holds it and the one before
 pub round_more : {zs : List ℤ} {n : ℕ} {b c : Window} → Round zs n b
@@ -51,33 +44,6 @@ round_more {zs} {n} {b} {c} r hl hr hb ht = record {
   right = λ k l. below_more (λ (k : ℕ). get_or zs (2 * k) (pos 0) ≤ℤ c.right) n (λ k h. let a = r.right k h in omega zarith) hr.1 k (omega arith);
   bottom = λ k l. below_more (λ (k : ℕ). c.bottom ≤ℤ get_or zs (2 * k + 1) (pos 0)) n (λ k h. let a = r.bottom k h in omega zarith) hb.1 k (omega arith);
   top = λ k l. below_more (λ (k : ℕ). get_or zs (2 * k + 1) (pos 0) ≤ℤ c.top) n (λ k h. let a = r.top k h in omega zarith) ht.1 k (omega arith);
-}
-
-pub round_none : {zs : List ℤ} {b : Window} → Round zs 0 b
-round_none = record { left = λ k l. absurd (omega arith); right = λ k l. absurd (omega arith); bottom = λ k l. absurd (omega arith); top = λ k l. absurd (omega arith) }
-
--- the first corner alone
-abbrev only : ℤ → ℤ → Window
-only x y = record { left = x; bottom = y; right = x; top = y }
-
-module _ (zs : List ℤ) (x y : ℤ) (e : x ≡ get_or zs 0 (pos 0)) (f : y ≡ get_or zs 1 (pos 0)) where
-  pub round_first : Round zs 1 (only x y)
-  round_first =
-      round_more {n = 0} {b = only x y} round_none
-      (omega zarith, omega zarith) (omega zarith, omega zarith) (omega zarith, omega zarith) (omega zarith, omega zarith)
-
-  pub first_on_table : 2 ≤ length zs → NumbersOnTable zs → ReachOnTable (only x y)
-  first_on_table h on =
-      let u = on 0 (omega arith) in
-      let v = on 1 (omega arith) in
-      record { left = omega (zarith, u.low); right = omega (zarith, u.high); bottom = omega (zarith, v.low); top = omega (zarith, v.high) }
-
-pub round_all : {zs : List ℤ} {n : ℕ} {b : Window} → length zs / 2 ≤ n → Round zs n b → Reaches zs b
-round_all h r = record {
-  left = λ k l. r.left k (omega arith);
-  right = λ k l. r.right k (omega arith);
-  bottom = λ k l. r.bottom k (omega arith);
-  top = λ k l. r.top k (omega arith);
 }
 
 -- ---- an outline is on the table where what it reaches is

@@ -19,16 +19,13 @@ fn widened(outline: &[i32], from: usize, b: Window) -> Window
     let mut bottom = b.bottom;
     let mut right = b.right;
     let mut top = b.top;
-    let n = outline.len() / 2;
-    let mut k = from;
-    while k < n {
+    for k in from..outline.len() / 2 {
         let x = outline[2 * k];
         let y = outline[2 * k + 1];
-        left = whole::lesser(left, x);
-        bottom = whole::lesser(bottom, y);
-        right = whole::greater(right, x);
-        top = whole::greater(top, y);
-        k += 1;
+        left = left.min(x);
+        bottom = bottom.min(y);
+        right = right.max(x);
+        top = top.max(y);
     }
     Window {
         left,
@@ -75,46 +72,19 @@ pub fn reach_of(outline: &[i32]) -> Window
 pub fn on_table(b: Window) -> bool
     ensures { Decides result (ReachOnTable b) }
 {
-    if b.left < -16383 {
-        return false;
-    }
-    if 16383 < b.right {
-        return false;
-    }
-    if b.bottom < -16383 {
-        return false;
-    }
-    b.top <= 16383
+    -16383 <= b.left && b.right <= 16383 && -16383 <= b.bottom && b.top <= 16383
 }
 
 // Whether no side of w cuts anything off that lies in b.
 pub fn inside(w: Window, b: Window) -> bool
     ensures { result ≡ true → (k : Side) → Clear w b k }
 {
-    if b.left < w.left {
-        return false;
-    }
-    if w.right < b.right {
-        return false;
-    }
-    if b.bottom < w.bottom {
-        return false;
-    }
-    b.top <= w.top
+    w.left <= b.left && b.right <= w.right && w.bottom <= b.bottom && b.top <= w.top
 }
 
 // Whether one side of w leaves nothing of what lies in b, but what is on its line.
 pub fn apart(w: Window, b: Window) -> bool
     ensures { result ≡ true → (k : Side) × Beyond w b k }
 {
-    if b.right <= w.left {
-        return true;
-    }
-    if w.right <= b.left {
-        return true;
-    }
-    if b.top <= w.bottom {
-        return true;
-    }
-    w.top <= b.bottom
+    b.right <= w.left || w.right <= b.left || b.top <= w.bottom || w.top <= b.bottom
 }
