@@ -1,6 +1,7 @@
 -- Where a word ends, and how a line falls into words.
 use mathlib.Core.Path.{◌≡◌, refl, ap, ◌∙◌}
 use mathlib.Core.Bool.{Bool, true, false, not}
+use Rattle.std.specs.Prelude.{Option, ℤ}
 use mathlib.Core.List.{List, [], ◌∷◌}
 use Prim.Native.Nat.{ℕ, suc, ◌+◌, ◌-◌, ◌<◌}
 use native.Mathlib.Numerals.{add-one}
@@ -11,7 +12,6 @@ use lib.Seq.{drop-cons, drop-drop}
 use Rattle.whole.specs.Choice.{when◌then◌else◌}
 use Rattle.text.specs.Runs.{run, is_not}
 use Rattle.words.specs.Words.{numeral, as_integer, words, arguments, onto, and_integer, integers}
-use Rattle.words.specs.declared.Integer.{Integer}
 
 -- how many bytes come before the first space
 abbrev pub to_space : List ℕ → ℕ
@@ -37,7 +37,7 @@ arguments_cut l at h =
     (words_cut (drop (suc at) l) ∙ ap (λ r. take (to_space (drop (suc at) l)) (drop (suc at) l) ∷ arguments r) (drop-drop (to_space (drop (suc at) l)) (suc at) l))
 
 -- and the number that the first is
-pub integers_cut : (l : List ℕ) (at end : ℕ) (r : Integer) → at < length l → let start = at + 1 in end ≡ start + to_space (drop start l)
+pub integers_cut : (l : List ℕ) (at end : ℕ) (r : Option ℤ) → at < length l → let start = at + 1 in end ≡ start + to_space (drop start l)
     → r ≡ as_integer (numeral (take (end - start) (drop start l))) → integers (arguments (drop at l)) ≡ and_integer r (integers (arguments (drop end l)))
 unfolding integers
 integers_cut l at end r h e k =

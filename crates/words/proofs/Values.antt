@@ -2,8 +2,8 @@
 use mathlib.Core.Path.{◌≡◌, refl}
 use mathlib.Core.Bool.{Bool, true, false}
 use mathlib.Core.List.{List, [], ◌∷◌}
-use mathlib.Core.Option.{none}
-use Prim.Native.Nat.{ℕ, ◌+◌, ◌*◌, ◌≤◌, ◌<◌, ◌^◌}
+use Rattle.std.specs.Prelude.{None}
+use Prim.Native.Nat.{ℕ, ◌+◌, ◌*◌, ◌≤◌, ◌<◌}
 use native.Mathlib.Nat.{mul-le-mul_left, mul-one}
 use native.Mathlib.Numerals.{add-one}
 use native.Mathlib.Omega.{arith}
@@ -14,14 +14,13 @@ use lib.Seq.{drop-cons}
 use Rattle.whole.specs.Choice.{when◌then◌else◌}
 use Rattle.words.specs.Digits.{digit_of, value_from, word_value}
 use Rattle.words.specs.Words.{up_to}
-use Rattle.words.specs.declared.Natural.TheVariants as Natural
 
 pub value_is : (base : ℕ) (w : List ℕ) → 0 < length w → word_value base w ≡ value_from base 0 w
 unfolding word_value
 value_is base [] h = absurd (omega arith)
 value_is base (b ∷ w) h = refl
 
-pub no_value : (base : ℕ) (w : List ℕ) → length w ≡ 0 → word_value base w ≡ none
+pub no_value : (base : ℕ) (w : List ℕ) → length w ≡ 0 → word_value base w ≡ None
 unfolding word_value
 no_value base [] h = refl
 no_value base (b ∷ w) h = absurd (omega arith)
@@ -31,22 +30,19 @@ module _ (base n i : ℕ) (w : List ℕ) (h : i < length w) where
   unfolding value_from
   one_more d = rw (add-one, drop-cons w i 0 h) (simp (lt-ltb _ _ d))
 
-  pub no_digit : base ≤ digit_of (get_or w i 0) → value_from base n (drop i w) ≡ none
+  pub no_digit : base ≤ digit_of (get_or w i 0) → value_from base n (drop i w) ≡ None
   unfolding value_from
   no_digit d = rw (drop-cons w i 0 h) (simp (le-ltb _ _ d))
 
 grows : (base n d : ℕ) → d < base → n ≤ n * base + d
 grows base n d h = omega (arith, mul-le-mul_left {m = 1} {n = base} n (omega arith), mul-one n)
 
-pub too_large : (base most n : ℕ) (w : List ℕ) → most < n → up_to most (value_from base n w) ≡ Natural.Bad
+pub too_large : (base most n : ℕ) (w : List ℕ) → most < n → up_to most (value_from base n w) ≡ None
 unfolding value_from up_to
 too_large base most n [] h = simp (lt-leb _ _ h)
 too_large base most n (b ∷ w) h = go (ltb (digit_of b) base) refl (λ k. too_large base most (n * base + digit_of b) w k)
   where
-    go : (t : Bool) → ltb (digit_of b) base ≡ t → (most < n * base + digit_of b → up_to most (value_from base (n * base + digit_of b) w) ≡ Natural.Bad)
-        → up_to most (when t then value_from base (n * base + digit_of b) w else none) ≡ Natural.Bad
+    go : (t : Bool) → ltb (digit_of b) base ≡ t → (most < n * base + digit_of b → up_to most (value_from base (n * base + digit_of b) w) ≡ None)
+        → up_to most (when t then value_from base (n * base + digit_of b) w else None) ≡ None
     go true e k = k (omega (arith, grows base n (digit_of b) (ltb-true _ _ e)))
     go false e k = refl
-
-pub product : (n base : ℕ) → n < 2 ^ 32 → base ≤ 16 → n * base ≤ 2 ^ 36
-product n base hn hb = omega (arith, mul-le-mul_left {m = base} {n = 16} n hb)

@@ -3,8 +3,7 @@
 --   digit_of b            the value of the byte b as a digit, letters from 10 on, large or small; 16 where it is none
 --   value_from base n w   the number that n becomes by the digits w, in a base; none where a byte of w is no digit of it
 --   word_value base w     the number that the word w is, one digit or more
-use Rattle.std.specs.Prelude.{Bool, ◌&&◌, List, [], ◌∷◌, ℕ, ◌+◌, ◌*◌, ◌-◌, leb, ltb}
-use Rattle.std.proofs.Math.Option.{Option, none, some}
+use Rattle.std.specs.Prelude.{Bool, ◌&&◌, List, [], ◌∷◌, ℕ, ◌+◌, ◌*◌, ◌-◌, leb, ltb, Option, None, Some}
 use Rattle.whole.specs.Choice.{when◌then◌else◌}
 
 unfoldable pub between : ℕ → ℕ → ℕ → Bool
@@ -18,9 +17,9 @@ digit_of b =
     else 16
 
 unfoldable pub value_from : ℕ → ℕ → List ℕ → Option ℕ
-value_from base n [] = some n
-value_from base n (b ∷ w) = when ltb (digit_of b) base then value_from base (n * base + digit_of b) w else none
+value_from base n [] = Some n
+value_from base n (b ∷ w) = when ltb (digit_of b) base then value_from base (n * base + digit_of b) w else None
 
 unfoldable pub word_value : ℕ → List ℕ → Option ℕ
-word_value base [] = none
+word_value base [] = None
 word_value base (b ∷ w) = value_from base 0 (b ∷ w)

@@ -1,4 +1,4 @@
--- The words of a line, and the numbers that they are.
+-- The words of a line, and the numbers that they are; `None` where they are no such number.
 --   up_to most o       the number o, where it is one of at most `most`
 --   has_minus w        the word w begins with a minus
 --   numeral w         the whole number that the word w is: decimal digits, with a minus in front or without
@@ -14,48 +14,42 @@
 --   integers ws       the numbers that the words ws are, where each is one that an i32 holds
 --   pairs w           the bytes that w is, as pairs of hexadecimal digits
 --   bytes w           the same for a word, which is not empty; a minus alone stands for no bytes
---   Into o out r      the list o, where there is one and out has room for it, was put at the front of out; r says so, and how long it is
-use Rattle.std.specs.Prelude.{◌≡◌, Bool, true, false, ◌&&◌, List, [], ◌∷◌, ℕ, ◌+◌, ◌*◌, ◌≤◌, ◌<◌, ◌^◌, leb, ltb, eqb, ℤ, pos, negsuc, neg_ℤ, Float, length, take, drop}
-use Rattle.std.proofs.Math.Option.{Option, none, some, map}
+--   Into o out r      the list o was put at the front of out, and is r long; r is `None` where there is no list, or out has no room for it
+use Rattle.std.specs.Prelude.{◌≡◌, Bool, false, ◌&&◌, List, [], ◌∷◌, ℕ, ◌+◌, ◌*◌, ◌≤◌, ◌<◌, ◌^◌, leb, ltb, eqb, ℤ, pos, negsuc, neg_ℤ, Float, Option, None, Some, MatchOption, option_map, length, take, drop}
 use Rattle.std.specs.Float.{binary32}
 use Rattle.std.specs.Float.Ieee.{of_bits, to_bits}
 use Rattle.std.specs.Int.Signed.{mag}
 use Rattle.io.specs.Digits.{last_digits}
 use Rattle.whole.specs.Choice.{when◌then◌else◌}
 use Rattle.words.specs.Digits.{digit_of, word_value}
-use Rattle.words.specs.declared.Natural.{Natural}
-use Rattle.words.specs.declared.Integer.{Integer}
-use Rattle.words.specs.declared.Read.{Read}
-use Rattle.words.specs.declared.Single.{Single}
 
 -- ---- numbers
 
-unfoldable pub up_to : ℕ → Option ℕ → Natural
-up_to most none = Natural.Bad
-up_to most (some n) = when leb n most then Natural.Is n else Natural.Bad
+unfoldable pub up_to : ℕ → Option ℕ → Option ℕ
+up_to most None = None
+up_to most (Some n) = when leb n most then Some n else None
 
 unfoldable pub has_minus : List ℕ → Bool
 has_minus [] = false
 has_minus (b ∷ w) = eqb b 45
 
 unfoldable pub numeral : List ℕ → Option ℤ
-numeral w = when has_minus w then map (λ n. neg_ℤ (pos n)) (word_value 10 (drop 1 w)) else map pos (word_value 10 w)
+numeral w = when has_minus w then option_map (λ n. neg_ℤ (pos n)) (word_value 10 (drop 1 w)) else option_map pos (word_value 10 w)
 
-unfoldable pub unsigned : ℕ → Option ℤ → Natural
-unsigned most none = Natural.Bad
-unsigned most (some (pos n)) = when leb n most then Natural.Is n else Natural.Bad
-unsigned most (some (negsuc n)) = Natural.Bad
+unfoldable pub unsigned : ℕ → Option ℤ → Option ℕ
+unsigned most None = None
+unsigned most (Some (pos n)) = when leb n most then Some n else None
+unsigned most (Some (negsuc n)) = None
 
-unfoldable pub as_integer : Option ℤ → Integer
-as_integer none = Integer.Bad
-as_integer (some z) = when ltb (mag z) (2 ^ 31) then Integer.Is z else Integer.Bad
+unfoldable pub as_integer : Option ℤ → Option ℤ
+as_integer None = None
+as_integer (Some z) = when ltb (mag z) (2 ^ 31) then Some z else None
 
-abbrev pub with_bits : Natural → Single
-with_bits Natural.Bad = Single.Bad
-with_bits (Natural.Is n) = Single.Is (of_bits binary32 n)
+abbrev pub with_bits : Option ℕ → Option Float
+with_bits o = option_map (of_bits binary32) o
 
-unfoldable pub single : List ℕ → Single
-single w = when eqb (length w) 8 then with_bits (up_to 0xffff_ffff (word_value 16 w)) else Single.Bad
+unfoldable pub single : List ℕ → Option Float
+single w = when eqb (length w) 8 then with_bits (up_to 0xffff_ffff (word_value 16 w)) else None
 
 abbrev pub pattern : Float → List ℕ
 pattern x = last_digits 16 8 (to_bits binary32 x)
@@ -77,29 +71,27 @@ arguments (b ∷ l) = words l
 -- ---- lists of numbers
 
 abbrev pub and : {A : Type 0} → A → Option (List A) → Option (List A)
-and x none = none
-and x (some xs) = some (x ∷ xs)
+and x None = None
+and x (Some xs) = Some (x ∷ xs)
 
-abbrev pub and_integer : Integer → Option (List ℤ) → Option (List ℤ)
-and_integer Integer.Bad o = none
-and_integer (Integer.Is z) o = and z o
+abbrev pub and_integer : Option ℤ → Option (List ℤ) → Option (List ℤ)
+and_integer None o = None
+and_integer (Some z) o = and z o
 
 unfoldable pub integers : List (List ℕ) → Option (List ℤ)
-integers [] = some []
+integers [] = Some []
 integers (w ∷ ws) = and_integer (as_integer (numeral w)) (integers ws)
 
 unfoldable pub pairs : List ℕ → Option (List ℕ)
-pairs [] = some []
-pairs (a ∷ []) = none
-pairs (a ∷ b ∷ w) = when ltb (digit_of a) 16 && ltb (digit_of b) 16 then and (digit_of a * 16 + digit_of b) (pairs w) else none
+pairs [] = Some []
+pairs (a ∷ []) = None
+pairs (a ∷ b ∷ w) = when ltb (digit_of a) 16 && ltb (digit_of b) 16 then and (digit_of a * 16 + digit_of b) (pairs w) else None
 
 unfoldable pub bytes : List ℕ → Option (List ℕ)
 bytes w =
-    when eqb (length w) 0 then none
-    else when has_minus w then (when eqb (length w) 1 then some [] else none)
+    when eqb (length w) 0 then None
+    else when has_minus w then (when eqb (length w) 1 then Some [] else None)
     else pairs w
 
-pub record Into {A : Type 0} (o : Option (List A)) (out : List A) (r : Read) : Type 0 where
-  pub within : r.count ≤ length out
-  pub whole : r.whole ≡ true → o ≡ some (take r.count out)
-  pub without : r.whole ≡ false → (xs : List A) → o ≡ some xs → length out < length xs
+abbrev pub Into : {A : Type 0} → Option (List A) → List A → Option ℕ → Type 0
+Into {A} o out r = MatchOption r ((xs : List A) → o ≡ Some xs → length out < length xs) (λ n. (n ≤ length out) × (o ≡ Some (take n out)))
