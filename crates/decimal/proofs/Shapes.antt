@@ -1,20 +1,20 @@
 -- Where the digits before the point end, and with them the whole shape of a number, is known from the text alone.
+use Rattle.std.specs.Prelude.{Some}
 use mathlib.Core.Path.{◌≡◌, refl, sym, ap, ap₂, ◌∙◌, subst}
 use mathlib.Core.Bool.{Bool, true, false}
 use mathlib.Core.List.{List, [], ◌∷◌, ◌++◌, append-nil}
-use Prim.Native.Nat.{ℕ, suc, ◌+◌, ◌^◌, ◌<◌, ◌≤◌}
-use native.Mathlib.Nat.{le_trans, le_of_eq, le_of_lt, lt_of_lt_of_le, one-mul, pow-le-pow_right}
+use Prim.Native.Nat.{ℕ, suc, ◌+◌, ◌-◌, ◌^◌, ◌<◌, ◌≤◌}
+use native.Mathlib.Nat.{le_trans, le_of_eq, le_of_lt, le_antisymm, lt_of_lt_of_le, one-mul, pow-le-pow_right}
 use native.Mathlib.Numerals.{add-one}
 use native.Mathlib.Omega.{arith}
 use lib.Dec.{lit<}
-use lib.ListN.{length, get_or, take, drop, length-append}
-use lib.Seq.{split_at, length-take-le, take-length, get_or-append_seam, drop-append-add}
+use lib.ListN.{length, get_or, take, drop, length-append, length-drop}
+use lib.Seq.{split_at, take_all, length-take-le, take-length, get_or-append_seam, drop-append-add}
 use Rattle.whole.specs.Choice.{when◌then◌else◌}
 use Rattle.decimal.specs.Decimals.{is_digit, AllDigits, none, ◌and◌, with_digits, pointed, Plain, bits_of}
 use Rattle.text.specs.Runs.{run}
-use Rattle.text.proofs.Runs.{run_passed}
+use Rattle.text.proofs.Runs.{run_passed, run_le}
 use Rattle.decimal.specs.Workers.{ReadsPlain, number}
-use Rattle.decimal.specs.declared.Reading.TheVariants.{Number}
 use Rattle.decimal.proofs.Texts.{with_digits-append, with_digits_below}
 
 -- ---- lists of digits
@@ -159,7 +159,26 @@ module _ {t : List ℕ} {f : ℕ} (p : Pointed t f) where
       }
 
 -- ---- what was computed as m / 10^j is read by its bits
-pub reads : {t : List ℕ} {n k m j b : ℕ} → Plain t n k → m ≡ n → j ≡ k → (b ≡ bits_of false m j) × (b < 2 ^ 31) → ReadsPlain t (Number b)
+pub reads : {t : List ℕ} {n k m j b : ℕ} → Plain t n k → m ≡ n → j ≡ k → (b ≡ bits_of false m j) × (b < 2 ^ 31) → ReadsPlain t (Some b)
 reads {t} {n} {k} {m} {j} {b} p e d h =
     let z : b ≡ bits_of false n k = h.0 ∙ ap₂ (bits_of false) e d in
-    subst (λ (x : ℕ). ReadsPlain t (Number x)) (sym z) (number p (subst (λ (x : ℕ). x < 2 ^ 31) z h.1))
+    subst (λ (x : ℕ). ReadsPlain t (Some x)) (sym z) (number p (subst (λ (x : ℕ). x < 2 ^ 31) z h.1))
+
+-- ---- a text whose first digits end at f, and what a slice of all behind the point is
+
+pub behind_is : (t : List ℕ) (f : ℕ) → take (length t - (f + 1)) (drop (f + 1) t) ≡ drop (f + 1) t
+behind_is t f = take_all _ _ (le_of_eq (length-drop (f + 1) t))
+
+pub shape : {t : List ℕ} {f d : ℕ} (b : List ℕ) → b ≡ drop (f + 1) t → f ≡ run is_digit t → (0 < f) × (f < length t) → get_or t f 0 ≡ 46
+    → (length b ≡ 0 → ⊥) → d ≡ run is_digit b → length b ≤ d → f + length b ≤ 9 → Pointed t f
+shape {t} {f} {d} b r is h point more run_is digits few =
+    let s : length b ≡ length (drop (f + 1) t) = ap length r in
+    record {
+      is = is;
+      some = h.0;
+      inside = h.1;
+      point = point;
+      more = omega arith;
+      behind = subst AllDigits r (digits_of_all b (le_antisymm (run_le is_digit b) (omega arith)));
+      few = omega arith;
+    }

@@ -1,19 +1,17 @@
 -- The sign of a number: its text, and its bit.
+use Rattle.std.specs.Prelude.{None, Option, Some}
 use mathlib.Core.Path.{◌≡◌, refl, sym, ap, ◌∙◌, subst}
 use mathlib.Core.Bool.{Bool, true, false, cond}
 use mathlib.Core.List.{List, [], ◌∷◌, ◌++◌}
 use Prim.Native.Nat.{ℕ, zero, suc, ◌+◌, ◌*◌, ◌^◌, ◌<◌}
 use native.Mathlib.Omega.{arith}
 use lib.Dec.{ltb}
-use lib.ListN.{length, get_or, drop, length-append}
-use lib.Seq.{drop-cons}
+use lib.ListN.{length, get_or, take, drop, take-append-drop}
 use lib.Ieee.{binary32, inf, odd, units, to_bits}
 use lib.Ieee.Fits.{round_is}
 use Rattle.decimal.specs.Decimals.{AllDigits, pointed, Plain, Decimal, bits_of, Reads, number, nothing}
 use Rattle.decimal.specs.Workers as Workers
 use Rattle.decimal.proofs.Texts.{digit_range, digit_head}
-use Rattle.decimal.specs.declared.Reading.{Reading}
-use Rattle.decimal.specs.declared.Reading.TheVariants.{Number, Nothing}
 
 -- ---- its bit
 
@@ -33,23 +31,13 @@ negative_bits n k = ap (to_bits binary32) (round_is binary32 true n (10 ^ k)) �
 
 -- ---- its text
 
-plain_some : {n k : ℕ} → Plain [] n k → ⊥
-plain_some p = omega (arith, p.some, ap length p.spelled, length-append p.front (pointed p.behind))
-
-pub reads_none : Reads [] Nothing
-reads_none = nothing none
-  where
-    none : (s : Bool) (n k : ℕ) → Decimal [] s n k → ⊥
-    none true n k d = omega (arith, ap length d.spelled)
-    none false n k d = plain_some (subst (λ (t : List ℕ). Plain t n k) (sym d.spelled) d.plain)
-
 -- a text that starts with no minus
-pub reads_plain : {r : Reading} (t : List ℕ) → (get_or t 0 0 ≡ 45 → ⊥) → Workers.ReadsPlain t r → Reads t r
+pub reads_plain : {r : Option ℕ} (t : List ℕ) → (take 1 t ≡ 45 ∷ [] → ⊥) → Workers.ReadsPlain t r → Reads t r
 reads_plain t h (Workers.number p b) = number (record { rest = t; spelled = refl; plain = p })
 reads_plain t h (Workers.nothing f) = nothing none
   where
     none : (s : Bool) (n k : ℕ) → Decimal t s n k → ⊥
-    none true n k d = h (ap (λ (x : List ℕ). get_or x 0 0) d.spelled)
+    none true n k d = h (ap (take 1) d.spelled)
     none false n k d = f n k (subst (λ (x : List ℕ). Plain x n k) (sym d.spelled) d.plain)
 
 -- and one that starts with a minus: what follows decides
@@ -62,29 +50,29 @@ plain_first t h p = go p.front refl
         let z : d ≡ 45 = sym (ap (λ (x : List ℕ). get_or x 0 0) (p.spelled ∙ ap (λ (x : List ℕ). x ++ pointed p.behind) e)) ∙ h in
         omega (arith, z, (digit_range d (digit_head (subst (λ (x : List ℕ). AllDigits (x ++ p.behind)) e p.digits))).0)
 
-module _ (t : List ℕ) (l : 0 < length t) (h : get_or t 0 0 ≡ 45) where
+module _ (t : List ℕ) (m : take 1 t ≡ 45 ∷ []) where
   minus_first : t ≡ 45 ∷ drop 1 t
-  minus_first = drop-cons t 0 0 l ∙ ap (λ (x : ℕ). x ∷ drop 1 t) h
+  minus_first = sym (take-append-drop 1 t) ∙ ap (λ (x : List ℕ). x ++ drop 1 t) m
 
-  pub reads_negative : (b : ℕ) → Workers.ReadsPlain (drop 1 t) (Number b) → (b < 2 ^ 31) × Reads t (Number (b + 2147483648))
+  pub reads_negative : (b : ℕ) → Workers.ReadsPlain (drop 1 t) (Some b) → (b < 2 ^ 31) × Reads t (Some (b + 2147483648))
   reads_negative b r = go refl r
     where
-      go : {o : Reading} → o ≡ Number b → Workers.ReadsPlain (drop 1 t) o → (b < 2 ^ 31) × Reads t (Number (b + 2147483648))
+      go : {o : Option ℕ} → o ≡ Some b → Workers.ReadsPlain (drop 1 t) o → (b < 2 ^ 31) × Reads t (Some (b + 2147483648))
       go e (Workers.number {n = n} {k = k} p s) =
           let z : bits_of false n k ≡ b = cc in (
             subst (λ (x : ℕ). x < 2 ^ 31) z s,
-            subst (λ (x : ℕ). Reads t (Number x)) (negative_bits n k ∙ ap (λ (x : ℕ). x + 2147483648) z)
+            subst (λ (x : ℕ). Reads t (Some x)) (negative_bits n k ∙ ap (λ (x : ℕ). x + 2147483648) z)
                 (number (record { rest = drop 1 t; spelled = minus_first; plain = p })),
           )
       go e (Workers.nothing f) = absurd (let z : ◌≡◌ {A = ℕ} 0 1 = cc in omega arith)
 
-  pub reads_no_negative : Workers.ReadsPlain (drop 1 t) Nothing → Reads t Nothing
+  pub reads_no_negative : Workers.ReadsPlain (drop 1 t) None → Reads t None
   reads_no_negative r = go refl r
     where
-      go : {o : Reading} → o ≡ Nothing → Workers.ReadsPlain (drop 1 t) o → Reads t Nothing
+      go : {o : Option ℕ} → o ≡ None → Workers.ReadsPlain (drop 1 t) o → Reads t None
       go e (Workers.number p s) = absurd (let z : ◌≡◌ {A = ℕ} 0 1 = cc in omega arith)
       go e (Workers.nothing f) = nothing none
         where
           none : (s : Bool) (n k : ℕ) → Decimal t s n k → ⊥
           none true n k d = f n k (subst (λ (x : List ℕ). Plain x n k) (sym (ap (drop 1) d.spelled)) d.plain)
-          none false n k d = plain_first t h (subst (λ (x : List ℕ). Plain x n k) (sym d.spelled) d.plain)
+          none false n k d = plain_first t (ap (λ (x : List ℕ). get_or x 0 0) minus_first) (subst (λ (x : List ℕ). Plain x n k) (sym d.spelled) d.plain)

@@ -3,7 +3,7 @@ use mathlib.Core.Path.{◌≡◌, refl, sym, ap, ◌∙◌, subst}
 use mathlib.Core.Bool.{Bool, true, false, ◌&&◌}
 use mathlib.Core.List.{List, [], ◌∷◌, ◌++◌}
 use Prim.Native.Nat.{ℕ, suc, ◌+◌, ◌-◌, ◌*◌, ◌^◌, ◌<◌, ◌≤◌}
-use native.Mathlib.Nat.{le_refl, le_trans, le_of_eq, mul-le-mul_right, mul_assoc, mul_comm, pow-suc}
+use native.Mathlib.Nat.{le_refl, le_trans, le_of_eq, lt_of_le_of_lt, mul-le-mul_right, mul_assoc, mul_comm, pow-suc}
 use native.Mathlib.Numerals.{add-one}
 use native.Mathlib.Omega.{arith}
 use borrow.Author.Tests.{leb-true}
@@ -72,3 +72,6 @@ module _ (ds : List ℕ) (i : ℕ) (h : i < length ds) (a : AllDigits (drop i ds
 
   pub next_number : (n : ℕ) → with_digits n (drop i ds) ≡ with_digits (n * 10 + (get_or ds i 0 - 48)) (drop (i + 1) ds)
   next_number n = rw (add-one, drop-cons ds i 0 h) (with_digits-cons n (get_or ds i 0) (drop (suc i) ds))
+
+  pub next_below : {m : ℕ} (n : ℕ) → with_digits n (drop i ds) < m → n * 10 + (get_or ds i 0 - 48) < m
+  next_below n l = lt_of_le_of_lt (le_trans (with_digits_from _ _) (le_of_eq (sym (next_number n)))) l

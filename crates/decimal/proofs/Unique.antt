@@ -1,4 +1,5 @@
 -- A text is read as one thing only: its first byte shows the sign, its first digits the front, and what follows the point the rest.
+use Rattle.std.specs.Prelude.{Option, Some}
 use mathlib.Core.Path.{◌≡◌, refl, sym, ap, ap₂, ◌∙◌, subst}
 use mathlib.Core.Bool.{Bool, true, false}
 use mathlib.Core.List.{List, [], ◌∷◌, ◌++◌}
@@ -7,8 +8,6 @@ use lib.ListN.{length, get_or, take, drop}
 use lib.Seq.{take_at, drop_at}
 use Rattle.decimal.specs.Decimals.{is_digit, with_digits, pointed, Plain, Decimal, bits_of, Reads, number, nothing}
 use Rattle.text.specs.Runs.{run}
-use Rattle.decimal.specs.declared.Reading.{Reading}
-use Rattle.decimal.specs.declared.Reading.TheVariants.{Number}
 use Rattle.decimal.proofs.Shapes.{front_is}
 use Rattle.decimal.proofs.Signs.{plain_first}
 
@@ -36,13 +35,13 @@ module _ {t : List ℕ} {n k : ℕ} (p : Plain t n k) where
 same_bits : (s : Bool) {t : List ℕ} {n m k j : ℕ} → Plain t n k → Plain t m j → bits_of s n k ≡ bits_of s m j
 same_bits s p q = ap₂ (bits_of s) (plain_number p ∙ sym (plain_number q)) (plain_places p ∙ sym (plain_places q))
 
-pub reads_unique : {t : List ℕ} {a b : Reading} → Reads t a → Reads t b → a ≡ b
+pub reads_unique : {t : List ℕ} {a b : Option ℕ} → Reads t a → Reads t b → a ≡ b
 reads_unique (number {s = s} d) (number {s = u} e) = go s u d e
   where
-    go : {t : List ℕ} {n m k j : ℕ} (s u : Bool) → Decimal t s n k → Decimal t u m j → Number (bits_of s n k) ≡ Number (bits_of u m j)
+    go : {t : List ℕ} {n m k j : ℕ} (s u : Bool) → Decimal t s n k → Decimal t u m j → Some (bits_of s n k) ≡ Some (bits_of u m j)
     go {t} {n} {m} {k} {j} true true d e =
-        ap Number (same_bits true d.plain (subst (λ (x : List ℕ). Plain x m j) (ap (drop 1) (sym e.spelled ∙ d.spelled)) e.plain))
-    go {t} {n} {m} {k} {j} false false d e = ap Number (same_bits false d.plain (subst (λ (x : List ℕ). Plain x m j) (sym e.spelled ∙ d.spelled) e.plain))
+        ap Some (same_bits true d.plain (subst (λ (x : List ℕ). Plain x m j) (ap (drop 1) (sym e.spelled ∙ d.spelled)) e.plain))
+    go {t} {n} {m} {k} {j} false false d e = ap Some (same_bits false d.plain (subst (λ (x : List ℕ). Plain x m j) (sym e.spelled ∙ d.spelled) e.plain))
     go true false d e = absurd (plain_first _ (ap (λ (x : List ℕ). get_or x 0 0) (sym e.spelled ∙ d.spelled)) e.plain)
     go false true d e = absurd (plain_first _ (ap (λ (x : List ℕ). get_or x 0 0) (sym d.spelled ∙ e.spelled)) d.plain)
 reads_unique (number d) (nothing f) = absurd (f _ _ _ d)

@@ -9,11 +9,9 @@
 --   Decimal text s n k   text is such a number with its sign, negative where s is true
 --   bits_of s n k         the bits of the f32 nearest to n / 10^k with that sign, halves to the even one (`lib.Ieee.round`)
 --   Reads text r         what `decimal::read` promises: r is what text is read as: a number's bits, or nothing where it is no number
-use Rattle.std.specs.Prelude.{◌≡◌, Bool, true, ◌&&◌, List, [], ◌∷◌, ◌++◌, ℕ, ◌+◌, ◌-◌, ◌*◌, ◌^◌, ◌≤◌, ◌<◌, leb, length}
+use Rattle.std.specs.Prelude.{None, Option, Some, ◌≡◌, Bool, true, ◌&&◌, List, [], ◌∷◌, ◌++◌, ℕ, ◌+◌, ◌-◌, ◌*◌, ◌^◌, ◌≤◌, ◌<◌, leb, length}
 use lib.Ieee.{binary32, round, to_bits}
 use Rattle.whole.specs.Choice.{when◌then◌else◌}
-use Rattle.decimal.specs.declared.Reading.{Reading}
-use Rattle.decimal.specs.declared.Reading.TheVariants.{Number, Nothing}
 
 abbrev pub minus : ℕ
 minus = 45
@@ -58,6 +56,6 @@ pub record Decimal (text : List ℕ) (s : Bool) (n k : ℕ) : Type 0 where
 unfoldable pub bits_of : Bool → ℕ → ℕ → ℕ
 bits_of s n k = to_bits binary32 (round binary32 s n (10 ^ k))
 
-pub data Reads : List ℕ → Reading → Type 0 where
-  number : {text : List ℕ} {s : Bool} {n k : ℕ} → Decimal text s n k → Reads text (Number (bits_of s n k))
-  nothing : {text : List ℕ} → ((s : Bool) (n k : ℕ) → Decimal text s n k → ⊥) → Reads text Nothing
+pub data Reads : List ℕ → Option ℕ → Type 0 where
+  number : {text : List ℕ} {s : Bool} {n k : ℕ} → Decimal text s n k → Reads text (Some (bits_of s n k))
+  nothing : {text : List ℕ} → ((s : Bool) (n k : ℕ) → Decimal text s n k → ⊥) → Reads text None

@@ -9,14 +9,11 @@ ghost use Rattle.text.specs.Runs.{run};
 ghost use Rattle.decimal.specs.Decimals.{is_digit, AllDigits, with_digits, bits_of, Reads};
 ghost use Rattle.decimal.specs.Workers.{ReadsPlain};
 
-// What a word is read as: the bits of an f32, or nothing.
-#[derive(Clone, Copy)]
-pub enum Reading {
-    Number(u32),
-    Nothing,
-}
+// How many digits a number may have.
+const MOST_DIGITS: usize = 9;
 
 // The whole number nearest to a / b, halves to the even one: an odd quotient adds one to twice the rest, so that its half goes up.
+// `fraction` has it too, for numbers of 32 bits, where a division takes less time.
 fn closest(a: u64, b: u64) -> u64
     requires b_nonzero { (0 < b) × (b < 2 ^ 62) }
     requires a_bound { a < 2 ^ 62 }
@@ -38,25 +35,13 @@ fn nearest_bits(n: u64, d: u64) -> u64
     let unit = d * 64;
     let mut scaled = n;
     let mut dropped: u64 = 155;
+    // A while: how often the number is doubled depends on the number.
     while scaled < unit * 0x80_0000 {
         scaled *= 2;
         dropped -= 1;
     }
     // The exponent's field stands above 23 digits; the leading one adds one to it.
     dropped * 0x80_0000 + closest(scaled, unit)
-}
-
-fn ten_to(k: usize) -> u64
-    requires { k ≤ 9 }
-    ensures { result ≡ 10 ^ k }
-{
-    let mut power = 1;
-    let mut i: usize = 0;
-    while i < k {
-        power *= 10;
-        i += 1;
-    }
-    power
 }
 
 // The bits of the f32 nearest to n / 10^places.
@@ -68,30 +53,23 @@ fn plain_bits(n: u32, places: usize) -> u32
     if n == 0 {
         return 0;
     }
-    nearest_bits(n as u64, ten_to(places)) as u32
+    nearest_bits(u64::from(n), 10u64.pow(places as u32)) as u32
 }
 
 pub fn is_digit(b: u8) -> bool
     ensures { result ≡ is_digit b }
 {
-    if 48 <= b {
-        return b <= 57;
-    }
-    false
+    b.is_ascii_digit()
 }
 
 // How many digits the text starts with.
 fn digits_in(text: &[u8]) -> usize
     ensures { result ≡ run is_digit text.now }
 {
-    let mut i = 0;
-    while i < text.len() {
-        if !is_digit(text[i]) {
-            return i;
-        }
-        i += 1;
+    match text.iter().position(|byte| !is_digit(*byte)) {
+        Some(place) => place,
+        None => text.len(),
     }
-    i
 }
 
 // The number whose digits are those of n and then these.
@@ -101,68 +79,53 @@ fn appended(n: u32, digits: &[u8]) -> u32
     ensures { result ≡ with_digits n digits.now }
 {
     let mut number = n;
-    let mut i = 0;
-    while i < digits.len() {
-        number = number * 10 + ((digits[i] - 48) as u32);
-        i += 1;
+    for digit in digits {
+        number = number * 10 + u32::from(*digit - b'0');
     }
     number
 }
 
 // Reads a number whose first digits end before the text does.
-fn read_pointed(text: &[u8], front: usize) -> Reading
+fn read_pointed(text: &[u8], front: usize) -> Option<u32>
     requires front_value { front ≡ run is_digit text.now }
     requires front_nonzero { (0 < front) × (front < length text.now) }
     ensures { ReadsPlain text.now result }
 {
     if text[front] != b'.' {
-        return Reading::Nothing;
+        return None;
     }
-    let after = front + 1;
-    let behind = &text[after..];
+    let behind = &text[front + 1..];
     let places = behind.len();
-    if places == 0 {
-        return Reading::Nothing;
-    }
-    if digits_in(behind) < places {
-        return Reading::Nothing;
-    }
-    if 9 < front + places {
-        return Reading::Nothing;
+    if places == 0 || digits_in(behind) < places || MOST_DIGITS < front + places {
+        return None;
     }
     let whole = appended(0, &text[..front]);
-    Reading::Number(plain_bits(appended(whole, behind), places))
+    Some(plain_bits(appended(whole, behind), places))
 }
 
 // Reads a number with no sign.
-fn read_plain(text: &[u8]) -> Reading
+fn read_plain(text: &[u8]) -> Option<u32>
     ensures { ReadsPlain text.now result }
 {
     let front = digits_in(text);
     if front == 0 {
-        return Reading::Nothing;
+        return None;
     }
     if front < text.len() {
         return read_pointed(text, front);
     }
-    if 9 < front {
-        return Reading::Nothing;
+    if MOST_DIGITS < front {
+        return None;
     }
-    Reading::Number(plain_bits(appended(0, text), 0))
+    Some(plain_bits(appended(0, text), 0))
 }
 
-// Reads an optional minus, digits, and optionally a point and digits, at most 9 digits in all.
-pub fn read(text: &[u8]) -> Reading
+// Reads an optional minus, digits, and optionally a point and digits, at most MOST_DIGITS digits in all.
+pub fn read(text: &[u8]) -> Option<u32>
     ensures { Reads text.now result }
 {
-    if text.len() == 0 {
-        return Reading::Nothing;
-    }
-    if text[0] != b'-' {
-        return read_plain(text);
-    }
-    match read_plain(&text[1..]) {
-        Reading::Number(bits) => Reading::Number(bits + 0x8000_0000),
-        Reading::Nothing => Reading::Nothing,
+    match text.strip_prefix(b"-") {
+        Some(rest) => Some(read_plain(rest)? + 0x8000_0000),
+        None => read_plain(text),
     }
 }

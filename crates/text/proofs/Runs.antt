@@ -1,8 +1,8 @@
 -- A walk along a text that started at a place: one byte more that passes the test, the first that does not, and the end.
-use mathlib.Core.Path.{◌≡◌, refl}
+use mathlib.Core.Path.{◌≡◌, refl, sym, ap, ◌∙◌}
 use mathlib.Core.Bool.{Bool, true, false}
 use mathlib.Core.List.{List, [], ◌∷◌}
-use Prim.Native.Nat.{ℕ, suc, ◌+◌, ◌<◌, ◌≤◌}
+use Prim.Native.Nat.{ℕ, zero, suc, ◌+◌, ◌<◌, ◌≤◌}
 use native.Mathlib.Numerals.{add-one}
 use native.Mathlib.Omega.{arith}
 use lib.ListN.{length, get_or, drop, drop_of_length-le}
@@ -43,3 +43,13 @@ module _ (test : ℕ → Bool) (s : List ℕ) (i : ℕ) {whole : ℕ} (e : whole
   run_end h =
       let l : run test (drop i s) ≡ 0 = rw drop_of_length-le refl in
       omega arith
+
+-- a run ends at the first byte that does not pass, or at the end
+pub run_is : (test : ℕ → Bool) (s : List ℕ) (i : ℕ) → i ≤ length s → ((k : ℕ) → k < i → test (get_or s k 0) ≡ true)
+    → (i < length s → test (get_or s i 0) ≡ false) → i ≡ run test s
+unfolding run
+run_is test [] i h before here = omega arith
+run_is test (b ∷ s) zero h before here = sym (run_failed test b s (here (omega arith)))
+run_is test (b ∷ s) (suc i) h before here =
+    ap suc (run_is test s i (omega arith) (λ k l. before (suc k) (omega arith)) (λ l. here (omega arith)))
+    ∙ sym (run_passed test b s (before 0 (omega arith)))

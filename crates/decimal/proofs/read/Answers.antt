@@ -1,26 +1,22 @@
--- `decimal::read` meets its contract: the first byte shows the sign, and what follows decides.
-use Rattle.std.proofs.Common.{◌-◌, List, ℕ, sym, subst, arith, length, take, drop, le_of_eq, length-drop}
-use lib.Seq.{take_all}
-use lib.ListN.{drop_of_length-le}
+-- The first byte shows the sign, and what follows decides.
+use Rattle.std.proofs.Common.{Some, sym, subst}
+use Rattle.std.specs.Cmp.Lexicographic.{same_text, other_text}
 use Rattle.decimal.specs.Decimals.{Reads}
 use Rattle.decimal.specs.Workers.{ReadsPlain}
-use Rattle.decimal.specs.declared.Reading.{Reading}
-use Rattle.decimal.specs.declared.Reading.TheVariants.{Nothing}
-use Rattle.decimal.proofs.Signs.{reads_none, reads_plain, reads_negative, reads_no_negative}
+use Rattle.decimal.proofs.Signs.{reads_plain, reads_negative, reads_no_negative}
 use Rattle.decimal.proofs.read.Goals as goal
 
--- the part that is lent is all but the first byte
-rest : (text : List ℕ) {r : Reading} → ReadsPlain (take (length text - 1) (drop 1 text)) r → ReadsPlain (drop 1 text) r
-rest text {r} = subst (λ t. ReadsPlain t r) (take_all _ _ (le_of_eq (length-drop 1 text)))
+pub returns-in_err-read_plain-in-Some : goal.returns-in_err-read_plain-in-Some
+returns-in_err-read_plain-in-Some c =
+    let e = c.in-Some.ensures.cases in
+    subst (Reads _) (sym c.from_residual.ensures)
+    (reads_no_negative _ (same_text _ _ (sym e.0)) (subst (λ t. ReadsPlain t _) e.1 c.in_err-read_plain-in-Some.ensures))
 
-pub returns-then-text-eq0 : goal.returns-then-text-eq0
-returns-then-text-eq0 c = subst (λ t. Reads t Nothing) (sym (drop_of_length-le _ (le_of_eq c.if-text-eq0.true))) reads_none
+pub returns-in_ok-read_plain-in-Some : goal.returns-in_ok-read_plain-in-Some
+returns-in_ok-read_plain-in-Some c =
+    let e = c.in-Some.ensures.cases in
+    (reads_negative _ (same_text _ _ (sym e.0)) _
+    (subst (λ t. ReadsPlain t (Some c.in_ok-read_plain-in-Some.field-0)) e.1 c.in_ok-read_plain-in-Some.ensures)).1
 
-pub returns-then-text-ne45 : goal.returns-then-text-ne45
-returns-then-text-ne45 c = reads_plain _ c.if-text-ne45.true c.read_plain.ensures
-
-pub returns-in-Number : goal.returns-in-Number
-returns-in-Number c = (reads_negative _ (omega arith) c.if-text-ne45.false _ (rest c.args.text.now c.in-Number.ensures)).1
-
-pub returns-in-Nothing : goal.returns-in-Nothing
-returns-in-Nothing c = reads_no_negative _ (omega arith) c.if-text-ne45.false (rest c.args.text.now c.in-Nothing.ensures)
+pub returns-in-None : goal.returns-in-None
+returns-in-None c = reads_plain _ (other_text _ _ (sym c.in-None.ensures.cases)) c.read_plain-in-None.ensures
