@@ -3,7 +3,7 @@ use mathlib.Core.Path.{◌≡◌, refl, sym, ap, ◌∙◌, subst}
 use mathlib.Core.Bool.{Bool, true, false, not, beq}
 use mathlib.Core.List.{List, [], ◌∷◌}
 use mathlib.Core.Logic.{◌↔◌}
-use Prim.Native.Nat.{ℕ, zero, suc, ◌+◌, ◌*◌, ◌/◌, ◌%◌, ◌<◌}
+use Prim.Native.Nat.{ℕ, zero, suc, ◌+◌, ◌*◌, ◌/◌, ◌%◌, ◌<◌, ◌≤◌}
 use native.Mathlib.Nat.{add-zero}
 use native.Mathlib.Omega.{arith}
 use borrow.Author.Tests.{eqb-true, eqb-false}
@@ -31,9 +31,10 @@ use Rattle.rings.proofs.Plane.{nought}
 use Rattle.memory.specs.Memory.{point_in, largest_number, Small}
 use Rattle.limits.specs.Sides.{side_line}
 use Rattle.grid.specs.Sides.{Side, left, right, bottom, top, place_of, side_at, number_of}
-use Rattle.limits.specs.Limits.{LimitOnTable, limit_line, LiesSo}
+use Rattle.limits.specs.Limits.{LimitOnTable, limit_line, SmallIn, LiesSo, RunTo, FirstPlace}
 use Rattle.limits.specs.declared.Limit.{Limit}
 use Rattle.limits.proofs.Sides.{place_side}
+use Rattle.limits.proofs.Runs.{run_to_first}
 
 -- ---- the limit of a side
 of_side : (w : Window) (k : Side) → limit_line (record { low = eqb (place_of k % 2) 0; axis = place_of k / 2; c = number_of w k }) ≡ side_line w k
@@ -92,7 +93,7 @@ limit_value l m i b e h = subst (λ (b : Bool). means (numbers l m i) (inward b)
     go b (suc (suc k)) h = absurd (omega arith)
 
 -- ---- the test at a corner, as the loop for that kind of limit has it
-abbrev test : Bool → Env → Bool
+abbrev pub test : Bool → Env → Bool
 test true ρ = lt_z (machine ρ along) (machine ρ scaled)
 test false ρ = lt_z (machine ρ scaled) (machine ρ along)
 
@@ -126,7 +127,7 @@ module _ (l : Limit) (m : List ℤ) (i : ℕ) (t : LimitOnTable l) (p : Small (p
         inside (limit_line l) (point_in m i) is_scaled is_along v,
       )
 
-  pub as_asked : (b : Bool) → l.low ≡ b → (out : Bool) → not (beq (test b ρ) out) ≡ false → LiesSo out (limit_line l) (point_in m i)
+  as_asked : (b : Bool) → l.low ≡ b → (out : Bool) → not (beq (test b ρ) out) ≡ false → LiesSo out (limit_line l) (point_in m i)
   as_asked b e = let k = tells b e in go (test b ρ) k.0 k.1
     where
       go : (f : Bool) → (f ≡ true → Out (limit_line l) (point_in m i)) → (f ≡ false → In (limit_line l) (point_in m i)) → (out : Bool)
@@ -136,7 +137,7 @@ module _ (l : Limit) (m : List ℤ) (i : ℕ) (t : LimitOnTable l) (p : Small (p
       go false o n true q = absurd (tt_ff q)
       go false o n false q = n refl
 
-  pub else_asked : (b : Bool) → l.low ≡ b → (out : Bool) → not (beq (test b ρ) out) ≡ true → LiesSo (not out) (limit_line l) (point_in m i)
+  else_asked : (b : Bool) → l.low ≡ b → (out : Bool) → not (beq (test b ρ) out) ≡ true → LiesSo (not out) (limit_line l) (point_in m i)
   else_asked b e = let k = tells b e in go (test b ρ) k.0 k.1
     where
       go : (f : Bool) → (f ≡ true → Out (limit_line l) (point_in m i)) → (f ≡ false → In (limit_line l) (point_in m i)) → (out : Bool) → not (beq f out) ≡ true
@@ -163,3 +164,10 @@ module _ (l : Limit) (m : List ℤ) (i : ℕ) (t : LimitOnTable l) (p : Small (p
       → Decides (eqb (of_z w32 x) (of_z w32 y)) (On (limit_line l) (point_in m i))
   on_limit fx fy ex ey = let k = equal l.low refl in
       record { yes = λ q. k.0 (sym ex ∙ bits_eq w32 fx fy (eqb-true _ _ q) ∙ ey); no = λ q h. eqb-false _ _ q (ap (of_z w32) (ex ∙ k.1 h ∙ sym ey)) }
+
+-- ---- a run by the tests at its corners
+pub run_by_tests : {l : Limit} {m : List ℤ} {from to r : ℕ} {tells : ℕ → Bool → Type 0} (b : Bool) (out : Bool) → LimitOnTable l → SmallIn m from to → l.low ≡ b
+    → FirstPlace tells from to r
+    → ((i : ℕ) (f : Bool) → from ≤ i → i < to → tells i f → not (beq (test b (numbers l m i)) out) ≡ f) → RunTo (limit_line l) m out from to r
+run_by_tests {l} {m} b out on small e p told =
+    run_to_first p (λ i j k t. as_asked l m i on (small i j k) b e out (told i false j k t)) (λ i j k t. else_asked l m i on (small i j k) b e out (told i true j k t))

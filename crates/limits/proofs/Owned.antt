@@ -1,6 +1,6 @@
 -- The outline's own corners, as a memory has them, against a limit.
-use mathlib.Core.Path.{◌≡◌, refl, sym, ap, ◌∙◌, transport}
-use mathlib.Core.Bool.{Bool, true, false, not}
+use mathlib.Core.Path.{◌≡◌, refl, sym, ap, ◌∙◌, subst}
+use mathlib.Core.Bool.{Bool, true, false, not, beq}
 use mathlib.Core.List.{List, [], ◌∷◌}
 use mathlib.Core.Logic.{◌↔◌}
 use Prim.Native.Nat.{ℕ, zero, suc, ◌+◌, ◌*◌, ◌/◌, ◌^◌, ◌<◌, ◌≤◌}
@@ -10,9 +10,10 @@ use borrow.Author.Tests.{eqb-true, eqb-false}
 use lib.Dec.{eqb}
 use lib.IntN.{ℤ, pos, ◌+ℤ◌, ◌-ℤ◌, ◌*ℤ◌}
 use lib.ListN.{length, get_or}
-use lib.Signed.{◌≤ℤ◌, ◌<ℤ◌, mag}
+use lib.Signed.{◌≤ℤ◌, ◌<ℤ◌, mag, lt_z, le_z}
 use mir.Syntax.{w32}
 use mir.Val.{SFits, to_z, of_z}
+use mir.Facts.{to_z-of_z}
 use Rattle.whole.specs.Choice.{Decides}
 use Rattle.whole.specs.Within.{Within}
 use Rattle.whole.proofs.Expressions.{var, con, ◌⊖◌, ◌⊗◌, x0, x1}
@@ -21,15 +22,16 @@ use Rattle.whole.proofs.Naturals.{add_is}
 use Rattle.whole.proofs.Order.{zarith, sub_is}
 use Rattle.whole.proofs.Ranges.{fits}
 use Rattle.whole.proofs.Machine.{par, lit, add, need}
-use Rattle.whole.proofs.Comparisons.{bits_eq, plain}
+use Rattle.whole.proofs.Comparisons.{bits_eq, tt_ff, ff_tt, le_yes, le_no, lt_yes, lt_no}
 use Rattle.grid.specs.Table.{farthest}
 use Rattle.rings.specs.Points.{Point, value, In, Out, On}
 use Rattle.convex.specs.Corners.{grid_point}
 use Rattle.memory.specs.Memory.{point_in}
 use Rattle.memory.specs.Tagged.{tag_in, loaded_from, loaded_of}
-use Rattle.limits.specs.Limits.{LimitOnTable, line_by, limit_line, LiesSo, RunTo}
+use Rattle.limits.specs.Limits.{LimitOnTable, line_by, limit_line, LiesSo, RunTo, FirstPlace}
 use Rattle.limits.specs.declared.Limit.{Limit}
 use Rattle.limits.proofs.Limits.{limit_value}
+use Rattle.limits.proofs.Runs.{run_to_first}
 
 -- the first n corners of the outline zs stand in the memory m, each tagged with its own edge
 pub record Loaded (zs m : List ℤ) (n : ℕ) : Type 0 where
@@ -66,6 +68,11 @@ tag_from j (x ∷ y ∷ zs) (suc k) h =
 pub loaded_of_lem : (zs : List ℤ) → Loaded zs (loaded_of zs) (length zs / 2)
 loaded_of_lem zs = record { corner = corner_from 0 zs; tag = λ k h. tag_from 0 zs k h ∙ ap pos (omega arith) }
 
+-- the least whole number that a low limit c leaves inside, or that a high one leaves outside
+abbrev pub least_of : Bool → ℤ → ℤ
+least_of true c = c
+least_of false c = c +ℤ pos 1
+
 -- ---- the corner k against a line: its number on the axis a, and that of the line
 module _ (zs : List ℤ) {a k : ℕ} (small : a < 2) (there : k < length zs / 2) where
   abbrev p : Point
@@ -95,17 +102,26 @@ module _ (zs : List ℤ) {a k : ℕ} (small : a < 2) (there : k < length zs / 2)
       ring (x ∷ c ∷ []) (x1 ⊖ x0) (x1 ⊗ con (pos 1) ⊖ x0) tt ∙ sym (λ i. c *ℤ is_1 i -ℤ is_number i) ∙ limit_value (record { low = false; axis = a; c = c })
       (loaded_of zs) k false refl small
 
+  below_low : (c : ℤ) → x <ℤ c → Out (line_by true a c) p
+  below_low c h = omega (zarith, low_value c, sub_is x c)
+
+  above_low : (c : ℤ) → c ≤ℤ x → In (line_by true a c) p
+  above_low c h = omega (zarith, low_value c, sub_is x c)
+
   module _ (c : ℤ) where
-    pub below_low : x <ℤ c → Out (line_by true a c) p
-    below_low h = omega (zarith, low_value c, sub_is x c)
-
-    pub above_low : c ≤ℤ x → In (line_by true a c) p
-    above_low h = omega (zarith, low_value c, sub_is x c)
-
     -- a whole number above c is at least c + 1
     high_for_low : (out : Bool) → LiesSo (not out) (line_by true a (c +ℤ pos 1)) p → LiesSo out (line_by false a c) p
     high_for_low true h = omega (zarith, low_value (c +ℤ pos 1), high_value c, sub_is x (c +ℤ pos 1), sub_is c x, add_is c (pos 1))
     high_for_low false h = omega (zarith, low_value (c +ℤ pos 1), high_value c, sub_is x (c +ℤ pos 1), sub_is c x, add_is c (pos 1))
+
+    -- below the least whole number inside a low limit, or beyond a high one
+    pub below_least : (low : Bool) → x <ℤ least_of low c → LiesSo low (line_by low a c) p
+    below_least true h = below_low c h
+    below_least false h = high_for_low false (below_low (c +ℤ pos 1) h)
+
+    pub above_least : (low : Bool) → least_of low c ≤ℤ x → LiesSo (not low) (line_by low a c) p
+    above_least true h = above_low c h
+    above_least false h = high_for_low true (above_low (c +ℤ pos 1) h)
 
     equal : (low : Bool) → (x ≡ c) ↔ On (line_by low a c) p
     equal true = (λ e. omega (zarith, low_value c, sub_is x c), λ e. omega (zarith, low_value c, sub_is x c))
@@ -117,44 +133,59 @@ module _ (zs : List ℤ) {a k : ℕ} (small : a < 2) (there : k < length zs / 2)
       no = λ q h. eqb-false _ _ q (ap (of_z w32) ((equal low).1 h));
     }
 
--- ---- a run of them, by a number that is read from its bits
-pub plain_run : (zs : List ℤ) (low : Bool) (a : ℕ) {t : ℤ} {out : Bool} {from to r : ℕ} → SFits w32 t
-    → RunTo (line_by low a (to_z w32 (of_z w32 t))) (loaded_of zs) out from to r
-    → RunTo (line_by low a t) (loaded_of zs) out from to r
-plain_run zs low a {out} {from} {to} {r} f run = plain (λ (t : ℤ). RunTo (line_by low a t) (loaded_of zs) out from to r) f run
-
--- a run outside the high limit c is one inside the low limit c + 1, and the other way round
-high_run : (zs : List ℤ) (a : ℕ) (c : ℤ) {from to r : ℕ} (out : Bool) → a < 2 → to ≤ length zs / 2
-    → RunTo (line_by true a (c +ℤ pos 1)) (loaded_of zs) (not out) from to r
-    → RunTo (line_by false a c) (loaded_of zs) out from to r
-high_run zs a c out h l run = record {
-  above = run.above;
-  below = run.below;
-  run = λ i m n. high_for_low zs h (omega (arith, run.below)) c out (run.run i m n);
-  ends = λ n. high_for_low zs h (omega arith) c (not out) (run.ends n);
-}
-
 -- the number of a limit, and one more, fit
 module _ {c : ℤ} (on : Within farthest c) where
-  number_fits : SFits w32 c
+  pub number_fits : SFits w32 c
   number_fits = fits w32 (farthest ∷ []) (c ∷ []) (on, tt) (var 0) tt
 
   pub more_fits : SFits w32 (to_z w32 (of_z w32 c) +ℤ pos 1)
   more_fits = need (farthest ∷ []) (c ∷ []) (on, tt) (add w32 (par w32 0) (lit (pos 1))) tt
 
--- ---- a run by the limit, from one by its kind and its number
-module _ (l : Limit) (zs : List ℤ) {from to r : ℕ} (on : LimitOnTable l) where
-  of_kind : (low : Bool) {out o : Bool} → l.low ≡ low → o ≡ out → RunTo (line_by low l.axis l.c) (loaded_of zs) out from to r
-      → RunTo (limit_line l) (loaded_of zs) o from to r
-  of_kind low e f run = transport (λ i. RunTo (line_by (sym e i) l.axis l.c) (loaded_of zs) (sym f i) from to r) run
+-- which of the two it is
+pub least_inside : {n c : ℤ} {low : Bool} → Within farthest c → n ≡ to_z w32 (of_z w32 c) → low ≡ true → n ≡ least_of low c
+least_inside {c = c} on e q = e ∙ to_z-of_z (number_fits on) ∙ ap (λ (b : Bool). least_of b c) (sym q)
 
-  pub low_ends : {out o : Bool} → l.low ≡ true → o ≡ out → RunTo (line_by true l.axis (to_z w32 (of_z w32 l.c))) (loaded_of zs) out from to r
-      → RunTo (limit_line l) (loaded_of zs) o from to r
-  low_ends e f run = of_kind true e f (plain_run zs true l.axis (number_fits on.number) run)
+pub least_beyond : {n c : ℤ} {low : Bool} → Within farthest c → n ≡ to_z w32 (of_z w32 (to_z w32 (of_z w32 c) +ℤ pos 1)) → low ≡ false → n ≡ least_of low c
+least_beyond {c = c} on e q =
+    e ∙ to_z-of_z (more_fits on) ∙ ap (λ (x : ℤ). x +ℤ pos 1) (to_z-of_z (number_fits on)) ∙ ap (λ (b : Bool). least_of b c) (sym q)
 
-  pub high_ends : (out : Bool) {o : Bool} → l.low ≡ false → o ≡ out → to ≤ length zs / 2
-      → RunTo (line_by true l.axis (to_z w32 (of_z w32 (to_z w32 (of_z w32 l.c) +ℤ pos 1)))) (loaded_of zs) (not out) from to r
-      → RunTo (limit_line l) (loaded_of zs) o from to r
-  high_ends out e f h run =
-      of_kind false e f (plain_run zs false l.axis (number_fits on.number)
-      (high_run zs l.axis _ out on.axis h (plain_run zs true l.axis (more_fits on.number) run)))
+-- ---- a run by the tests at its corners
+same_side : (low out : Bool) → beq low out ≡ true → low ≡ out
+same_side true true e = refl
+same_side true false e = absurd (ff_tt e)
+same_side false true e = absurd (ff_tt e)
+same_side false false e = refl
+
+other_side : (low out : Bool) → beq low out ≡ false → not low ≡ out
+other_side true true e = absurd (tt_ff e)
+other_side true false e = refl
+other_side false true e = refl
+other_side false false e = absurd (tt_ff e)
+
+abbrev pub own_number : Limit → List ℤ → ℕ → ℤ
+own_number l zs i = get_or zs (2 * i + l.axis) (pos 0)
+
+module _ {l : Limit} (zs : List ℤ) {from to r : ℕ} {tells : ℕ → Bool → Type 0} {n : ℤ} (out : Bool) (on : LimitOnTable l) (h : to ≤ length zs / 2)
+    (e : n ≡ least_of l.low l.c) (p : FirstPlace tells from to r) where
+  lies : (i : ℕ) → i < to → own_number l zs i <ℤ n → LiesSo l.low (limit_line l) (point_in (loaded_of zs) i)
+  lies i b k = below_least zs {k = i} on.axis (omega arith) l.c l.low (subst (λ (n : ℤ). own_number l zs i <ℤ n) e k)
+
+  lies_not : (i : ℕ) → i < to → n ≤ℤ own_number l zs i → LiesSo (not l.low) (limit_line l) (point_in (loaded_of zs) i)
+  lies_not i b k = above_least zs {k = i} on.axis (omega arith) l.c l.low (subst (λ (n : ℤ). n ≤ℤ own_number l zs i) e k)
+
+  pub run_below : beq l.low out ≡ true → ((i : ℕ) (f : Bool) → from ≤ i → i < to → tells i f → le_z n (own_number l zs i) ≡ f) → RunTo (limit_line l) (loaded_of zs) out from to r
+  run_below s told =
+      let d = same_side l.low out s in
+      subst (λ (o : Bool). RunTo (limit_line l) (loaded_of zs) o from to r) d
+      (run_to_first p (λ i a b t. lies i b (le_no refl refl (told i false a b t))) (λ i a b t. lies_not i b (le_yes refl refl (told i true a b t))))
+
+  pub run_above : beq l.low out ≡ false → ((i : ℕ) (f : Bool) → from ≤ i → i < to → tells i f → lt_z (own_number l zs i) n ≡ f) → RunTo (limit_line l) (loaded_of zs) out from to r
+  run_above s told =
+      let d = other_side l.low out s in
+      subst (λ (o : Bool). RunTo (limit_line l) (loaded_of zs) o from to r) d
+      (run_to_first p (λ i a b t. lies_not i b (lt_no refl refl (told i false a b t)))
+      (λ i a b t. subst (λ (b : Bool). LiesSo b (limit_line l) (point_in (loaded_of zs) i)) (sym (not_not l.low)) (lies i b (lt_yes refl refl (told i true a b t)))))
+    where
+      not_not : (b : Bool) → not (not b) ≡ b
+      not_not true = refl
+      not_not false = refl

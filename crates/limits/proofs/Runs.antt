@@ -1,6 +1,6 @@
--- A run of corners as it is followed from place to place, and where it ends.
-use mathlib.Core.Path.{◌≡◌, sym, subst}
-use mathlib.Core.Bool.{Bool, not}
+-- Where a run of corners ends, and a run with the corner before it.
+use mathlib.Core.Path.{subst}
+use mathlib.Core.Bool.{Bool, true, false, not}
 use mathlib.Core.List.{List}
 use mathlib.Core.Logic.{⊎_elim}
 use Prim.Native.Nat.{ℕ, ◌+◌, ◌<◌, ◌≤◌}
@@ -9,30 +9,18 @@ use native.Mathlib.Omega.{arith}
 use lib.IntN.{ℤ}
 use Rattle.rings.specs.Points.{Line}
 use Rattle.memory.specs.Memory.{point_in}
-use Rattle.limits.specs.Limits.{LiesSo, RunTo}
+use Rattle.limits.specs.Limits.{LiesSo, RunTo, FirstPlace}
 
--- so far, up to the place i
-pub record RunSo (h : Line) (m : List ℤ) (out : Bool) (from to i : ℕ) : Type 0 where
-  pub above : from ≤ i
-  pub below : i ≤ to
-  pub run : (j : ℕ) → from ≤ j → j < i → LiesSo out h (point_in m j)
-
-module _ {h : Line} {m : List ℤ} {out : Bool} {from to : ℕ} where
-  pub run_starts : from ≤ to → RunSo h m out from to from
-  run_starts k = record { above = omega arith; below = k; run = λ j a b. absurd (omega arith) }
-
-  pub run_goes_on : {i : ℕ} → RunSo h m out from to i → i < to → LiesSo out h (point_in m i) → RunSo h m out from to (i + 1)
-  run_goes_on {i} r k s = record {
-    above = omega (arith, r.above);
-    below = omega arith;
-    run = λ j a b. ⊎_elim (λ (e : j ≡ i). subst (λ (k : ℕ). LiesSo out h (point_in m k)) (sym e) s) (λ c. r.run j a c) (eq-or-lt_of_le (omega arith));
-  }
-
-  pub run_ends : {i : ℕ} → RunSo h m out from to i → LiesSo (not out) h (point_in m i) → RunTo h m out from to i
-  run_ends r s = record { above = r.above; below = r.below; run = r.run; ends = λ k. s }
-
-  pub run_is_all : {i : ℕ} → RunSo h m out from to i → to ≤ i → RunTo h m out from to to
-  run_is_all r k = record { above = omega (arith, r.above, r.below); below = omega arith; run = λ j a b. r.run j a (omega arith); ends = λ b. absurd (omega arith) }
+-- a run ends at the first place of which a test is true, where the test is true of what does not lie so, and false of what does
+pub run_to_first : {h : Line} {m : List ℤ} {out : Bool} {from to r : ℕ} {tells : ℕ → Bool → Type 0} → FirstPlace tells from to r
+    → ((i : ℕ) → from ≤ i → i < to → tells i false → LiesSo out h (point_in m i))
+    → ((i : ℕ) → from ≤ i → i < to → tells i true → LiesSo (not out) h (point_in m i)) → RunTo h m out from to r
+run_to_first p so ends = record {
+  above = p.above;
+  below = p.below;
+  run = λ i a b. so i a (omega (arith, p.below)) (p.before i a b);
+  ends = λ b. ends _ p.above b (p.found b);
+}
 
 -- ---- a run and the corner before it
 pub run_with : {h : Line} {m : List ℤ} {a to r : ℕ} (out : Bool) → LiesSo out h (point_in m a) → RunTo h m out (a + 1) to r → (i : ℕ) → a ≤ i → i < r

@@ -5,6 +5,7 @@
 --   SmallIn m i k         the corners in the memory m from the place i up to the place k are small
 --   LiesSo out h p        p lies strictly outside h, or, where out is false, inside it or on it
 --   RunTo h m out from to r   of the corners in the memory m those from one place on, up to the place r, lie so; the one at r does not, unless r is the place to
+--   FirstPlace tells from to r  r is the first place from one on, up to another, of which the test tells true, or else that other one
 use Rattle.std.specs.Prelude.{Bool, true, false, not, List, ℕ, zero, suc, ◌<◌, ◌≤◌, ℤ}
 use Rattle.whole.specs.Within.{Within}
 use Rattle.grid.specs.Table.{farthest}
@@ -38,3 +39,9 @@ pub record RunTo (h : Line) (m : List ℤ) (out : Bool) (from to r : ℕ) : Type
   pub below : r ≤ to
   pub run : (i : ℕ) → from ≤ i → i < r → LiesSo out h (point_in m i)
   pub ends : r < to → LiesSo (not out) h (point_in m r)
+
+pub record FirstPlace (tells : ℕ → Bool → Type 0) (from to r : ℕ) : Type 0 where
+  pub above : from ≤ r
+  pub below : r ≤ to
+  pub before : (i : ℕ) → from ≤ i → i < r → tells i false
+  pub found : r < to → tells r true

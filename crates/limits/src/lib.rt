@@ -1,7 +1,7 @@
 // A side of a window as a limit on x or on y, and which corners of a ring in memory lie inside it: the tests on which every pass decides.
 #![tactic(auto)]
 
-ghost use Rattle.std.specs.Prelude.{◌≡◌, true, false, ◌+◌, ◌*◌, ◌<◌, ◌≤◌, length};
+ghost use Rattle.std.specs.Prelude.{◌≡◌, ℕ, ◌+◌, ◌*◌, ◌<◌, ◌≤◌, length};
 ghost use Rattle.whole.specs.Choice.{Decides};
 ghost use Rattle.whole.specs.Within.{Within};
 ghost use Rattle.grid.specs.declared.Window.{Window};
@@ -10,7 +10,7 @@ ghost use Rattle.grid.specs.Table.{farthest};
 ghost use Rattle.rings.specs.Points.{On};
 ghost use Rattle.memory.specs.Memory.{point_in, Small};
 ghost use Rattle.limits.specs.Sides.{side_line};
-ghost use Rattle.limits.specs.Limits.{LimitOnTable, limit_line, SmallIn, RunTo};
+ghost use Rattle.limits.specs.Limits.{LimitOnTable, limit_line, SmallIn, RunTo, FirstPlace};
 
 pub mod own;
 
@@ -47,40 +47,17 @@ pub fn lies_on(l: Limit, m: &[i32], i: usize) -> bool
     m[at + l.axis] == l.c * m[at + 2]
 }
 
-// The end of a run for a low limit. Each kind of limit has its own loop: one loop for both would have to turn a sign at every corner.
-fn end_low(l: Limit, m: &[i32], from: usize, to: usize, outside: bool) -> usize
-    requires low_value { l.low ≡ true }
-    requires limit_on_table { LimitOnTable l }
+// The first place from one on, up to another, of which a test is true, or else that other one. Each test has its own loop: one loop for two kinds of limit
+// would have to turn a sign at every corner.
+fn first_place<F: Fn(usize) -> bool>(from: usize, to: usize, test: F) -> usize
     requires from_le_to { from ≤ to }
-    requires to_in_bounds { 4 * to ≤ length m.now }
-    requires small_in { SmallIn m.now from to }
-    ensures { RunTo (limit_line l) m.now outside from to result }
+    requires callable { (i : ℕ) → from ≤ i → i < to → F.pre test i }
+    ensures { FirstPlace (F.post test) from to result }
 {
-    let mut i = from;
-    while i < to {
-        if (m[4 * i + l.axis] < l.c * m[4 * i + 2]) != outside {
+    for i in from..to {
+        if test(i) {
             return i;
         }
-        i += 1;
-    }
-    to
-}
-
-// The same for a limit that is not low.
-fn end_high(l: Limit, m: &[i32], from: usize, to: usize, outside: bool) -> usize
-    requires low_value { l.low ≡ false }
-    requires limit_on_table { LimitOnTable l }
-    requires from_le_to { from ≤ to }
-    requires to_in_bounds { 4 * to ≤ length m.now }
-    requires small_in { SmallIn m.now from to }
-    ensures { RunTo (limit_line l) m.now outside from to result }
-{
-    let mut i = from;
-    while i < to {
-        if (m[4 * i + l.axis] > l.c * m[4 * i + 2]) != outside {
-            return i;
-        }
-        i += 1;
     }
     to
 }
@@ -94,7 +71,15 @@ pub fn end_of_run(l: Limit, m: &[i32], from: usize, to: usize, outside: bool) ->
     ensures { RunTo (limit_line l) m.now outside from to result }
 {
     if l.low {
-        return end_low(l, m, from, to, outside);
+        return first_place(
+            from,
+            to,
+            |i| (m[4 * i + l.axis] < l.c * m[4 * i + 2]) != outside,
+        );
     }
-    end_high(l, m, from, to, outside)
+    first_place(
+        from,
+        to,
+        |i| (m[4 * i + l.axis] > l.c * m[4 * i + 2]) != outside,
+    )
 }
