@@ -1,4 +1,5 @@
 -- The drawing so far: the lines before a place of the text are taken, and their records stand in the page from the place 4 on.
+use Rattle.std.specs.Prelude.{Result, Ok, Err}
 use mathlib.Core.Path.{◌≡◌, refl, sym, ap, subst, subst₂}
 use mathlib.Core.List.{List, [], ◌++◌}
 use Prim.Native.Nat.{ℕ, ◌+◌, ◌-◌, ◌<◌, ◌≤◌}
@@ -10,8 +11,6 @@ use Rattle.pen_line.specs.Lines.{spoken}
 use Rattle.pen_line.specs.Records.{drawing_room, LineAdds, LineRefused, LineTaken, taken, refused}
 use Rattle.pen_line.specs.declared.Fault.{Fault}
 use Rattle.pen_line.specs.declared.Fault.TheVariants.{LongText}
-use Rattle.pen_line.specs.declared.Step.{Step}
-use Rattle.pen_line.specs.declared.Step.TheVariants.{Done, Wrong}
 use Rattle.pen.specs.Texts.{most_text, line_end, line_at, LineWithin, Told, start, next, Becomes}
 use Rattle.pen.specs.Texts.{EndsAs, drawn, no_line, wrong_line, long_text}
 use Rattle.pen.specs.Workers.{Counted, counted, none}
@@ -44,7 +43,7 @@ module _ {t before page : List ℕ} {n i at : ℕ} (g : Going t before page n i 
   as_long = g.put.same
 
   -- the text ends as it does in a page of that length
-  ends_here : {after : List ℕ} {s : Step} → length after ≡ length page → EndsAs t after i g.bytes s
+  ends_here : {after : List ℕ} {s : Result ℕ Fault} → length after ≡ length page → EndsAs t after i g.bytes s
       → Becomes t after (record { line = n; step = s })
   ends_here {after} same e =
       let z : length before ≡ length after = omega (arith, as_long) in
@@ -55,7 +54,7 @@ module _ {t before page : List ℕ} {n i at : ℕ} (g : Going t before page n i 
     line_is : spoken (take (e - i) (drop i t)) ≡ line_at t i
     line_is = ap (λ (x : ℕ). spoken (take (x - i) (drop i t))) q
 
-    pub too_long : most_text < e → Becomes t page (record { line = n; step = Wrong LongText })
+    pub too_long : most_text < e → Becomes t page (record { line = n; step = Err LongText })
     too_long m = ends_here refl (long_text h (omega arith))
 
     module _ (m : e ≤ most_text) where
@@ -67,11 +66,11 @@ module _ {t before page : List ℕ} {n i at : ℕ} (g : Going t before page n i 
           → LineAdds (line_at t i) (length g.bytes) (drawing_room before) bs
       adds {bs} a = subst₂ (λ x y. LineAdds (line_at t i) x (y - 4) bs) long as_long a
 
-      pub going_on : {after : List ℕ} {to : ℕ} {s : Step} → s ≡ Done to
+      pub going_on : {after : List ℕ} {to : ℕ} {s : Result ℕ Fault} → s ≡ Ok to
           → LineTaken (spoken (take (e - i) (drop i t))) page after at s → Going t before after (n + 1) (e + 1) to
       going_on {after} {to} {s} d k = go d (subst (λ (l : List ℕ). LineTaken l page after at s) line_is k)
         where
-          go : {s : Step} → s ≡ Done to → LineTaken (line_at t i) page after at s
+          go : {s : Result ℕ Fault} → s ≡ Ok to → LineTaken (line_at t i) page after at s
               → Going t before after (n + 1) (e + 1) to
           go d (taken {end = end} {bs = added} a p) =
               let same : end ≡ to = cc in
@@ -84,13 +83,13 @@ module _ {t before page : List ℕ} {n i at : ℕ} (g : Going t before page n i 
               }
           go d (refused f) = absurd (let z : ◌≡◌ {A = ℕ} 0 1 = cc in omega arith)
 
-      pub stopped : {after : List ℕ} {f : Fault} {s : Step} → s ≡ Wrong f → length after ≡ length page
+      pub stopped : {after : List ℕ} {f : Fault} {s : Result ℕ Fault} → s ≡ Err f → length after ≡ length page
           → LineTaken (spoken (take (e - i) (drop i t))) page after at s
-          → Becomes t after (record { line = n; step = Wrong f })
+          → Becomes t after (record { line = n; step = Err f })
       stopped {after} {f} {s} d same k = go d (subst (λ (l : List ℕ). LineTaken l page after at s) line_is k)
         where
-          go : {s : Step} → s ≡ Wrong f → LineTaken (line_at t i) page after at s
-              → Becomes t after (record { line = n; step = Wrong f })
+          go : {s : Result ℕ Fault} → s ≡ Err f → LineTaken (line_at t i) page after at s
+              → Becomes t after (record { line = n; step = Err f })
           go d (taken a p) = absurd (let z : ◌≡◌ {A = ℕ} 0 1 = cc in omega arith)
           go d (refused {f = u} r) =
               let z : u ≡ f = cc in
@@ -98,17 +97,17 @@ module _ {t before page : List ℕ} {n i at : ℕ} (g : Going t before page n i 
               (subst (LineRefused (line_at t i) (length g.bytes) (drawing_room after)) z
               (subst₂ (λ x y. LineRefused (line_at t i) x (y - 4) u) long (sym same) r)))
 
-  pub ended : {after : List ℕ} {s : Step} → length t ≤ i → length after ≡ length page → Counted page after at s
+  pub ended : {after : List ℕ} {s : Result ℕ Fault} → length t ≤ i → length after ≡ length page → Counted page after at s
       → Becomes t after (record { line = n; step = s })
   ended {after} h same (counted z p) =
       ends_here same (drawn {at = at} h (λ e. z (omega (arith, long, behind))) (omega (arith, within))
       (put_in_front g.put (subst (λ (x : ℕ). Put page after 0 4 (big_endian x)) long p)))
   ended h same (none z) = ends_here same (no_line h (omega (arith, long)))
 
-pub drawn_within : {t page : List ℕ} {r : Outcome} {at : ℕ} → r.step ≡ Done at → Becomes t page r → at ≤ length page
+pub drawn_within : {t page : List ℕ} {r : Outcome} {at : ℕ} → r.step ≡ Ok at → Becomes t page r → at ≤ length page
 drawn_within {t} {page} {r} {at} d b = go d b.ends
   where
-    go : {s : Step} → s ≡ Done at → EndsAs t page b.place b.bytes s → at ≤ length page
+    go : {s : Result ℕ Fault} → s ≡ Ok at → EndsAs t page b.place b.bytes s → at ≤ length page
     go d (drawn {at = k} h z l p) = let same : k ≡ at = cc in subst (λ (x : ℕ). x ≤ length page) same l
     go d (no_line h z) = absurd (let z : ◌≡◌ {A = ℕ} 0 1 = cc in omega arith)
     go d (wrong_line h r) = absurd (let z : ◌≡◌ {A = ℕ} 0 1 = cc in omega arith)

@@ -1,5 +1,6 @@
 -- A text becomes one thing: of two lines where it may end, the earlier is not taken, so that the later is not reached;
 -- and at one line it ends in one way.
+use Rattle.std.specs.Prelude.{Result, Ok, Err}
 use mathlib.Core.Path.{◌≡◌, refl, sym, ap, ap₂, ◌∙◌, subst, subst₂}
 use mathlib.Core.List.{List, ◌++◌}
 use mathlib.Core.Logic.{⊎_elim}
@@ -11,8 +12,7 @@ use lib.ListN.{length, take, length-append}
 use lib.Seq.{length-take-le}
 use Rattle.text.specs.Pages.{big_endian}
 use Rattle.pen_line.specs.Records.{drawing_room, LineAdds, LineRefused}
-use Rattle.pen_line.specs.declared.Step.{Step}
-use Rattle.pen_line.specs.declared.Step.TheVariants.{Done, Wrong}
+use Rattle.pen_line.specs.declared.Fault.{Fault}
 use Rattle.pen_line.proofs.Unique.{adds_unique, adds_or_not, refused_unique}
 use Rattle.pen.specs.Texts.{line_end, line_at, LineWithin, Told, start, next}
 use Rattle.pen.specs.Texts.{EndsAs, drawn, no_line, wrong_line, long_text}
@@ -52,14 +52,14 @@ module _ {t : List ℕ} {room : ℕ} where
       go (no f) (no g) = omega arith
 
 module _ {t page : List ℕ} {i : ℕ} {bs : List ℕ} where
-  stops : {s : Step} → EndsAs t page i bs s → Stops t (drawing_room page) i bs
+  stops : {s : Result ℕ Fault} → EndsAs t page i bs s → Stops t (drawing_room page) i bs
   stops (drawn h y l p) added w a = omega arith
   stops (no_line h y) added w a = omega arith
   stops (wrong_line v r) added w a = adds_or_not a r
   stops (long_text h l) added w a = omega arith
 
   -- a drawing is the count and the bytes, and no more
-  its_bytes : {s : Step} {at : ℕ} → s ≡ Done at → EndsAs t page i bs s → take at page ≡ big_endian (length bs) ++ bs
+  its_bytes : {s : Result ℕ Fault} {at : ℕ} → s ≡ Ok at → EndsAs t page i bs s → take at page ≡ big_endian (length bs) ++ bs
   its_bytes {at = at} d (drawn {at = k} h y l p) =
       let same : k ≡ at = cc in
       subst (λ (x : ℕ). take x page ≡ big_endian (length bs) ++ bs) same p
@@ -71,9 +71,9 @@ long_as : (page bs : List ℕ) (at : ℕ) → at ≤ length page → take at pag
     → at ≡ 4 + length bs
 long_as page bs at h e = omega (arith, length-take-le at page h, ap length e, length-append (big_endian (length bs)) bs)
 
-one_way : {t page page' : List ℕ} {i : ℕ} {bs : List ℕ} {s u : Step} → length page ≡ length page'
+one_way : {t page page' : List ℕ} {i : ℕ} {bs : List ℕ} {s u : Result ℕ Fault} → length page ≡ length page'
     → EndsAs t page i bs s → EndsAs t page' i bs u → s ≡ u
-one_way {bs = bs} z (drawn h y l p) (drawn g x m q) = ap Done (long_as _ bs _ l p ∙ sym (long_as _ bs _ m q))
+one_way {bs = bs} z (drawn h y l p) (drawn g x m q) = ap Ok (long_as _ bs _ l p ∙ sym (long_as _ bs _ m q))
 one_way z (drawn h y l p) (no_line g x) = absurd (y x)
 one_way z (drawn h y l p) (wrong_line v r) = absurd (omega arith)
 one_way z (drawn h y l p) (long_text g m) = absurd (omega arith)
@@ -84,7 +84,7 @@ one_way z (no_line h y) (long_text g m) = absurd (omega arith)
 one_way z (wrong_line w r) (drawn g x m q) = absurd (omega arith)
 one_way z (wrong_line w r) (no_line g x) = absurd (omega arith)
 one_way {t} {i = i} {bs = bs} z (wrong_line {f = f} w r) (wrong_line v q) =
-    ap Wrong (refused_unique (subst (λ (x : ℕ). LineRefused (line_at t i) (length bs) (x - 4) f) z r) q)
+    ap Err (refused_unique (subst (λ (x : ℕ). LineRefused (line_at t i) (length bs) (x - 4) f) z r) q)
 one_way z (wrong_line w r) (long_text g m) = absurd (omega arith)
 one_way z (long_text h l) (drawn g x m q) = absurd (omega arith)
 one_way z (long_text h l) (no_line g x) = absurd (omega arith)

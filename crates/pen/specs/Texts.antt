@@ -10,15 +10,13 @@
 --                        s says why
 --   Becomes t page r     the promise of `draw`: r is what became of the text t, and at which line; the page is that
 --                        after the call
-use Rattle.std.specs.Prelude.{◌≡◌, List, [], ◌++◌, ℕ, ◌+◌, ◌-◌, ◌<◌, ◌≤◌, length, take, drop}
+use Rattle.std.specs.Prelude.{Result, Ok, Err, ◌≡◌, List, [], ◌++◌, ℕ, ◌+◌, ◌-◌, ◌<◌, ◌≤◌, length, take, drop}
 use Rattle.text.specs.Pages.{big_endian}
 use Rattle.text.specs.Runs.{run, is_not}
 use Rattle.pen_line.specs.Lines.{spoken}
 use Rattle.pen_line.specs.Records.{drawing_room, LineAdds, LineRefused}
 use Rattle.pen_line.specs.declared.Fault.{Fault}
 use Rattle.pen_line.specs.declared.Fault.TheVariants.{NoStrip, LongText}
-use Rattle.pen_line.specs.declared.Step.{Step}
-use Rattle.pen_line.specs.declared.Step.TheVariants.{Done, Wrong}
 use Rattle.pen.specs.declared.Outcome.{Outcome}
 
 abbrev pub most_text : ℕ
@@ -40,13 +38,13 @@ pub data Told (t : List ℕ) (room : ℕ) : ℕ → ℕ → List ℕ → Type 0 
       → LineAdds (line_at t i) (length bs) room added → Told t room (n + 1) (line_end t i + 1) (bs ++ added)
 
 -- Of the page only the drawing is told: nothing else of it is ever written out.
-pub data EndsAs (t page : List ℕ) (i : ℕ) (bs : List ℕ) : Step → Type 0 where
+pub data EndsAs (t page : List ℕ) (i : ℕ) (bs : List ℕ) : Result ℕ Fault → Type 0 where
   drawn : {at : ℕ} → length t ≤ i → (length bs ≡ 0 → ⊥) → at ≤ length page → take at page ≡ big_endian (length bs) ++ bs
-      → EndsAs t page i bs (Done at)
-  no_line : length t ≤ i → length bs ≡ 0 → EndsAs t page i bs (Wrong NoStrip)
+      → EndsAs t page i bs (Ok at)
+  no_line : length t ≤ i → length bs ≡ 0 → EndsAs t page i bs (Err NoStrip)
   wrong_line : {f : Fault} → LineWithin t i → LineRefused (line_at t i) (length bs) (drawing_room page) f
-      → EndsAs t page i bs (Wrong f)
-  long_text : i < length t → most_text < line_end t i → EndsAs t page i bs (Wrong LongText)
+      → EndsAs t page i bs (Err f)
+  long_text : i < length t → most_text < line_end t i → EndsAs t page i bs (Err LongText)
 
 -- The text ends at the first line that is not taken, so that the faults of later ones are no outcome.
 pub record Becomes (t page : List ℕ) (r : Outcome) : Type 0 where

@@ -5,7 +5,7 @@ ghost use Rattle.std.specs.Prelude.{◌+◌, ◌≤◌, ◌≡◌, length};
 ghost use Rattle.pen.specs.Texts.{most_text, Becomes};
 ghost use Rattle.pen.specs.Workers.{Counted};
 
-use pen_line::{Fault, Step};
+use pen_line::Fault;
 
 // The longest text that is taken; a line end may follow it.
 const MOST_TEXT: usize = 524288;
@@ -14,19 +14,19 @@ const MOST_TEXT: usize = 524288;
 #[derive(Drop)]
 struct Outcome {
     line: usize,
-    step: Step,
+    step: Result<usize, Fault>,
 }
 
 // Puts the count of the bytes that follow it before a drawing.
-fn put_length(page: &mut [u8], at: usize) -> Step
+fn put_length(page: &mut [u8], at: usize) -> Result<usize, Fault>
     requires { (4 ≤ at) × (at ≤ length page.old) × (length page.old ≤ 65536) }
     ensures { Counted page.old page.new at result }
 {
     if at == 4 {
-        return Step::Wrong(Fault::NoStrip);
+        return Err(Fault::NoStrip);
     }
     text::put_bytes(page, 0, (at - 4) as u32);
-    Step::Done(at)
+    Ok(at)
 }
 
 // Draws a text into a page, line by line.
@@ -37,22 +37,23 @@ fn draw(text: &[u8], page: &mut [u8]) -> Outcome
     let mut at: usize = 4;
     let mut line: usize = 1;
     let mut from = 0;
+    // A while: a line is as long as it is, so that no range has the places where lines start.
     while from < text.len() {
         let end = text::find(text, from, b'\n');
         if MOST_TEXT < end {
             return Outcome {
                 line,
-                step: Step::Wrong(Fault::LongText),
+                step: Err(Fault::LongText),
             };
         }
         match pen_line::take_line(&text[from..end], page, at) {
-            Step::Done(next) => {
+            Ok(next) => {
                 at = next;
             }
-            Step::Wrong(fault) => {
+            Err(fault) => {
                 return Outcome {
                     line,
-                    step: Step::Wrong(fault),
+                    step: Err(fault),
                 };
             }
         }
@@ -84,15 +85,11 @@ fn run(rt: &HostRuntime, text: &mut [u8], page: &mut [u8])
         return;
     };
     let outcome = draw(&text[..count], page);
-    let line = outcome.line;
-    let step = outcome.step;
-    match step {
-        Step::Done(length) => {
+    match outcome.step {
+        Ok(length) => {
             streams::write(rt, &page[..length]);
         }
-        Step::Wrong(fault) => {
-            complain(rt, &text[..count], line, fault);
-        }
+        Err(fault) => complain(rt, &text[..count], outcome.line, fault),
     }
 }
 

@@ -8,7 +8,7 @@ use borrow.Author.Tests.{eqb-true, eqb-false}
 use lib.Dec.{eqb}
 use lib.ListN.{length, take, drop}
 use Rattle.decimal.specs.Decimals.{Reads}
-use Rattle.decimal.specs.declared.Reading.TheVariants.{Number, Nothing}
+use Rattle.std.specs.Prelude.{Some, None}
 use Rattle.text.specs.Pages.{Put, big_endian}
 use Rattle.text.specs.Runs.{run, is_not}
 use Rattle.text.proofs.Puts.{put_nothing, put_to, put_then}
@@ -27,18 +27,18 @@ begun_start l page i at h =
 
 module _ {l : List ℕ} {i n k at : ℕ} {before after : List ℕ} (b : Begun l i n k before after at) {s : ℕ} (p : s ≡ start_of l k) where
   module _ {e : ℕ} (q : e ≡ s + run (is_not 32) (drop s l)) where
-    pub begun_on : {bits r : ℕ} {next : List ℕ} → Reads (take (e - s) (drop s l)) (Number bits) → Put after next (at + n * 4) r (big_endian bits)
+    pub begun_on : {bits r : ℕ} {next : List ℕ} → Reads (take (e - s) (drop s l)) (Some bits) → Put after next (at + n * 4) r (big_endian bits)
         → Begun l i (n + 1) e before next at
     begun_on {bits} {r} {next} d w =
         record {
           bytes = b.bytes ++ big_endian bits;
           numerals = subst (λ (x : ℕ). Numerals l i (n + 1) x (b.bytes ++ big_endian bits)) (sym (end_is l k p q))
-              (one_more b.numerals (subst (λ (w : List ℕ). Reads w (Number bits)) (word_is l k p q) d));
+              (one_more b.numerals (subst (λ (w : List ℕ). Reads w (Some bits)) (word_is l k p q) d));
           put = put_to (at + (n + 1) * 4) (omega (arith, w.ends)) (put_then b.put w);
         }
 
-    pub stops : {m : ℕ} → n < m → Reads (take (e - s) (drop s l)) Nothing → NoNumerals l i m
-    stops h d = no_number h b.numerals (subst (λ (w : List ℕ). Reads w Nothing) (word_is l k p q) d)
+    pub stops : {m : ℕ} → n < m → Reads (take (e - s) (drop s l)) None → NoNumerals l i m
+    stops h d = no_number h b.numerals (subst (λ (w : List ℕ). Reads w None) (word_is l k p q) d)
 
   pub over : {m : ℕ} → n ≡ m → NumbersPut l i m before after at (eqb s (length l))
   over {m} z = subst (λ (x : ℕ). NumbersPut l i x before after at (eqb s (length l))) z (go (eqb s (length l)) refl)

@@ -14,7 +14,6 @@ use Rattle.whole.specs.Choice.{when◌then◌else◌}
 use Rattle.text.specs.Pages.{Put, big_endian}
 use Rattle.text.proofs.Puts.{put_unique}
 use Rattle.decimal.specs.Decimals.{Reads}
-use Rattle.decimal.specs.declared.Reading.TheVariants.{Number, Nothing}
 use Rattle.decimal.proofs.Unique.{reads_unique}
 use Rattle.pen_line.specs.Lines.{start_of, end_of, word, Numerals, none, one_more, NoNumerals, no_number, too_many}
 use Rattle.pen_line.specs.Lines.{Asks, strip, move, line, close, Record}
@@ -24,8 +23,7 @@ use Rattle.pen_line.specs.Laws.{OneStep}
 use Rattle.pen_line.specs.declared.Fault.{Fault}
 use Rattle.pen_line.specs.declared.Fault.TheVariants.{NoStrip, SecondStrip, UnknownWord, NotNumbers}
 use Rattle.pen_line.specs.declared.Fault.TheVariants.{LongDrawing}
-use Rattle.pen_line.specs.declared.Step.{Step}
-use Rattle.pen_line.specs.declared.Step.TheVariants.{Done, Wrong}
+use Rattle.std.specs.Prelude.{Result, Ok, Err, Some, None}
 
 -- ---- what a word asks for, by its first letter
 
@@ -52,9 +50,9 @@ not_blank close e = omega (arith, ap length e)
 
 -- ---- numbers
 
-pub number_or_not : {t : List ℕ} {bits : ℕ} → Reads t (Number bits) → Reads t Nothing → ⊥
+pub number_or_not : {t : List ℕ} {bits : ℕ} → Reads t (Some bits) → Reads t None → ⊥
 number_or_not {bits = bits} r s =
-    let e : Number bits ≡ Nothing = reads_unique r s in
+    let e : Some bits ≡ None = reads_unique r s in
     let z : ◌≡◌ {A = ℕ} 0 1 = cc in
     omega arith
 
@@ -66,8 +64,8 @@ module _ {l : List ℕ} {i : ℕ} where
   numerals_unique e (one_more p r) none = absurd (omega arith)
   numerals_unique e (one_more {bits = a} p r) (one_more {bits = b} q s) =
       let same = numerals_unique (omega arith) p q in
-      let here = subst (λ (x : ℕ). Reads (word l x) (Number a)) same.0 r in
-      let read : Number a ≡ Number b = reads_unique here s in
+      let here = subst (λ (x : ℕ). Reads (word l x) (Some a)) same.0 r in
+      let read : Some a ≡ Some b = reads_unique here s in
       let bits : a ≡ b = cc in
       (ap (end_of l) same.0, ap₂ (λ x y. x ++ big_endian y) same.1 bits)
 
@@ -77,12 +75,12 @@ module _ {l : List ℕ} {i : ℕ} where
 
   -- none of the first n words is no number
   all_numbers : {n m k j : ℕ} {bs cs : List ℕ} → Numerals l i n k bs → m < n → Numerals l i m j cs
-      → Reads (word l j) Nothing → ⊥
+      → Reads (word l j) None → ⊥
   all_numbers none h q s = omega arith
   all_numbers {m = m} (one_more {n = n} p r) h q s =
       let before : m ≤ n = omega arith in
       ⊎_elim
-      (λ e. number_or_not r (subst (λ (x : ℕ). Reads (word l x) Nothing) (numerals_unique e q p).0 s))
+      (λ e. number_or_not r (subst (λ (x : ℕ). Reads (word l x) None) (numerals_unique e q p).0 s))
       (λ h. all_numbers p h q s)
       (eq-or-lt_of_le before)
 
@@ -157,12 +155,12 @@ module _ {l : List ℕ} {n room : ℕ} where
 pub one_step : OneStep
 one_step l before after after' at r s p q = go p q
   where
-    go : {r s : Step} → LineTaken l before after at r → LineTaken l before after' at s
-        → (r ≡ s) × ((end : ℕ) → r ≡ Done end → after ≡ after')
+    go : {r s : Result ℕ Fault} → LineTaken l before after at r → LineTaken l before after' at s
+        → (r ≡ s) × ((end : ℕ) → r ≡ Ok end → after ≡ after')
     go (taken {end = end} a p) (taken b q) =
         let same = put_unique (subst (Put before after at end) (adds_unique a b) p) q in
-        (ap Done same.0, λ k d. same.1)
+        (ap Ok same.0, λ k d. same.1)
     go (taken a p) (refused r) = absurd (adds_or_not a r)
     go (refused r) (taken a p) = absurd (adds_or_not a r)
     go (refused r) (refused s) =
-        (ap Wrong (refused_unique r s), λ k d. absurd (let z : ◌≡◌ {A = ℕ} 0 1 = cc in omega arith))
+        (ap Err (refused_unique r s), λ k d. absurd (let z : ◌≡◌ {A = ℕ} 0 1 = cc in omega arith))

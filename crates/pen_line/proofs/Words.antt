@@ -1,25 +1,29 @@
 -- What a word asks for, where it stands, and where the words of a line end.
-use mathlib.Core.Path.{◌≡◌, refl, sym, ap, ◌∙◌, subst}
-use mathlib.Core.Bool.{Bool, true, false}
-use mathlib.Core.List.{List, [], ◌∷◌}
-use Prim.Native.Nat.{ℕ, ◌+◌, ◌-◌, ◌<◌, ◌≤◌}
+use mathlib.Core.Path.{◌≡◌, refl, sym, ap, ap₂, ◌∙◌, subst}
+use mathlib.Core.List.{List, [], ◌∷◌, ◌++◌}
+use Prim.Native.Nat.{ℕ, suc, ◌+◌, ◌-◌, ◌<◌, ◌≤◌}
 use native.Mathlib.Omega.{arith}
 use borrow.Author.Tests.{lt-ltb, le-ltb, eq-eqb, ne_eqb}
 use lib.Dec.{eqb}
-use lib.ListN.{length, get_or, take, drop, length-drop}
-use lib.Seq.{length-take-le}
-use Rattle.whole.specs.Choice.{when◌then◌else◌}
+use lib.ListN.{length, get_or, take, drop, drop_of_length-le, length-append, length-drop}
+use lib.Seq.{length-take-le, split_at, get_or-append_seam}
 use Rattle.whole.proofs.Comparisons.{tt_ff}
+use mathlib.Core.Bool.{Bool, true, false}
+use Rattle.std.specs.List.{ends_with}
+use Rattle.std.proofs.lemmas.Slice.Eq.{ends_is}
+use Rattle.std.proofs.lemmas.Bool.Decides.{Decides-eqb}
+use Rattle.whole.specs.Choice.{when◌then◌else◌}
 use Rattle.text.specs.Pages.{ascii}
 use Rattle.text.specs.Runs.{run, is_not}
 use Rattle.pen_line.specs.Lines.{start_of, end_of, word, Asks, strip, move, line, close, words_end}
 use Rattle.pen_line.specs.Workers.{AskedBy, known, unknown}
 use Rattle.pen_line.specs.declared.Asked.{Asked}
+use Rattle.std.specs.Prelude.{Option, Some, None}
 
 -- ---- what it asks for, by comparing
 
 module _ {w v : List ℕ} {t : Bool} (s : (t ≡ true → w ≡ v) × (w ≡ v → t ≡ true)) where
-  pub same : {b n : ℕ} → t ≡ true → Asks v b n → AskedBy w (record { first = b; count = n })
+  pub same : {b n : ℕ} → t ≡ true → Asks v b n → AskedBy w (Some (record { first = b; count = n }))
   same {b} {n} e a = known (subst (λ (x : List ℕ). Asks x b n) (sym (s.0 e)) a)
 
   pub other : t ≡ false → w ≡ v → ⊥
@@ -33,12 +37,6 @@ asks_none s m l c close = c refl
 
 -- ---- what is asked for
 
-first_not_zero : {w : List ℕ} {b n : ℕ} → Asks w b n → b ≡ 0 → ⊥
-first_not_zero strip e = omega arith
-first_not_zero move e = omega arith
-first_not_zero line e = omega arith
-first_not_zero close e = omega arith
-
 pub few_numbers : {w : List ℕ} {b n : ℕ} → Asks w b n → n ≤ 4
 few_numbers strip = omega arith
 few_numbers move = omega arith
@@ -51,13 +49,21 @@ the_strip move e = absurd (omega arith)
 the_strip line e = absurd (omega arith)
 the_strip close e = absurd (omega arith)
 
-pub nothing_asked : {w : List ℕ} {a : Asked} → AskedBy w a → a.first ≡ 0 → (b n : ℕ) → Asks w b n → ⊥
-nothing_asked (known q) e = absurd (first_not_zero q e)
-nothing_asked (unknown f) e = f
+pub nothing_asked : {w : List ℕ} → AskedBy w None → (b n : ℕ) → Asks w b n → ⊥
+nothing_asked {w} r = go refl r
+  where
+    go : {o : Option Asked} → o ≡ None → AskedBy w o → (b n : ℕ) → Asks w b n → ⊥
+    go e (known q) = absurd (let z : ◌≡◌ {A = ℕ} 0 1 = cc in omega arith)
+    go e (unknown f) = f
 
-pub is_asked : {w : List ℕ} {a : Asked} → AskedBy w a → (a.first ≡ 0 → ⊥) → Asks w a.first a.count
-is_asked (known q) h = q
-is_asked (unknown f) h = absurd (h refl)
+pub is_asked : {w : List ℕ} {a : Asked} → AskedBy w (Some a) → Asks w a.first a.count
+is_asked {w} {a} r = go refl r
+  where
+    go : {o : Option Asked} → o ≡ Some a → AskedBy w o → Asks w a.first a.count
+    go e (known {b = b} {n = n} q) =
+        let same : record { first = b; count = n } ≡ a = cc in
+        subst (λ (x : Asked). Asks w x.first x.count) same q
+    go e (unknown f) = absurd (let z : ◌≡◌ {A = ℕ} 0 1 = cc in omega arith)
 
 -- ---- where a word stands: from s to e
 
@@ -100,9 +106,22 @@ module _ (l : List ℕ) (e : ℕ) (p : e ≡ 0 + run (is_not 35) (drop 0 l)) whe
     pub no_return : (get_or l (e - 1) 0 ≡ 13 → ⊥) → e ≡ words_end l
     no_return r = all ∙ sym (no_comment ∙ rw (ne_eqb _ 13 (λ z. r (ap (λ (x : ℕ). get_or l (x - 1) 0) all ∙ z))) refl)
 
-    pub nothing_there : e ≡ 0 → 0 ≡ words_end l
-    nothing_there z = sym z ∙ no_return (λ r. empty l (sym all ∙ z) (ap (λ (x : ℕ). get_or l (x - 1) 0) (sym z) ∙ r))
-      where
-        empty : (m : List ℕ) → length m ≡ 0 → get_or m (0 - 1) 0 ≡ 13 → ⊥
-        empty [] n r = omega arith
-        empty (b ∷ m) n r = omega arith
+-- ---- a line that ends with a carriage return
+
+pub last_return : {l : List ℕ} (front : List ℕ) → l ≡ front ++ 13 ∷ [] → get_or l (length l - 1) 0 ≡ 13
+last_return {l} front e =
+    let k : length l - 1 ≡ length front = omega (arith, ap length e, length-append front (13 ∷ [])) in
+    ap₂ (λ x i. get_or x i 0) e k ∙ get_or-append_seam front 13 [] 0
+
+pub return_last : (l : List ℕ) → get_or l (length l - 1) 0 ≡ 13 → l ≡ take (length l - 1) l ++ 13 ∷ []
+return_last [] r = absurd (omega (arith, r))
+return_last (b ∷ l) r =
+    let n = length (b ∷ l) - 1 in
+    split_at (b ∷ l) n 0 (omega arith) ∙ ap₂ (λ x y. take n (b ∷ l) ++ x ∷ y) r (let past : length (b ∷ l) ≤ suc n = omega arith in drop_of_length-le (b ∷ l) past)
+
+module _ (l : List ℕ) {r : Bool} (e : r ≡ ends_with eqb l (13 ∷ [])) where
+  pub with_return : r ≡ true → get_or l (length l - 1) 0 ≡ 13
+  with_return t = last_return _ ((ends_is Decides-eqb l (13 ∷ []) r e).0 t)
+
+  pub without_return : r ≡ false → get_or l (length l - 1) 0 ≡ 13 → ⊥
+  without_return f q = tt_ff (sym ((ends_is Decides-eqb l (13 ∷ []) r e).1 _ (return_last l q)) ∙ f)

@@ -10,12 +10,11 @@
 --   words_end l            the answer of `words_end`: where the words of l end, at a comment, or at a carriage return
 --                         that ends the line
 --   spoken l              l up to there
-use Rattle.std.specs.Prelude.{◌≡◌, List, [], ◌++◌, ℕ, ◌+◌, ◌-◌, ◌<◌, eqb, ltb, length, get_or, take, drop}
+use Rattle.std.specs.Prelude.{◌≡◌, Some, None, List, [], ◌++◌, ℕ, ◌+◌, ◌-◌, ◌<◌, eqb, ltb, length, get_or, take, drop}
 use Rattle.whole.specs.Choice.{when◌then◌else◌}
 use Rattle.text.specs.Pages.{ascii, big_endian}
 use Rattle.text.specs.Runs.{run, is, is_not}
 use Rattle.decimal.specs.Decimals.{Reads}
-use Rattle.decimal.specs.declared.Reading.TheVariants.{Number, Nothing}
 
 -- ---- words
 
@@ -33,12 +32,12 @@ word l i = take (end_of l i - start_of l i) (drop (start_of l i) l)
 -- Word by word from the left, as they are read: each starts where the one before it ends.
 pub data Numerals (l : List ℕ) (i : ℕ) : ℕ → ℕ → List ℕ → Type 0 where
   none : Numerals l i 0 i []
-  one_more : {n k bits : ℕ} {bs : List ℕ} → Numerals l i n k bs → Reads (word l k) (Number bits)
+  one_more : {n k bits : ℕ} {bs : List ℕ} → Numerals l i n k bs → Reads (word l k) (Some bits)
       → Numerals l i (n + 1) (end_of l k) (bs ++ big_endian bits)
 
 -- The first word that is no number shows it; the words before it are numbers.
 pub data NoNumerals (l : List ℕ) (i n : ℕ) : Type 0 where
-  no_number : {m k : ℕ} {bs : List ℕ} → m < n → Numerals l i m k bs → Reads (word l k) Nothing → NoNumerals l i n
+  no_number : {m k : ℕ} {bs : List ℕ} → m < n → Numerals l i m k bs → Reads (word l k) None → NoNumerals l i n
   too_many : {k : ℕ} {bs : List ℕ} → Numerals l i n k bs → (start_of l k ≡ length l → ⊥) → NoNumerals l i n
 
 -- ---- records

@@ -6,13 +6,11 @@
 --   LineRefused l n room f  the line l is not taken there, and f says why
 --   LineTaken l before after at r   the promise of `take_words`, and for what a line says that of `take_line`: what l
 --                           adds is put into the page, or r says why it is not taken. A drawing starts at the place 4
-use Rattle.std.specs.Prelude.{◌≡◌, List, [], ◌∷◌, ℕ, ◌+◌, ◌-◌, ◌*◌, ◌<◌, ◌≤◌, length}
+use Rattle.std.specs.Prelude.{◌≡◌, Result, Ok, Err, List, [], ◌∷◌, ℕ, ◌+◌, ◌-◌, ◌*◌, ◌<◌, ◌≤◌, length}
 use Rattle.text.specs.Pages.{Put}
 use Rattle.pen_line.specs.Lines.{word, end_of, NoNumerals, Asks, Record}
 use Rattle.pen_line.specs.declared.Fault.{Fault}
 use Rattle.pen_line.specs.declared.Fault.TheVariants.{NoStrip, SecondStrip, UnknownWord, NotNumbers, LongDrawing}
-use Rattle.pen_line.specs.declared.Step.{Step}
-use Rattle.pen_line.specs.declared.Step.TheVariants.{Done, Wrong}
 
 abbrev pub drawing_room : List ℕ → ℕ
 drawing_room page = length page - 4
@@ -37,7 +35,7 @@ pub data LineRefused (l : List ℕ) (n room : ℕ) : Fault → Type 0 where
       → LineRefused l n room (NotNumbers k)
 
 -- A page in which a line was refused is not read again, so nothing is said of it.
-pub data LineTaken (l before after : List ℕ) (at : ℕ) : Step → Type 0 where
+pub data LineTaken (l before after : List ℕ) (at : ℕ) : Result ℕ Fault → Type 0 where
   taken : {end : ℕ} {bs : List ℕ} → LineAdds l (at - 4) (drawing_room before) bs → Put before after at end bs
-      → LineTaken l before after at (Done end)
-  refused : {f : Fault} → LineRefused l (at - 4) (drawing_room before) f → LineTaken l before after at (Wrong f)
+      → LineTaken l before after at (Ok end)
+  refused : {f : Fault} → LineRefused l (at - 4) (drawing_room before) f → LineTaken l before after at (Err f)

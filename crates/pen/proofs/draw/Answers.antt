@@ -9,16 +9,16 @@ loop-from-init c = (omega arith, omega arith, going_start _ _ c.requires.0)
 pub returns-then-end-gt-MOST_TEXT : goal.returns-then-end-gt-MOST_TEXT
 returns-then-end-gt-MOST_TEXT c = too_long c.loop-from.invariant.2 c.loop-from-test.true c.find-end.ensures.value (omega arith)
 
-pub returns-in-Wrong : goal.returns-in-Wrong
-returns-in-Wrong c =
-    stopped c.loop-from.invariant.2 c.loop-from-test.true c.find-end.ensures.value (omega arith) c.in-Wrong.is c.take_line.auto.page
+pub returns-in-Err : goal.returns-in-Err
+returns-in-Err c =
+    stopped c.loop-from.invariant.2 c.loop-from-test.true c.find-end.ensures.value (omega arith) c.in-Err.is c.take_line.auto.page
     c.take_line.ensures
 
 pub loop-from-preserved : goal.loop-from-preserved
 loop-from-preserved c = (
   omega arith,
   omega arith,
-  going_on c.loop-from.invariant.2 c.loop-from-test.true c.find-end.ensures.value (omega arith) c.in-Done.is c.take_line.ensures,
+  going_on c.loop-from.invariant.2 c.loop-from-test.true c.find-end.ensures.value (omega arith) c.in-Ok.is c.take_line.ensures,
 )
 
 pub returns : goal.returns
