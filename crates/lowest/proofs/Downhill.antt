@@ -60,20 +60,23 @@ module _ {r : List Point} (g : Ring r) where
   pub falls_first : Fell r 0
   falls_first = record { inside = let l = g.three in omega arith; below = λ k h b. b; fell = λ h e. absurd (omega arith) }
 
-  pub falls_on : {i : ℕ} → Fell r i → i + 1 < length r → Before (at r (i + 1)) (at r i) → Fell r (i + 1)
-  falls_on {i} s l b = record {
+  pub falls_on : {i j : ℕ} → suc i ≡ j → Fell r i → j < length r → Before (at r j) (at r i) → Fell r j
+  falls_on {i} {j} e s l b = record {
     inside = l;
     below = below_more s.inside l b s.below;
-    fell = λ h e c. let m : h ≡ i = omega arith in before_asym b (subst (λ (k : ℕ). Before (at r k) (at r (i + 1))) m c);
+    fell = λ h p c. let m : h ≡ i = omega arith in before_asym b (subst (λ (k : ℕ). Before (at r k) (at r j)) m c);
   }
 
-  pub falls_no_more : {i : ℕ} → Fell r i → (i + 1 < length r → Before (at r (i + 1)) (at r i) → ⊥) → Forward r i
-  falls_no_more {i = zero} s f = stays (f (let l = g.three in omega arith))
-  falls_no_more {i = suc h} s f = moves {k = suc h} (omega arith) (record { inside = s.inside; least = go (dec_lt (suc h + 1) (length r)) })
+  stops : {i : ℕ} → Fell r i → (suc i < length r → Before (at r (suc i)) (at r i) → ⊥) → Forward r i
+  stops {i = zero} s f = stays (f (let l = g.three in omega arith))
+  stops {i = suc h} s f = moves {k = suc h} (omega arith) (record { inside = s.inside; least = go (dec_lt (suc (suc h)) (length r)) })
     where
-      go : Dec (suc h + 1 < length r) → (j : ℕ) → j < length r → Before (at r j) (at r (suc h)) → ⊥
-      go (yes l) = valley g (along s.inside) (ahead l) (s.fell h refl) (f l)
+      go : Dec (suc (suc h) < length r) → (j : ℕ) → j < length r → Before (at r j) (at r (suc h)) → ⊥
+      go (yes l) = valley g (along s.inside) (along l) (s.fell h refl) (f l)
       go (no l) = valley g (along s.inside) (closing (let m = s.inside in omega arith)) (s.fell h refl) (λ b. let c = s.below 0 (omega arith) b in before_asym c c)
+
+  pub falls_no_more : {i j : ℕ} → suc i ≡ j → Fell r i → (j < length r → Before (at r j) (at r i) → ⊥) → Forward r i
+  falls_no_more {i} e s f = stops s (subst (λ (j : ℕ). j < length r → Before (at r j) (at r i) → ⊥) (sym e) f)
 
   -- ---- back
   pub back_first : {j : ℕ} → suc j ≡ length r → Forward r 0 → FellBack r 0 j
@@ -81,14 +84,6 @@ module _ {r : List Point} (g : Ring r) where
   back_first e (moves l s) = absurd (omega arith)
 
   module _ {i j : ℕ} (s : FellBack r i j) where
-    -- the walk is not round
-    pub back_more : Before (at r j) (at r i) → 0 < j
-    back_more b = go j refl
-      where
-        go : (k : ℕ) → k ≡ j → 0 < j
-        go zero e = let c = s.below 0 (let l = g.three in omega arith) (subst (λ (k : ℕ). Before (at r k) (at r i)) (omega arith) b) in absurd (before_asym c c)
-        go (suc k) e = omega arith
-
     pub back_on : {h : ℕ} → suc h ≡ j → Before (at r j) (at r i) → FellBack r j h
     back_on {h} e b =
         let l = ends_inside s.comes in
@@ -102,3 +97,7 @@ module _ {r : List Point} (g : Ring r) where
 
     pub back_no_more : (Before (at r j) (at r i) → ⊥) → LowestIn r i
     back_no_more f = record { inside = (ends_inside s.leads).0; least = valley g s.comes s.leads f s.fell }
+
+  -- at the last corner before the first: that one does not come before
+  pub back_round : {i : ℕ} → FellBack r i 0 → LowestIn r i
+  back_round s = back_no_more s (λ b. let c = s.below 0 (let l = g.three in omega arith) b in before_asym c c)

@@ -1,12 +1,57 @@
-// The lowest corner of a ring that stands in a memory, four numbers a corner: down from the first corner, whichever way that is.
+// The lowest corner of a ring: down from the first corner, whichever way that is. Where the corners stand, and how two of them are compared,
+// says the test that a caller hands over. Here too: a ring that stands in a memory, four numbers a corner.
 #![tactic(auto)]
 
-ghost use Rattle.std.specs.Prelude.{◌+◌, ◌*◌, ◌≤◌, length};
+ghost use Rattle.std.specs.Prelude.{List, ℕ, ◌+◌, ◌*◌, ◌<◌, ◌≤◌, length};
 ghost use Rattle.whole.specs.Choice.{Decides};
-ghost use Rattle.rings.specs.Points.{Before};
+ghost use Rattle.rings.specs.Points.{Point, Before};
 ghost use Rattle.rings.specs.Rings.{Ring};
 ghost use Rattle.memory.specs.Memory.{point_in, ring_in};
-ghost use Rattle.lowest.specs.Lowest.{LowestIn, Forward};
+ghost use Rattle.lowest.specs.Lowest.{LowestIn, Forward, Told};
+
+// The place to which the walk forward from the first of n corners comes down: it goes on while the next corner comes before.
+fn down_forward<F: Fn(usize, usize) -> bool>(n: usize, before: &F) -> usize
+    requires n_nonzero { 0 < n }
+    requires asked { (i j : ℕ) → i < n → j < n → F.pre before.now i j }
+    ensures { (r : List Point) → Told n (F.post before.now) r → Forward r result }
+{
+    for i in 1..n {
+        if !before(i, i - 1) {
+            return i - 1;
+        }
+    }
+    n - 1
+}
+
+// The place to which the walk back from the first of n corners comes down, where the walk forward stays.
+fn down_back<F: Fn(usize, usize) -> bool>(n: usize, before: &F) -> usize
+    requires n_nonzero { 0 < n }
+    requires asked { (i j : ℕ) → i < n → j < n → F.pre before.now i j }
+    ensures { (r : List Point) → Told n (F.post before.now) r → Forward r 0 → LowestIn r result }
+{
+    let mut i = 0;
+    for j in (1..n).rev() {
+        if !before(j, i) {
+            return i;
+        }
+        i = j;
+    }
+    i
+}
+
+// The place of the lowest of the n corners of a ring, of those the leftmost, by a test that tells which of two comes before the other: down from
+// the first, whichever way that is.
+pub fn lowest_by<F: Fn(usize, usize) -> bool>(n: usize, before: F) -> usize
+    requires n_nonzero { 0 < n }
+    requires asked { (i j : ℕ) → i < n → j < n → F.pre before i j }
+    ensures { (r : List Point) → Told n (F.post before) r → LowestIn r result }
+{
+    let i = down_forward(n, &before);
+    if i == 0 {
+        return down_back(n, &before);
+    }
+    i
+}
 
 // Whether the corner at place i lies lower than that at place j, or as low and further left.
 fn comes_before(m: &[i32], i: usize, j: usize) -> bool
@@ -26,44 +71,11 @@ fn comes_before(m: &[i32], i: usize, j: usize) -> bool
     a < b
 }
 
-// The place to which the walk forward from the first corner comes down: it goes on while the next corner comes before.
-fn down_forward(m: &[i32], n: usize) -> usize
-    requires n_in_bounds { 4 * n ≤ length m.now }
-    requires ring { Ring (ring_in m.now n) }
-    ensures { Forward (ring_in m.now n) result }
-{
-    let mut i = 0;
-    while i + 1 < n && comes_before(m, i + 1, i) {
-        i += 1;
-    }
-    i
-}
-
-// The place to which the walk back from the first corner comes down, where the walk forward stays.
-fn down_back(m: &[i32], n: usize) -> usize
-    requires n_in_bounds { 4 * n ≤ length m.now }
-    requires ring { Ring (ring_in m.now n) }
-    requires forward { Forward (ring_in m.now n) 0 }
-    ensures { LowestIn (ring_in m.now n) result }
-{
-    let mut i = 0;
-    let mut j = n - 1;
-    while comes_before(m, j, i) {
-        i = j;
-        j -= 1;
-    }
-    i
-}
-
 // The place of the lowest of the first n corners, of those the leftmost: down from the first, whichever way that is.
 pub fn lowest_corner(m: &[i32], n: usize) -> usize
     requires n_in_bounds { 4 * n ≤ length m.now }
     requires ring { Ring (ring_in m.now n) }
     ensures { LowestIn (ring_in m.now n) result }
 {
-    let i = down_forward(m, n);
-    if i == 0 {
-        return down_back(m, n);
-    }
-    i
+    lowest_by(n, |i, j| comes_before(m, i, j))
 }

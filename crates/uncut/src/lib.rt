@@ -1,5 +1,5 @@
-// An outline that lies in the window whole: its own corners, four numbers each. The walk down is that of `lowest`, but it compares the corners'
-// numbers as they are, without products: so it stands here once more.
+// An outline that lies in the window whole: its own corners, four numbers each. The lowest is found by comparing the corners' numbers as they are,
+// without products.
 #![tactic(auto)]
 
 ghost use Rattle.std.specs.Prelude.{◌≡◌, ◌+◌, ◌*◌, ◌%◌, ◌≤◌, length};
@@ -7,7 +7,7 @@ ghost use Rattle.whole.specs.Choice.{Decides};
 ghost use Rattle.rings.specs.Points.{Before};
 ghost use Rattle.rings.specs.Rings.{Ring};
 ghost use Rattle.convex.specs.Corners.{corners_of};
-ghost use Rattle.lowest.specs.Lowest.{LowestIn, Forward};
+ghost use Rattle.lowest.specs.Lowest.{LowestIn};
 ghost use Rattle.writing.specs.Writing.{Wrote, GaveRing};
 ghost use Rattle.uncut.specs.Uncut.{own_corner};
 
@@ -27,44 +27,12 @@ fn comes_before(c: &[i32], i: usize, j: usize) -> bool
     y < v
 }
 
-// The corner to which the walk forward from the first comes down: it goes on while the next corner comes before.
-fn down_forward(c: &[i32]) -> usize
-    requires { Ring (corners_of c.now) }
-    ensures { Forward (corners_of c.now) result }
-{
-    let n = c.len() / 2;
-    let mut i = 0;
-    while i + 1 < n && comes_before(c, i + 1, i) {
-        i += 1;
-    }
-    i
-}
-
-// The corner to which the walk back from the first comes down, where the walk forward stays.
-fn down_back(c: &[i32]) -> usize
-    requires ring { Ring (corners_of c.now) }
-    requires forward { Forward (corners_of c.now) 0 }
-    ensures { LowestIn (corners_of c.now) result }
-{
-    let mut i = 0;
-    let mut j = c.len() / 2 - 1;
-    while comes_before(c, j, i) {
-        i = j;
-        j -= 1;
-    }
-    i
-}
-
-// The place of the lowest corner, of those the leftmost: down from the first, whichever way that is.
+// The place of the lowest corner, of those the leftmost.
 fn lowest_corner(c: &[i32]) -> usize
     requires { Ring (corners_of c.now) }
     ensures { LowestIn (corners_of c.now) result }
 {
-    let i = down_forward(c);
-    if i == 0 {
-        return down_back(c);
-    }
-    i
+    lowest::lowest_by(c.len() / 2, |i, j| comes_before(c, i, j))
 }
 
 // Writes x 1 y 1 for each corner, from the front of out.
@@ -73,17 +41,13 @@ fn write_corners(c: &[i32], out: &mut [i32])
     requires c_in_bounds { 2 * length c.now ≤ length out.old }
     ensures { Wrote (corners_of c.now) out.old out.new }
 {
-    let mut i = 0;
-    let mut k = 0;
-    while i < c.len() {
-        let x = c[i];
-        let y = c[i + 1];
-        out[k] = x;
-        out[k + 1] = 1;
-        out[k + 2] = y;
-        out[k + 3] = 1;
-        i += 2;
-        k += 4;
+    for i in 0..c.len() / 2 {
+        let x = c[2 * i];
+        let y = c[2 * i + 1];
+        out[4 * i] = x;
+        out[4 * i + 1] = 1;
+        out[4 * i + 2] = y;
+        out[4 * i + 3] = 1;
     }
 }
 
