@@ -4,11 +4,9 @@ use mathlib.Core.List.{List, [], ◌∷◌, ◌++◌}
 use Prim.Native.Nat.{ℕ, zero, suc, ◌+◌, ◌-◌, ◌*◌, ◌%◌, ◌≤◌, ◌<◌}
 use native.Mathlib.Numerals.{towards_suc}
 use native.Mathlib.Omega.{arith}
-use lib.IntN.{ℤ, pos, ◌*ℤ◌}
+use lib.IntN.{ℤ, pos}
 use lib.ListN.{length, get_or, take, drop, length-drop, drop_of_length-le}
 use lib.Seq.{take_all, length-take-le, drop-cons, sets}
-use Rattle.whole.proofs.Expressions.{con, ◌⊗◌, x0}
-use Rattle.whole.proofs.Polynomials.{ring}
 use Rattle.fraction.specs.Fraction.{LowestOf}
 use Rattle.fraction.proofs.LowestTerms.{lowest_over_one}
 use Rattle.grid.proofs.Fill.{Filled, filled_put}
@@ -60,9 +58,6 @@ module _ (zs : List ℤ) (i : ℕ) where
   none_due h = rw drop_of_length-le
 
 -- ---- the corners by their places
-pub times_one : (z : ℤ) → z *ℤ pos 1 ≡ z
-times_one z = ring (z ∷ []) (x0 ⊗ con (pos 1)) x0 tt
-
 pub two_a_corner : (zs : List ℤ) {k : ℕ} → k < length (corners_of zs) → 2 * k + 2 ≤ length zs
 two_a_corner zs h = omega (arith, count zs)
 

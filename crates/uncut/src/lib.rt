@@ -30,7 +30,8 @@ fn comes_before(c: &[i32], i: usize, j: usize) -> bool
 // The place of the lowest corner, of those the leftmost.
 fn lowest_corner(c: &[i32]) -> usize
     requires { Ring (corners_of c.now) }
-    ensures { LowestIn (corners_of c.now) result }
+    ensures inside { 2 * result + 2 ≤ length c.now }
+    ensures lowest { LowestIn (corners_of c.now) result }
 {
     lowest::lowest_by(c.len() / 2, |i, j| comes_before(c, i, j))
 }

@@ -4,16 +4,17 @@ use Rattle.whole.specs.Choice.{Decides}
 use Rattle.rings.specs.Points.{Before}
 use Rattle.convex.specs.Corners.{corners_of}
 use Rattle.convex.proofs.Places.{count}
+use Rattle.lowest.specs.Lowest.{LowestIn}
 use Rattle.lowest.proofs.Downhill.{decides_same}
 use Rattle.uncut.specs.Uncut.{own_corner}
-use Rattle.uncut.proofs.OwnCorners.{own_at}
+use Rattle.uncut.proofs.OwnCorners.{own_at, two_a_corner}
 use Rattle.uncut.proofs.lowest_corner.Goals as goal
 
 pub lowest_by-requires-clause-n_nonzero : goal.lowest_by-requires-clause-n_nonzero
 lowest_by-requires-clause-n_nonzero c = let three = c.requires.three in omega (arith, count c.args.c.now)
 
-pub returns : goal.returns
-returns c =
+lowest : (c : goal.After-lowest_by) → LowestIn (corners_of c.args.c.now) c.lowest_by.result
+lowest c =
     let zs = c.args.c.now in
     let n = count zs in
     c.lowest_by.ensures (corners_of zs) (record {
@@ -23,3 +24,9 @@ returns c =
           let t : Decides b (Before (own_corner zs i) (own_corner zs j)) = search rules in
           decides_same (own_at zs (omega arith)) (own_at zs (omega arith)) t;
     })
+
+pub returns-clause-inside : goal.returns-clause-inside
+returns-clause-inside c = two_a_corner c.args.c.now (lowest c).inside
+
+pub returns-clause-lowest : goal.returns-clause-lowest
+returns-clause-lowest c = lowest c
