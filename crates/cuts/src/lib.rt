@@ -5,45 +5,21 @@
 ghost use Rattle.std.specs.Prelude.{◌≡◌, ◌≤◌};
 ghost use Rattle.grid.specs.Table.{WindowOnTable, StrokeOnTable};
 ghost use Rattle.strokes.specs.Workers.{Reaching};
-ghost use Rattle.cuts.specs.Cuts.{touches_at, no_cut, part_cut, CutIs, SaysGiven};
+ghost use Rattle.cuts.specs.Cuts.{touches_at, part_between, CutIs, SaysGiven};
 
 use grid::{Stroke, Window};
 use strokes::plain::Plainly;
 use strokes::{End, ends, plain, ways};
 
-// What is given of a stroke: its two points, rounded to the grid.
-#[derive(Clone, Copy)]
-pub struct Cut {
-    pub given: bool,
-    pub ax: i32,
-    pub ay: i32,
-    pub bx: i32,
-    pub by: i32,
-}
-
-// Nothing is given.
-fn nothing() -> Cut
-    ensures { result ≡ no_cut }
+// The part of a stroke from a to b.
+fn part(a: End, b: End) -> Stroke
+    ensures { result ≡ part_between a b }
 {
-    Cut {
-        given: false,
-        ax: 0,
-        ay: 0,
-        bx: 0,
-        by: 0,
-    }
-}
-
-// The part from a to b is given.
-fn part(a: End, b: End) -> Cut
-    ensures { result ≡ part_cut a b }
-{
-    Cut {
-        given: true,
-        ax: a.x,
-        ay: a.y,
-        bx: b.x,
-        by: b.y,
+    Stroke {
+        x1: a.x,
+        y1: a.y,
+        x2: b.x,
+        y2: b.y,
     }
 }
 
@@ -54,9 +30,9 @@ pub fn least_of(touches: bool) -> u32
     if touches { 0 } else { 1 }
 }
 
-// What is given of a stroke that is not plainly in or out; `least` is as `least_of` has it. The way of y comes first, and the end before the start:
-// so the compiler has more registers free.
-pub fn cut_stroke(w: Window, s: Stroke, least: u32) -> Cut
+// The part that is given of a stroke that is not plainly in or out, if any is; `least` is as `least_of` has it. The way of y comes first, and the end
+// before the start: so the compiler has more registers free.
+pub fn cut_stroke(w: Window, s: Stroke, least: u32) -> Option<Stroke>
     requires window_on_table { WindowOnTable w }
     requires stroke_on_table { StrokeOnTable s }
     requires reaching { Reaching w s }
@@ -66,11 +42,11 @@ pub fn cut_stroke(w: Window, s: Stroke, least: u32) -> Cut
     let y = ways::passage(w.bottom, w.top, s.y1, s.y2);
     let x = ways::passage(w.left, w.right, s.x1, s.x2);
     if ways::apart(y, x, least) {
-        return nothing();
+        return None;
     }
     let b = ends::finish(s, x, y);
     let a = ends::start(s, x, y);
-    part(a, b)
+    Some(part(a, b))
 }
 
 // Whether the stroke is given, where `touches` says whether a touch is; no point is computed.
