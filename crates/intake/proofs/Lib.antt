@@ -4,4 +4,5 @@ mod Sum
 pub mod Outcome
 mod Ways
 pub mod Answers
+pub mod Places
 pub mod Theorems

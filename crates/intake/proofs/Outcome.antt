@@ -3,6 +3,7 @@ use mathlib.Core.Path.{◌≡◌, refl, sym, ap, ◌∙◌}
 use mathlib.Core.Bool.{Bool, true, false, ◌&&◌}
 use Prim.Native.Nat.{ℕ, zero, suc, ◌*◌, ◌^◌}
 use native.Mathlib.Nat.{lt_of_le_of_lt}
+use Rattle.std.specs.Prelude.{Result, Ok}
 use lib.Dec.{leb, leb-suc-suc, lit<}
 use lib.IntN.{ℤ, pos}
 use lib.Ieee.{Float, nan, inf, fin, up, down}
@@ -19,14 +20,13 @@ use Rattle.grid.proofs.Ranges.{on_within}
 use Rattle.whole.specs.Choice.{when◌then◌else◌}
 use Rattle.grid.specs.Table.{on_table, farthest}
 use Rattle.grid.specs.Refusals.{not_a_number, too_far}
-use Rattle.intake.specs.declared.Coordinate.{Coordinate}
 use Rattle.intake.specs.Millimetres.{signed, GridNumber, nearest, Taken, no_number, infinite, off_range, on_range, faulty, accepted}
 
 -- 32 * m * 2 ^ e to the nearest whole number
 abbrev pub steps : ℕ → ℤ → ℕ
 steps m e = closest (m * up e * 32) (down e)
 
-unfoldable pub outcome : Float → Coordinate
+unfoldable pub outcome : Float → Result ℤ ℕ
 outcome nan = faulty not_a_number
 outcome (inf s) = faulty too_far
 outcome (fin s m e) = when leb (steps m e) farthest then accepted (signed s (steps m e)) else faulty too_far
@@ -57,7 +57,7 @@ pub decided : (s : Bool) (m : ℕ) (e : ℤ) {b : Bool} → leb (steps m e) fart
 unfolding outcome
 decided s m e h = ap (λ (b : Bool). when b then accepted (signed s (steps m e)) else faulty too_far) h
 
-pub taken_is : {x : Float} {o : Coordinate} → Taken x o → o ≡ outcome x
+pub taken_is : {x : Float} {o : Result ℤ ℕ} → Taken x o → o ≡ outcome x
 unfolding outcome
 taken_is no_number = refl
 taken_is (infinite s) = refl
@@ -77,14 +77,10 @@ taken (fin s m e) = go (leb (steps m e) farthest) (signed_on s (steps m e))
     go true h = on_range g h
     go false h = off_range g h
 
--- a grid number that is given is on the table, and so is the 0 of a refusal
-pub taken_on : {x : Float} {o : Coordinate} → Taken x o → on_table o.grid ≡ true
-unfolding on_table
-taken_on no_number = refl
-taken_on (infinite s) = refl
-taken_on (off_range n h) = refl
+-- a grid number that is given is on the table
+pub taken_on : {x : Float} {g : ℤ} → Taken x (Ok g) → on_table g ≡ true
 taken_on (on_range n h) = h
 
 -- so the machine reads it back as it is
-pub read_back : {x : Float} {o : Coordinate} → Taken x o → to_z w32 (of_z w32 o.grid) ≡ o.grid
-read_back {o = o} t = to_z-of_z {w = w32} (fits_abs (lt_of_le_of_lt (within_abs (on_within o.grid (taken_on t))) (lit< {m = 16383} {n = 2 ^ 31} tt)))
+pub read_back : {x : Float} {g : ℤ} → Taken x (Ok g) → to_z w32 (of_z w32 g) ≡ g
+read_back {g = g} t = to_z-of_z {w = w32} (fits_abs (lt_of_le_of_lt (within_abs (on_within g (taken_on t))) (lit< {m = 16383} {n = 2 ^ 31} tt)))

@@ -4,22 +4,19 @@
 --   point_there_and_back, window_there_and_back   there and back, by `round_trip` for each number
 --   point_on_table, window_on_table   the numbers of an answer are on the table
 use mathlib.Core.Path.{◌≡◌, refl, sym, ap, ◌∙◌, subst}
-use mathlib.Core.Bool.{Bool, true, false, not}
+use mathlib.Core.Bool.{true, not}
 use Prim.Native.Nat.{ℕ, ◌*◌}
 use native.Mathlib.Nat.{zero-lt-suc}
-use lib.Dec.{eqb}
+use Rattle.std.specs.Prelude.{Result, Ok, Err}
 use lib.IntN.{ℤ, pos, negsuc, nat_abs, ◌*ℤ◌}
 use lib.Signed.{non_neg}
 use lib.Ieee.{Float, nan, inf, fin, binary32, down, of_int}
 use lib.Ieee.Fits.{down_pos, div-fits}
-use Rattle.whole.specs.Choice.{when◌then◌else◌}
 use Rattle.whole.proofs.Comparisons.{tt_ff}
 use Rattle.whole.proofs.Order.{zarith}
 use Rattle.whole.proofs.Ranges.{within_abs}
 use Rattle.whole.proofs.Rounding.{rounded_exact}
 use Rattle.grid.specs.Table.{on_table}
-use Rattle.grid.specs.Refusals.{first}
-use Rattle.grid.specs.declared.Refusal.{Refusal}
 use Rattle.grid.proofs.Ranges.{on_within}
 use Rattle.intake.specs.declared.PointMm.{PointMm}
 use Rattle.intake.specs.declared.WindowMm.{WindowMm}
@@ -28,8 +25,8 @@ use Rattle.intake.specs.declared.WindowAnswer.{WindowAnswer}
 use Rattle.intake.specs.declared.BackAnswer.{BackAnswer}
 use Rattle.intake.specs.Laws.{OnePointAnswer, OneWindowAnswer, OneBackAnswer}
 use Rattle.intake.specs.Laws.{thirty_two, TimesThirtyTwoExact, OverThirtyTwoExact, PointThereAndBack, WindowThereAndBack}
-use Rattle.intake.specs.Millimetres.{signed, nearest, accepted, Taken, on_range, point_fault, refused_point, point_answer}
-use Rattle.intake.specs.Millimetres.{PointToGrid, window_fault, refused_window, window_answer, WindowToGrid, InMillimetres}
+use Rattle.intake.specs.Millimetres.{signed, nearest, accepted, Taken, on_range, grid_point, point_answer}
+use Rattle.intake.specs.Millimetres.{PointToGrid, grid_window, window_answer, WindowToGrid, InMillimetres}
 use Rattle.intake.specs.Millimetres.{ToMillimetres, done, refused}
 use Rattle.intake.proofs.Exact.{product_exact, product_over, quotient_exact, value_unique}
 use Rattle.intake.proofs.Outcome.{taken, taken_on}
@@ -85,7 +82,7 @@ round_trip on (done {g} {x} _ v) = comes_back g x on v
 round_trip on (refused off) = absurd (tt_ff (sym on ∙ off))
 
 pub point_there_and_back : PointThereAndBack
-unfolding first point_fault point_answer
+unfolding grid_point
 point_there_and_back x y a b p q r k = one_point_answer _ p _ k (record {
   x = accepted x;
   y = accepted y;
@@ -95,7 +92,7 @@ point_there_and_back x y a b p q r k = one_point_answer _ p _ k (record {
 })
 
 pub window_there_and_back : WindowThereAndBack
-unfolding first window_fault window_answer
+unfolding grid_window
 window_there_and_back w l b r t p ql qb qr qt k = one_window_answer _ p _ k (record {
   left = accepted w.left;
   bottom = accepted w.bottom;
@@ -115,12 +112,13 @@ pub record PointOn (a : PointAnswer) : Type 0 where
   pub y : on_table a.y ≡ true
 
 pub point_on_table : {p : PointMm} {a : PointAnswer} → PointToGrid p a → PointOn a
-unfolding point_answer on_table
-point_on_table r = let f = point_fault r.x r.y in subst PointOn (sym r.answer) (go f (eqb f.number 0))
+unfolding grid_point on_table
+point_on_table r = subst PointOn (sym r.answer) (go r.x r.y r.x_taken r.y_taken)
   where
-    go : (f : Refusal) (b : Bool) → PointOn (when b then record { number = 0; place = 0; x = r.x.grid; y = r.y.grid } else refused_point f)
-    go f true = record { x = taken_on r.x_taken; y = taken_on r.y_taken }
-    go f false = record { x = refl; y = refl }
+    go : {p q : Float} (x y : Result ℤ ℕ) → Taken p x → Taken q y → PointOn (point_answer x y)
+    go (Ok x) (Ok y) s t = record { x = taken_on s; y = taken_on t }
+    go (Ok x) (Err n) s t = record { x = refl; y = refl }
+    go (Err n) y s t = record { x = refl; y = refl }
 
 pub record WindowOn (a : WindowAnswer) : Type 0 where
   pub left : on_table a.window.left ≡ true
@@ -129,12 +127,13 @@ pub record WindowOn (a : WindowAnswer) : Type 0 where
   pub top : on_table a.window.top ≡ true
 
 pub window_on_table : {w : WindowMm} {a : WindowAnswer} → WindowToGrid w a → WindowOn a
-unfolding window_answer on_table
-window_on_table r = let f = window_fault r.left r.bottom r.right r.top in subst WindowOn (sym r.answer) (go f (eqb f.number 0))
+unfolding grid_window on_table
+window_on_table r = subst WindowOn (sym r.answer) (go r.left r.bottom r.right r.top r.left_taken r.bottom_taken r.right_taken r.top_taken)
   where
-    go : (f : Refusal) (b : Bool) → WindowOn (
-        when b
-        then record { number = 0; place = 0; window = record { left = r.left.grid; bottom = r.bottom.grid; right = r.right.grid; top = r.top.grid } }
-        else refused_window f)
-    go f true = record { left = taken_on r.left_taken; bottom = taken_on r.bottom_taken; right = taken_on r.right_taken; top = taken_on r.top_taken }
-    go f false = record { left = refl; bottom = refl; right = refl; top = refl }
+    go : {p q r s : Float} (left bottom right top : Result ℤ ℕ) → Taken p left → Taken q bottom → Taken r right → Taken s top
+        → WindowOn (window_answer left bottom right top)
+    go (Ok left) (Ok bottom) (Ok right) (Ok top) p q r s = record { left = taken_on p; bottom = taken_on q; right = taken_on r; top = taken_on s }
+    go (Ok left) (Ok bottom) (Ok right) (Err n) p q r s = record { left = refl; bottom = refl; right = refl; top = refl }
+    go (Ok left) (Ok bottom) (Err n) top p q r s = record { left = refl; bottom = refl; right = refl; top = refl }
+    go (Ok left) (Err n) right top p q r s = record { left = refl; bottom = refl; right = refl; top = refl }
+    go (Err n) bottom right top p q r s = record { left = refl; bottom = refl; right = refl; top = refl }

@@ -8,14 +8,13 @@ use borrow.Author.Tests.{ltb-true, ltb-false, le-leb, lt-leb}
 use lib.Dec.{T, ltb, lit≤}
 use lib.IntN.{ℤ, pos, ◌-ℤ◌}
 use lib.Signed.{mag}
-use lib.Ieee.{Float, nan, inf, fin, binary32, up, down, is_nan, to_bits, add, mul, lt, ne, fits}
+use lib.Ieee.{Float, nan, inf, fin, binary32, up, down, is_nan, to_bits, add, mul, lt, fits}
 use lib.Ieee.Fits.{down_pos}
-use lib.Ieee.Compare.{differs_from_itself}
 use lib.Ieee.Exact.{HasValue}
 use lib.Ieee.Nearest.{closest, closest_same}
 use Rattle.whole.proofs.Naturals.{neg_plus, neg_minus}
 use Rattle.whole.proofs.Order.{zarith, sub_is}
-use Rattle.whole.proofs.Comparisons.{true-T, ff_tt, tt_ff}
+use Rattle.whole.proofs.Comparisons.{ff_tt, tt_ff}
 use Rattle.grid.specs.Table.{farthest}
 use Rattle.grid.specs.Refusals.{not_a_number, too_far}
 use Rattle.intake.specs.Millimetres.{signed, faulty, accepted}
@@ -137,9 +136,9 @@ overflows s m e h = far s m e (over (m * up e * 32) (down e) (down_pos e) (wide 
     wide h = omega arith
 
 -- by a test that says of an exact product that it is far
-refused_far : (x : Float) → T (fits binary32 x) → ne x x ≡ false
+refused_far : (x : Float) → T (fits binary32 x) → is_nan x ≡ false
     → ((s : Bool) (n d : ℕ) → 0 < d → HasValue (product x) s n d → 16384 ≤ closest n d) → faulty too_far ≡ outcome x
-unfolding ne outcome
+unfolding is_nan outcome
 refused_far nan t n k = absurd (tt_ff n)
 refused_far (inf s) t n k = refl
 refused_far (fin s m e) t n k = go (product_known s m e t)
@@ -148,12 +147,14 @@ refused_far (fin s m e) t n k = go (product_known s m e t)
     go (overflowed h i) = overflows s m e h
     go (exact v) = far s m e (k s (m * up e * 32) (down e) (down_pos e) v)
 
-pub too_high : (x : Float) → T (fits binary32 x) → ne x x ≡ false → lt (product x) high ≡ false → faulty too_far ≡ outcome x
+pub too_high : (x : Float) → T (fits binary32 x) → is_nan x ≡ false → lt (product x) high ≡ false → faulty too_far ≡ outcome x
 too_high x t n p = refused_far x t n (λ (s : Bool) (n d : ℕ) D v. above (product x) s n d D v p)
 
-pub too_low : (x : Float) → T (fits binary32 x) → ne x x ≡ false → lt low (product x) ≡ false → faulty too_far ≡ outcome x
+pub too_low : (x : Float) → T (fits binary32 x) → is_nan x ≡ false → lt low (product x) ≡ false → faulty too_far ≡ outcome x
 too_low x t n p = refused_far x t n (λ (s : Bool) (n d : ℕ) D v. below (product x) s n d D v p)
 
-pub is_nan_lem : (x : Float) → ne x x ≡ true → faulty not_a_number ≡ outcome x
-unfolding outcome
-is_nan_lem x p = ap outcome (sym (differs_from_itself x (true-T p)))
+pub is_nan_lem : (x : Float) → is_nan x ≡ true → faulty not_a_number ≡ outcome x
+unfolding is_nan outcome
+is_nan_lem nan p = refl
+is_nan_lem (inf s) p = absurd (ff_tt p)
+is_nan_lem (fin s m e) p = absurd (ff_tt p)

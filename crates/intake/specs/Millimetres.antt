@@ -6,15 +6,19 @@
 --   faulty n            what becomes of a number that is refused with n
 --   accepted g          what becomes of a number that has the grid number g
 --   Taken x o           o is what becomes of the millimetre number x
---   point_fault x y      what is refused in a point whose numbers became x and y: the first faulty one decides, with its index as the place
---   refused_point r      the answer that refuses by r: every other field is 0
---   point_answer x y     the answer for a point whose numbers became x and y
+--   placed place o      the same with the place of the number, where it is refused
+--   TakenAt place x r   r is what becomes of the millimetre number x at its place
+--   grid_point x y      the point whose numbers became x and y, or what is refused in it: the first faulty one decides, with its index as the place
+--   PointOnGrid p r     what `intake::point_on_grid` promises: r is the point of the grid for the point p, or its refusal
+--   refused_point r     the answer that refuses by r: every other field is 0
+--   told_point r        a point or a refusal as an answer
+--   point_answer x y    the answer for a point whose numbers became x and y
 --   PointToGrid p a     what `intake::point_to_grid` promises: a is the answer for the point p
---   window_fault, refused_window, window_answer   the same for a window
+--   grid_window, WindowOnGrid, refused_window, told_window, window_answer   the same for a window
 --   WindowToGrid w a    what `intake::window_to_grid` promises: a is the answer for the window w
 --   InMillimetres g x   x is the f32 that is exactly g / 32
 --   ToMillimetres g a   what `intake::to_millimetres` promises: a is the answer for the way back from g
-use Rattle.std.specs.Prelude.{◌≡◌, Bool, true, false, not, [], ◌∷◌, ℕ, ◌*◌, T, eqb, ℤ, pos, neg_ℤ, nat_abs, Float}
+use Rattle.std.specs.Prelude.{◌≡◌, Bool, true, false, not, ℕ, ◌*◌, T, ℤ, pos, neg_ℤ, nat_abs, Float, Result, Ok, Err}
 use Rattle.std.specs.Int.Signed.{non_neg}
 use Rattle.std.specs.Float.{nan, inf, fin, binary32}
 use Rattle.std.specs.Float.Ieee.{fits, up, down}
@@ -22,9 +26,10 @@ use Rattle.std.specs.Float.Ieee.Exact.{HasValue}
 use Rattle.whole.specs.Choice.{when◌then◌else◌}
 use Rattle.whole.specs.Rounding.{Rounds, to_even}
 use Rattle.grid.specs.Table.{on_table}
-use Rattle.grid.specs.Refusals.{refuse, first, number_off, not_a_number, too_far}
+use Rattle.grid.specs.Refusals.{refuse, number_off, not_a_number, too_far}
 use Rattle.grid.specs.declared.Refusal.{Refusal}
-use Rattle.intake.specs.declared.Coordinate.{Coordinate}
+use Rattle.grid.specs.declared.Window.{Window}
+use Rattle.intake.specs.declared.Point.{Point}
 use Rattle.intake.specs.declared.PointMm.{PointMm}
 use Rattle.intake.specs.declared.WindowMm.{WindowMm}
 use Rattle.intake.specs.declared.PointAnswer.{PointAnswer}
@@ -39,58 +44,94 @@ signed s n = when s then neg_ℤ (pos n) else pos n
 pub data GridNumber : Float → ℤ → Type 0 where
   nearest : {g : ℤ} (s : Bool) (m : ℕ) (e : ℤ) → Rounds to_even (signed s (m * up e * 32)) (pos (down e)) g → GridNumber (fin s m e) g
 
-abbrev pub faulty : ℕ → Coordinate
-faulty n = record { number = n; grid = pos 0 }
+abbrev pub faulty : ℕ → Result ℤ ℕ
+faulty n = Err n
 
-abbrev pub accepted : ℤ → Coordinate
-accepted g = record { number = 0; grid = g }
+abbrev pub accepted : ℤ → Result ℤ ℕ
+accepted g = Ok g
 
-pub data Taken : Float → Coordinate → Type 0 where
+pub data Taken : Float → Result ℤ ℕ → Type 0 where
   no_number : Taken nan (faulty not_a_number)
   infinite : (s : Bool) → Taken (inf s) (faulty too_far)
   off_range : {x : Float} {g : ℤ} → GridNumber x g → on_table g ≡ false → Taken x (faulty too_far)
   on_range : {x : Float} {g : ℤ} → GridNumber x g → on_table g ≡ true → Taken x (accepted g)
 
+abbrev pub placed : ℕ → Result ℤ ℕ → Result ℤ Refusal
+placed place (Ok g) = Ok g
+placed place (Err n) = Err (refuse n place)
+
+pub record TakenAt (place : ℕ) (x : Float) (r : Result ℤ Refusal) : Type 0 where
+  pub outcome : Result ℤ ℕ
+  pub taken : Taken x outcome
+  pub is : r ≡ placed place outcome
+
 -- ---- points and windows
 
-unfoldable pub point_fault : Coordinate → Coordinate → Refusal
-point_fault x y = first (refuse x.number 0 ∷ refuse y.number 1 ∷ [])
+unfoldable pub grid_point : Result ℤ ℕ → Result ℤ ℕ → Result Point Refusal
+grid_point (Ok x) (Ok y) = Ok (record { x = x; y = y })
+grid_point (Ok x) (Err n) = Err (refuse n 1)
+grid_point (Err n) y = Err (refuse n 0)
+
+-- Each number is taken by itself; the result is a function of what they became, in which the first faulty one decides.
+pub record PointOnGrid (p : PointMm) (r : Result Point Refusal) : Type 0 where
+  pub x : Result ℤ ℕ
+  pub y : Result ℤ ℕ
+  pub x_taken : Taken p.x x
+  pub y_taken : Taken p.y y
+  pub is : r ≡ grid_point x y
 
 abbrev pub refused_point : Refusal → PointAnswer
 refused_point r = record { number = r.number; place = r.place; x = pos 0; y = pos 0 }
 
-unfoldable pub point_answer : Coordinate → Coordinate → PointAnswer
-point_answer x y =
-    when eqb (point_fault x y).number 0
-    then record { number = 0; place = 0; x = x.grid; y = y.grid }
-    else refused_point (point_fault x y)
+abbrev pub told_point : Result Point Refusal → PointAnswer
+told_point (Ok p) = record { number = 0; place = 0; x = p.x; y = p.y }
+told_point (Err r) = refused_point r
 
--- Each number is taken by itself; the answer is a function of what they became, in which the first faulty one decides.
+abbrev pub point_answer : Result ℤ ℕ → Result ℤ ℕ → PointAnswer
+point_answer x y = told_point (grid_point x y)
+
+-- The same as an answer.
 pub record PointToGrid (p : PointMm) (a : PointAnswer) : Type 0 where
-  pub x : Coordinate
-  pub y : Coordinate
+  pub x : Result ℤ ℕ
+  pub y : Result ℤ ℕ
   pub x_taken : Taken p.x x
   pub y_taken : Taken p.y y
   pub answer : a ≡ point_answer x y
 
-unfoldable pub window_fault : Coordinate → Coordinate → Coordinate → Coordinate → Refusal
-window_fault left bottom right top = first (refuse left.number 0 ∷ refuse bottom.number 1 ∷ refuse right.number 2 ∷ refuse top.number 3 ∷ [])
+unfoldable pub grid_window : Result ℤ ℕ → Result ℤ ℕ → Result ℤ ℕ → Result ℤ ℕ → Result Window Refusal
+grid_window (Ok left) (Ok bottom) (Ok right) (Ok top) = Ok (record { left = left; bottom = bottom; right = right; top = top })
+grid_window (Ok left) (Ok bottom) (Ok right) (Err n) = Err (refuse n 3)
+grid_window (Ok left) (Ok bottom) (Err n) top = Err (refuse n 2)
+grid_window (Ok left) (Err n) right top = Err (refuse n 1)
+grid_window (Err n) bottom right top = Err (refuse n 0)
+
+-- As for a point, with four numbers. Nothing is said of the area: that is the clipping call's.
+pub record WindowOnGrid (w : WindowMm) (r : Result Window Refusal) : Type 0 where
+  pub left : Result ℤ ℕ
+  pub bottom : Result ℤ ℕ
+  pub right : Result ℤ ℕ
+  pub top : Result ℤ ℕ
+  pub left_taken : Taken w.left left
+  pub bottom_taken : Taken w.bottom bottom
+  pub right_taken : Taken w.right right
+  pub top_taken : Taken w.top top
+  pub is : r ≡ grid_window left bottom right top
 
 abbrev pub refused_window : Refusal → WindowAnswer
 refused_window r = record { number = r.number; place = r.place; window = record { left = pos 0; bottom = pos 0; right = pos 0; top = pos 0 } }
 
-unfoldable pub window_answer : Coordinate → Coordinate → Coordinate → Coordinate → WindowAnswer
-window_answer left bottom right top =
-    when eqb (window_fault left bottom right top).number 0
-    then record { number = 0; place = 0; window = record { left = left.grid; bottom = bottom.grid; right = right.grid; top = top.grid } }
-    else refused_window (window_fault left bottom right top)
+abbrev pub told_window : Result Window Refusal → WindowAnswer
+told_window (Ok w) = record { number = 0; place = 0; window = w }
+told_window (Err r) = refused_window r
 
--- As for a point, with four numbers. Nothing is said of the area: that is the clipping call's.
+abbrev pub window_answer : Result ℤ ℕ → Result ℤ ℕ → Result ℤ ℕ → Result ℤ ℕ → WindowAnswer
+window_answer left bottom right top = told_window (grid_window left bottom right top)
+
 pub record WindowToGrid (w : WindowMm) (a : WindowAnswer) : Type 0 where
-  pub left : Coordinate
-  pub bottom : Coordinate
-  pub right : Coordinate
-  pub top : Coordinate
+  pub left : Result ℤ ℕ
+  pub bottom : Result ℤ ℕ
+  pub right : Result ℤ ℕ
+  pub top : Result ℤ ℕ
   pub left_taken : Taken w.left left
   pub bottom_taken : Taken w.bottom bottom
   pub right_taken : Taken w.right right
