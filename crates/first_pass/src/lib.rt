@@ -24,17 +24,13 @@ fn load(outline: &[i32], from: usize, to: usize, m: &mut [i32], at: usize)
     requires from_in_bounds { 4 * (at + (to - from)) ≤ length m.old }
     ensures { Brought (loaded_of outline.now) m.old m.new from to at }
 {
-    let mut k = from;
-    let mut i = at;
-    while k < to {
+    for k in from..to {
         let p = Corner {
             x: outline[2 * k],
             y: outline[2 * k + 1],
             den: 1,
         };
-        memory::put(m, i, p, k as i32);
-        k += 1;
-        i += 1;
+        memory::put(m, at + (k - from), p, k as i32);
     }
 }
 
