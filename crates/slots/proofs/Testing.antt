@@ -10,9 +10,13 @@ use lib.ListN.{length, drop_of_length-le}
 use lib.Signed.{mag}
 use mir.Syntax.{w32}
 use mir.Val.{of_z}
-use Rattle.whole.proofs.Comparisons.{bits_eq}
-use Rattle.grid.specs.Refusals.{window_refusal}
+use Rattle.std.specs.Bool.{⊤}
+use Rattle.std.specs.Prelude.{Result, Ok, Err, is_err}
+use Rattle.whole.proofs.Comparisons.{bits_eq, ff_tt, tt_ff}
+use Rattle.grid.specs.Refusals.{window_refusal, tested}
+use Rattle.grid.specs.declared.Refusal.{Refusal}
 use Rattle.grid.specs.declared.Window.{Window}
+use Rattle.grid.proofs.Tested.{was_fine, was_refused}
 use Rattle.racks.specs.Members.{all}
 use Rattle.racks.specs.Pairs.{Crowd}
 use Rattle.racks.specs.Racks.{strips_on, Carries}
@@ -21,6 +25,15 @@ use Rattle.slots.specs.Workers.{slot_in, slots_from, each_good, Gathered, OnRack
 use Rattle.slots.proofs.Places.{slots_more}
 use Rattle.slots.proofs.Apart.{all_apart, not_apart}
 use Rattle.slots.proofs.Good.{free_strips, free_good, bad_mark, used_strips, bad_strip, good_use, bad_later}
+
+-- ---- a strip that is tested by itself
+pub tests_fine : (r : Result ⊤ Refusal) (w : Window) → r ≡ tested (window_refusal w) → is_err r ≡ false → (window_refusal w).number ≡ 0
+tests_fine (Ok u) w e f = was_fine (window_refusal w) e
+tests_fine (Err q) w e f = absurd (tt_ff f)
+
+pub tests_bad : (r : Result ⊤ Refusal) (w : Window) → r ≡ tested (window_refusal w) → is_err r ≡ true → (window_refusal w).number ≡ 0 → ⊥
+tests_bad (Ok u) w e f = absurd (ff_tt f)
+tests_bad (Err q) w e f = (was_refused (window_refusal w) e).1
 
 -- ---- the slot whose mark stands at the place p
 module _ (zs : List ℤ) (p : ℕ) (h : p + 5 ≤ length zs) where

@@ -36,8 +36,7 @@ fn gather_slot(book: &[i32], p: usize, rack: &mut [i16; 288], n: usize) -> Optio
         return Some(n);
     }
     let w = strip_at(book, p);
-    let refusal = grid::window_refusal(w);
-    if refusal.number != 0 {
+    if grid::test_window(w).is_err() {
         return None;
     }
     racks::put(rack, n, w);

@@ -1,21 +1,15 @@
 -- A renter's half is 32 slots long, its slot k is the table's slot that is k further than its first, and five numbers put there change no other half.
 use mathlib.Core.Path.{◌≡◌, refl, sym, ap, ◌∙◌}
-use mathlib.Core.Bool.{true, false}
+use mathlib.Core.Bool.{true}
 use mathlib.Core.List.{List}
 use Prim.Native.Nat.{ℕ, zero, suc, ◌+◌, ◌*◌, ◌≤◌, ◌<◌}
 use native.Mathlib.Omega.{arith}
-use borrow.Author.Tests.{eq-eqb, ne_eqb}
-use lib.Dec.{eqb}
+use borrow.Author.Tests.{ne_eqb}
 use lib.IntN.{ℤ, pos, negsuc, nat_abs}
 use lib.ListN.{length, take, drop, get_or, set}
 use lib.Seq.{sets, slice, get_or-drop, get_or-take, length-slice, take-set-lt, take-set-le, drop-set-add, drop-set-lt}
-use lib.Signed.{◌≤ℤ◌}
-use mir.Syntax.{w32}
-use mir.Val.{SFits, of_z}
-use Rattle.whole.proofs.Comparisons.{ff_tt, tt_ff}
-use Rattle.whole.proofs.Order.{zarith}
-use Rattle.slots.specs.Slots.{Slot, slots_of, slot_at, slot_numbers, free_slot, number_is}
-use Rattle.slots.proofs.Marks.{bits_are}
+use Rattle.whole.proofs.Comparisons.{ff_tt}
+use Rattle.slots.specs.Slots.{Slot, slots_of, slot_at, slot_numbers, free_slot}
 use Rattle.slots.proofs.Places.{slots_count, slots_put}
 use Rattle.strip_book.specs.Renters.{is_renter, first_slot, half}
 
@@ -31,39 +25,7 @@ either (pos (suc (suc n))) e =
     absurd (ff_tt (sym (simp (ne_eqb (suc (suc n)) 0 (omega arith), ne_eqb (suc (suc n)) 1 (omega arith))) ∙ e))
 either (negsuc n) e = absurd (ff_tt e)
 
--- a number that is compared with another by its bits
-module _ {z : ℤ} (h : SFits w32 z) where
-  pub number_test : eqb (of_z w32 z) 1 ≡ number_is 1 z
-  number_test = bits_are z 1 h.sfits (omega arith)
-
-  pub number_is_lem : of_z w32 z ≡ 0 → number_is 0 z ≡ true
-  number_is_lem e = sym (bits_are z 0 h.sfits (omega arith)) ∙ eq-eqb (of_z w32 z) 0 e
-
-  pub number_is_not : (of_z w32 z ≡ 0 → ⊥) → number_is 0 z ≡ false
-  number_is_not e = sym (bits_are z 0 h.sfits (omega arith)) ∙ ne_eqb (of_z w32 z) 0 e
-
-pub starts_low : (renter : ℤ) → is_renter renter ≡ true → SFits w32 renter → of_z w32 renter ≡ 0 → 0 ≡ first_slot renter
-starts_low renter known h e = go (either renter known) (number_is_lem h e)
-  where
-    go : {z : ℤ} → Either z → number_is 0 z ≡ true → 0 ≡ first_slot z
-    go renter_zero e = refl
-    go renter_one e = absurd (ff_tt e)
-
-pub starts_high : (renter : ℤ) → is_renter renter ≡ true → SFits w32 renter → (of_z w32 renter ≡ 0 → ⊥) → 32 ≡ first_slot renter
-starts_high renter known h e = go (either renter known) (number_is_not h e)
-  where
-    go : {z : ℤ} → Either z → number_is 0 z ≡ false → 32 ≡ first_slot z
-    go renter_zero e = absurd (tt_ff e)
-    go renter_one e = refl
-
 module _ (renter : ℤ) (known : is_renter renter ≡ true) where
-  pub not_negative : pos 0 ≤ℤ renter
-  not_negative = go (either renter known)
-    where
-      go : {z : ℤ} → Either z → pos 0 ≤ℤ z
-      go renter_zero = omega zarith
-      go renter_one = omega zarith
-
   pub at_most_one : nat_abs renter ≤ 1
   at_most_one = go (either renter known)
     where

@@ -8,7 +8,7 @@ use native.Mathlib.Omega.{arith}
 use borrow.Author.Tests.{eqb-true}
 use lib.Dec.{eqb}
 use lib.IntN.{ℤ, pos, negsuc, nat_abs}
-use lib.ListN.{length, get_or, get_or-eq_default}
+use lib.ListN.{length, get_or-eq_default}
 use lib.Signed.{◌≤ℤ◌, ◌<ℤ◌}
 use Rattle.whole.specs.Choice.{when◌then◌else◌}
 use Rattle.whole.proofs.Comparisons.{ff_tt}
@@ -110,10 +110,6 @@ none_below ss (negsuc k) h = refl
 pub none_above : (ss : List Slot) (z : ℤ) → length ss ≡ 32 → pos 31 <ℤ z → used_at ss z ≡ false
 none_above ss (pos k) h l = ap in_use (get_or-eq_default ss free_slot {n = k} (omega (zarith, l)))
 none_above ss (negsuc k) h l = refl
-
-pub used_is : (ss : List Slot) (z : ℤ) → pos 0 ≤ℤ z → in_use (get_or ss (nat_abs z) free_slot) ≡ used_at ss z
-used_is ss (pos k) h = refl
-used_is ss (negsuc k) h = absurd (omega zarith)
 
 pub small : (z : ℤ) → pos 0 ≤ℤ z → z ≤ℤ pos 31 → nat_abs z < 32
 small (pos k) h l = omega zarith

@@ -1,3 +1,4 @@
 pub mod Renters
 pub mod Books
 pub mod Laws
+pub mod Workers

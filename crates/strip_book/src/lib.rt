@@ -4,11 +4,11 @@
 
 ghost use Rattle.std.specs.Prelude.{◌≡◌, true, length};
 ghost use Rattle.grid.specs.Refusals.{refuse};
-ghost use Rattle.strip_book.specs.Books.{used_at, refused_booking, BookStrip, release_answer, ReleaseSlot};
+ghost use Rattle.strip_book.specs.Books.{BookStrip, ReleaseSlot};
 ghost use Rattle.strip_book.specs.Renters.{is_renter, first_slot, half};
+ghost use Rattle.strip_book.specs.Workers.{number_of, Names, booking_answer, release_answer_of, Finds};
 
 use grid::{Refusal, Window};
-use slots::Tested;
 
 // The numbers of the book's own refusals, as specs/Books.antt defines them.
 pub const STRIP_TAKEN: u8 = 16;
@@ -45,43 +45,111 @@ fn refused(number: u8) -> Refusal
     Refusal { number, place: 0 }
 }
 
-// The answer of a booking that refuses.
-fn refused_booking(r: Refusal) -> BookingAnswer
-    ensures { result ≡ refused_booking r }
-{
-    BookingAnswer {
-        number: r.number,
-        place: r.place,
-        slot: 0,
+// The renter's slot that a strip was entered in, or a refusal, as the call answers it.
+impl From<Result<i32, Refusal>> for BookingAnswer {
+    ghost from_gives = { λ booked a. a ≡ booking_answer booked };
+
+    fn from(booked: Result<i32, Refusal>) -> BookingAnswer {
+        match booked {
+            Ok(slot) => BookingAnswer {
+                number: 0,
+                place: 0,
+                slot,
+            },
+            Err(refusal) => BookingAnswer {
+                number: refusal.number,
+                place: refusal.place,
+                slot: 0,
+            },
+        }
     }
 }
 
-// The answer of a release: refused by this number, or done where it is 0.
-fn release_answer(number: u8) -> ReleaseAnswer
-    ensures { result ≡ release_answer (refuse number 0) }
-{
-    ReleaseAnswer { number, place: 0 }
+// A release that is done, or a refusal, as the call answers it.
+impl From<Result<(), Refusal>> for ReleaseAnswer {
+    ghost from_gives = { λ released a. a ≡ release_answer_of released };
+
+    fn from(released: Result<(), Refusal>) -> ReleaseAnswer {
+        match released {
+            Ok(()) => ReleaseAnswer {
+                number: 0,
+                place: 0,
+            },
+            Err(refusal) => ReleaseAnswer {
+                number: refusal.number,
+                place: refusal.place,
+            },
+        }
+    }
+}
+
+// One of the two renters: the first, of number 0, has the table's slots 0 to 31, the second, of number 1, the slots 32 to 63.
+#[derive(Clone, Copy)]
+pub enum Renter {
+    First,
+    Second,
+}
+
+impl TryFrom<i32> for Renter {
+    type Error = Refusal;
+
+    ghost try_from_gives = { Names };
+
+    fn try_from(number: i32) -> Result<Renter, Refusal> {
+        match number {
+            0 => Ok(Renter::First),
+            1 => Ok(Renter::Second),
+            _ => Err(refused(UNKNOWN_RENTER)),
+        }
+    }
+}
+
+impl Renter {
+    // The table's slot that is the renter's first.
+    pub fn first_slot(self) -> usize
+        ensures { result ≡ first_slot (number_of self) }
+    {
+        match self {
+            Renter::First => 0,
+            Renter::Second => 32,
+        }
+    }
 }
 
 // Whether there is a renter of this number.
 pub fn is_renter(renter: i32) -> bool
     ensures { result ≡ is_renter renter }
 {
-    if renter == 0 {
-        return true;
-    }
-    renter == 1
+    Renter::try_from(renter).is_ok()
 }
 
-// The table's slot that is the renter's first.
+// The table's slot that is the first of the renter of this number.
 pub fn first_slot(renter: i32) -> usize
     requires { is_renter renter ≡ true }
     ensures { result ≡ first_slot renter }
 {
-    if renter == 0 {
-        return 0;
+    if renter == 0 { 0 } else { 32 }
+}
+
+// Enters a strip in the lowest free slot of the renter's half, unless it shares area with one that is entered in either half, and tells which of the
+// renter's slots it is.
+fn booked(book: &mut [i32], renter: i32, w: Window) -> Result<i32, Refusal>
+    ensures { BookStrip renter w (booking_answer result) book.old book.new }
+{
+    let from = Renter::try_from(renter)?.first_slot();
+    let mut rack = [racks::VACANT; 288];
+    let n = slots::test_book(book, &mut rack).ok_or(refused(NO_BOOK))?;
+    grid::test_window(w)?;
+    let to = from + 32;
+    let k = slots::lowest_free(book, from, to);
+    if k == to {
+        return Err(refused(HALF_FULL));
     }
-    32
+    if racks::shares(&rack, n, w) {
+        return Err(refused(STRIP_TAKEN));
+    }
+    slots::put(book, k, 1, w);
+    Ok((k - from) as i32)
 }
 
 // Enters a strip in the lowest free slot of the renter's half, unless it shares area with one that is entered in either half.
@@ -89,68 +157,33 @@ pub fn first_slot(renter: i32) -> usize
 pub fn book_strip(book: &mut [i32], renter: i32, w: Window) -> BookingAnswer
     ensures { BookStrip renter w result book.old book.new }
 {
-    if !is_renter(renter) {
-        return refused_booking(refused(UNKNOWN_RENTER));
-    }
-    let mut rack = [racks::VACANT; 288];
-    let tested = slots::test_book(book, &mut rack);
-    let Tested::Good(n) = tested else {
-        return refused_booking(refused(NO_BOOK));
-    };
-    let bad = grid::window_refusal(w);
-    if bad.number != 0 {
-        return refused_booking(bad);
-    }
-    let from = first_slot(renter);
-    let to = from + 32;
-    let k = slots::lowest_free(book, from, to);
-    if k == to {
-        return refused_booking(refused(HALF_FULL));
-    }
-    if racks::shares(&rack, n, w) {
-        return refused_booking(refused(STRIP_TAKEN));
-    }
-    slots::put(book, k, 1, w);
-    let slot = (k - from) as i32;
-    BookingAnswer {
-        number: 0,
-        place: 0,
-        slot,
-    }
+    BookingAnswer::from(booked(book, renter, w))
 }
 
-// Whether the renter has a slot of this number, and it is in use.
-fn used_at(book: &[i32], renter: i32, slot: i32) -> bool
-    requires renter_value { is_renter renter ≡ true }
-    requires book_len { length book.now ≡ 320 }
-    ensures { result ≡ used_at (half renter book.now) slot }
+// The table's slot that the renter has under this number, if there is one and it is in use.
+fn used_slot(book: &[i32], renter: Renter, slot: i32) -> Option<usize>
+    requires { length book.now ≡ 320 }
+    ensures { Finds (number_of renter) slot book.now result }
 {
-    if slot < 0 {
-        return false;
+    if slot < 0 || 31 < slot {
+        return None;
     }
-    if 31 < slot {
-        return false;
+    let k = renter.first_slot() + slot as usize;
+    if slots::in_use(book, k) {
+        Some(k)
+    } else {
+        None
     }
-    slots::in_use(book, first_slot(renter) + (slot as usize))
 }
 
 // Frees a slot of the renter's half, which then holds five zeros.
-// Its statement is `ReleaseSlot`, specs/Books.antt.
-pub fn release_slot(book: &mut [i32], renter: i32, slot: i32) -> ReleaseAnswer
-    ensures { ReleaseSlot renter slot result book.old book.new }
+fn released(book: &mut [i32], renter: i32, slot: i32) -> Result<(), Refusal>
+    ensures { ReleaseSlot renter slot (release_answer_of result) book.old book.new }
 {
-    if !is_renter(renter) {
-        return release_answer(UNKNOWN_RENTER);
-    }
+    let renter = Renter::try_from(renter)?;
     let mut rack = [racks::VACANT; 288];
-    let tested = slots::test_book(book, &mut rack);
-    let Tested::Good(n) = tested else {
-        return release_answer(NO_BOOK);
-    };
-    if !used_at(book, renter, slot) {
-        return release_answer(SLOT_NOT_IN_USE);
-    }
-    let k = first_slot(renter) + (slot as usize);
+    slots::test_book(book, &mut rack).ok_or(refused(NO_BOOK))?;
+    let k = used_slot(book, renter, slot).ok_or(refused(SLOT_NOT_IN_USE))?;
     let nothing = Window {
         left: 0,
         bottom: 0,
@@ -158,5 +191,13 @@ pub fn release_slot(book: &mut [i32], renter: i32, slot: i32) -> ReleaseAnswer
         top: 0,
     };
     slots::put(book, k, 0, nothing);
-    release_answer(0)
+    Ok(())
+}
+
+// Frees a slot of the renter's half, which then holds five zeros.
+// Its statement is `ReleaseSlot`, specs/Books.antt.
+pub fn release_slot(book: &mut [i32], renter: i32, slot: i32) -> ReleaseAnswer
+    ensures { ReleaseSlot renter slot result book.old book.new }
+{
+    ReleaseAnswer::from(released(book, renter, slot))
 }
