@@ -35,12 +35,11 @@ fn write_corners(m: &[i32], n: usize, out: &mut [i32])
     requires n_in_bounds_2 { 4 * n ≤ length out.old }
     ensures { Wrote (ring_in m.now n) out.old out.new }
 {
-    let mut k = 0;
-    while k < 4 * n {
+    for place in 0..n {
+        let k = 4 * place;
         let w = m[k + 2];
         write_fraction(m[k], w, out, k);
         write_fraction(m[k + 1], w, out, k + 2);
-        k += 4;
     }
 }
 
