@@ -4,8 +4,10 @@ use mathlib.Core.List.{List, [], ◌∷◌, ◌++◌, append_assoc, append-nil}
 use Prim.Native.Nat.{ℕ, ◌+◌, ◌<◌, ◌≤◌}
 use native.Mathlib.Numerals.{add-one}
 use native.Mathlib.Omega.{arith}
-use lib.ListN.{length, get_or, take, drop, set, length-set, length-append, take-append-drop}
-use lib.Seq.{take-suc, take-suc-set, take-add, drop_at, drop-drop, drop-set-lt, length-take-le}
+use lib.ListN.{length, take, drop, set, length-set, length-append, length-drop, take-append-drop}
+use lib.Seq.{take-suc-set, take-add, drop_at, drop-drop, drop-set-lt, length-take-le}
+use borrow.Rule.Slice.PartMut.{put_mid}
+use Rattle.std.proofs.lemmas.Slice.{take-put_mid, drop-put_mid}
 use Rattle.text.specs.Pages.{Put}
 
 pub put_nothing : (page : List ℕ) {at : ℕ} → at ≤ length page → Put page page at at []
@@ -30,13 +32,6 @@ put_byte {before} {after} {word} {at} {end} b h p =
 pub put_to : {before after word : List ℕ} {at end : ℕ} (to : ℕ) → end ≡ to → Put before after at end word → Put before after at to word
 put_to {before} {after} {word} {at} to e p = subst (λ (n : ℕ). Put before after at n word) e p
 
-pub put_four : (page : List ℕ) (at a b c d : ℕ) → at + 4 ≤ length page
-    → Put page (set (set (set (set page at a) (at + 1) b) (at + 2) c) (at + 3) d) at (at + 4) (a ∷ b ∷ c ∷ d ∷ [])
-put_four page at a b c d h =
-    put_to (at + 4) (omega arith) (put_byte d (simp length-set (omega arith))
-    (put_to (at + 3) (omega arith) (put_byte c (simp length-set (omega arith))
-    (put_to (at + 2) (omega arith) (put_byte b (simp length-set (omega arith)) (put_byte a (omega arith) (put_nothing page (omega arith))))))))
-
 pub put_then : {a b c u v : List ℕ} {i j k : ℕ} → Put a b i j u → Put b c j k v → Put a c i k (u ++ v)
 put_then {a} {b} {c} {u} {v} {i} {j} {k} p q =
     record {
@@ -47,12 +42,19 @@ put_then {a} {b} {c} {u} {v} {i} {j} {k} p q =
       same = q.same ∙ p.same;
     }
 
--- of a loop that has put the first i bytes of a word
-pub put_more : {before after : List ℕ} (word : List ℕ) {at : ℕ} (i : ℕ) → i < length word → at + i < length after
-    → Put before after at (at + i) (take i word) → Put before (set after (at + i) (get_or word i 0)) at (at + (i + 1)) (take (i + 1) word)
-put_more {before} {after} word {at} i h l p =
-    put_to (at + (i + 1)) (omega arith)
-    (subst (Put before (set after (at + i) (get_or word i 0)) at (at + i + 1)) (rw add-one (sym (take-suc word i 0 h))) (put_byte (get_or word i 0) l p))
+-- a word that was copied into a part of the page
+pub put_copied : (page word : List ℕ) {part : List ℕ} (at k : ℕ) → part ≡ word → k ≡ length word → at + length word ≤ length page
+    → Put page (put_mid at k page part) at (at + length word) word
+put_copied page word {part} at k e l h =
+    let end = at + length word in
+    let after = put_mid at k page part in
+    let long : length part ≡ length word = ap length e in
+    let text : take end after ≡ take at page ++ word = take-put_mid at k page part end (omega arith) (omega arith) ∙ ap (λ (x : List ℕ). take at page ++ x) e in
+    let rest : drop end after ≡ drop end page = drop-put_mid at k page part end (omega arith) (omega arith) (omega arith) in
+    let same : length after ≡ length page =
+    ap length (sym (take-append-drop end after)) ∙ length-append (take end after) (drop end after)
+    ∙ omega (arith, ap length text, ap length rest, length-append (take at page) word, length-take-le at page (omega arith), length-drop end page) in
+    record { text = text; rest = rest; ends = refl; fits = omega arith; same = same }
 
 -- put up to a place from which another word stands already
 pub put_in_front : {a b c u v : List ℕ} {i j : ℕ} → Put a b i j u → Put b c 0 i v → take j c ≡ v ++ u

@@ -11,21 +11,17 @@ pub fn find(text: &[u8], from: usize, b: u8) -> usize
     ensures value { result ≡ from + run (is_not b) (drop from text.now) }
     ensures upper_bound { result ≤ length text.now }
 {
-    let mut i = from;
-    while i < text.len() {
-        if text[i] == b {
-            return i;
-        }
-        i += 1;
+    match text[from..].iter().position(|byte| *byte == b) {
+        Some(place) => from + place,
+        None => text.len(),
     }
-    i
 }
 
 // Whether the byte b stands in a text.
 pub fn has(text: &[u8], b: u8) -> bool
     ensures { result ≡ is_in b text.now }
 {
-    find(text, 0, b) < text.len()
+    text.contains(&b)
 }
 
 // The place of the first byte from `from` on that is not b, or the end.
@@ -34,14 +30,10 @@ pub fn skip(text: &[u8], from: usize, b: u8) -> usize
     ensures value { result ≡ from + run (is b) (drop from text.now) }
     ensures upper_bound { result ≤ length text.now }
 {
-    let mut i = from;
-    while i < text.len() {
-        if text[i] != b {
-            return i;
-        }
-        i += 1;
+    match text[from..].iter().position(|byte| *byte != b) {
+        Some(place) => from + place,
+        None => text.len(),
     }
-    i
 }
 
 // Puts a word from the place `at` on, and says where it ends.
@@ -49,12 +41,9 @@ pub fn put(page: &mut [u8], at: usize, word: &[u8]) -> usize
     requires { at + length word.now ≤ length page.old }
     ensures { Put page.old page.new at result word.now }
 {
-    let mut i = 0;
-    while i < word.len() {
-        page[at + i] = word[i];
-        i += 1;
-    }
-    at + i
+    let end = at + word.len();
+    page[at..end].copy_from_slice(word);
+    end
 }
 
 // Puts a number as four bytes, the highest first.
@@ -62,11 +51,7 @@ pub fn put_bytes(page: &mut [u8], at: usize, n: u32) -> usize
     requires { at + 4 ≤ length page.old }
     ensures { Put page.old page.new at result (big_endian n) }
 {
-    page[at] = (n / 0x100_0000) as u8;
-    page[at + 1] = (n / 0x1_0000 % 0x100) as u8;
-    page[at + 2] = (n / 0x100 % 0x100) as u8;
-    page[at + 3] = (n % 0x100) as u8;
-    at + 4
+    put(page, at, &n.to_be_bytes())
 }
 
 // Puts a number in decimal.
