@@ -15,6 +15,7 @@
 --                        Places on two ways are compared by cross products
 --   Overlap k x y        neither is so: some fraction is on both ways (k = 0), more than one is (k = 1)
 --   OnWay f              f is a fraction from 0 to 1, with a denominator no larger than the longest way
+--   side_number k        the number of the side k, its place in the list of the four
 --   side_met a b i j      the side that the way from a to b meets coming in, by its number: i where it rises, j where it falls
 --   StartBy s x y t k    t is the later start of the two ways, and k names the side that is met there, that of x where both are met at once; no_side
 --                        where both start with the stroke
@@ -39,6 +40,8 @@ use Rattle.spans.specs.Parts.{Time, zeroth, unit}
 use Rattle.spans.specs.Sides.{no_side}
 use Rattle.strokes.specs.Strokes.{KeepsCoordinate, Keeps, PointAt}
 use Rattle.strokes.specs.declared.End.{End}
+use Rattle.strokes.specs.declared.Side.{Side}
+use Rattle.strokes.specs.declared.Side.TheVariants.{Left, Right, Bottom, Top}
 use Rattle.strokes.specs.declared.StrokeAnswer.{StrokeAnswer}
 use Rattle.strokes.specs.declared.plain.Plainly.{Plainly}
 use Rattle.strokes.specs.declared.plain.Plainly.TheVariants.{Inside, Outside, Neither}
@@ -135,6 +138,12 @@ pub record Overlap (k : ℕ) (x y : Way) : Type 0 where
 pub record OnWay (f : Fraction) : Type 0 where
   pub time : Time f.num f.den
   pub small : Within 32766 f.den
+
+abbrev pub side_number : Side → ℕ
+side_number Left = 0
+side_number Right = 1
+side_number Bottom = 2
+side_number Top = 3
 
 abbrev pub side_met : ℤ → ℤ → ℕ → ℕ → ℕ
 side_met a b i j = when lt_z b a then j else i

@@ -1,28 +1,20 @@
 // Where what is kept of a stroke starts and ends, by the ways of its two coordinates.
 ghost use Rattle.std.specs.Prelude.{◌≡◌};
 ghost use Rattle.grid.specs.Table.{StrokeOnTable};
-ghost use Rattle.strokes.specs.Workers.{WayAt, side_met, StartOf, FinishOf};
+ghost use Rattle.strokes.specs.Workers.{WayAt, side_number, side_met, StartOf, FinishOf};
 
-use crate::End;
 use crate::ways::Way;
+use crate::{End, Side};
 use fraction::Fraction;
 use grid::Stroke;
 use spans::NO_SIDE;
 
-// The numbers of the window's sides.
-const LEFT: u8 = 0;
-
-const RIGHT: u8 = 1;
-
-const BOTTOM: u8 = 2;
-
-const TOP: u8 = 3;
-
-// The side that a way from a to b meets where it comes in: `low` where it rises, `high` where it falls.
-fn side_met(a: i32, b: i32, low: u8, high: u8) -> u8
-    ensures { result ≡ side_met a b low high }
+// The number of the side that a way from a to b meets where it comes in: `low` where it rises, `high` where it falls.
+pub fn side_met(a: i32, b: i32, low: Side, high: Side) -> u8
+    ensures { result ≡ side_met a b (side_number low) (side_number high) }
 {
-    if b < a { high } else { low }
+    let met = if b < a { high } else { low };
+    met as u8
 }
 
 // Where both coordinates have come in: at the later start. The coordinate that comes in there is on its side, so that only the other is rounded.
@@ -51,7 +43,7 @@ pub fn start(s: Stroke, x: Way, y: Way) -> End
             },
             x: x.at,
             y: fraction::rounded(s.y1, s.y2, x.start, x.long),
-            side: side_met(s.x1, s.x2, LEFT, RIGHT),
+            side: side_met(s.x1, s.x2, Side::Left, Side::Right),
         };
     }
     End {
@@ -61,7 +53,7 @@ pub fn start(s: Stroke, x: Way, y: Way) -> End
         },
         x: fraction::rounded(s.x1, s.x2, y.start, y.long),
         y: y.at,
-        side: side_met(s.y1, s.y2, BOTTOM, TOP),
+        side: side_met(s.y1, s.y2, Side::Bottom, Side::Top),
     }
 }
 
@@ -90,7 +82,7 @@ pub fn finish(s: Stroke, x: Way, y: Way) -> End
             },
             x: x.to,
             y: fraction::rounded(s.y1, s.y2, x.end, x.long),
-            side: side_met(s.x2, s.x1, LEFT, RIGHT),
+            side: side_met(s.x2, s.x1, Side::Left, Side::Right),
         };
     }
     End {
@@ -100,6 +92,6 @@ pub fn finish(s: Stroke, x: Way, y: Way) -> End
         },
         x: fraction::rounded(s.x1, s.x2, y.end, y.long),
         y: y.to,
-        side: side_met(s.y2, s.y1, BOTTOM, TOP),
+        side: side_met(s.y2, s.y1, Side::Bottom, Side::Top),
     }
 }

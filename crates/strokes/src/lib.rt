@@ -3,11 +3,12 @@
 
 ghost use Rattle.std.specs.Prelude.{◌≡◌};
 ghost use Rattle.grid.specs.Table.{WindowOnTable, StrokeOnTable};
-ghost use Rattle.strokes.specs.Strokes.{Clipped, Clipping, blank as Strokes·blank};
+ghost use Rattle.grid.specs.Refusals.{none};
+ghost use Rattle.strokes.specs.Strokes.{Clipped, Clipping, blank};
 ghost use Rattle.strokes.specs.Workers.{Reaching, OnWay, KeptAnswer, whole_answer};
 
 use fraction::Fraction;
-use grid::{Stroke, Window};
+use grid::{Refusal, Stroke, Window};
 use spans::NO_SIDE;
 
 pub mod ends;
@@ -32,6 +33,15 @@ pub struct StrokeAnswer {
     pub side1: u8,
 }
 
+// A side of the window. The answers name it by its number, `side as u8`.
+#[derive(Clone, Copy)]
+pub enum Side {
+    Left,
+    Right,
+    Bottom,
+    Top,
+}
+
 // An end of what is kept: the fraction of the stroke's way, not in lowest terms, the point there, rounded to the grid, and the side that fixed it.
 #[derive(Clone, Copy)]
 pub struct End {
@@ -41,13 +51,13 @@ pub struct End {
     pub side: u8,
 }
 
-// Not kept: a refusal, or a missed stroke.
-pub fn blank(number: u8, place: usize) -> StrokeAnswer
-    ensures { result ≡ Strokes·blank (record { number = number; place = place }) }
+// The answer of a stroke that is missed.
+pub fn missed() -> StrokeAnswer
+    ensures { result ≡ blank none }
 {
     StrokeAnswer {
-        number,
-        place,
+        number: 0,
+        place: 0,
         kept: false,
         t0: Fraction { num: 0, den: 1 },
         t1: Fraction { num: 0, den: 1 },
@@ -57,6 +67,17 @@ pub fn blank(number: u8, place: usize) -> StrokeAnswer
         by: 0,
         side0: NO_SIDE,
         side1: NO_SIDE,
+    }
+}
+
+// The answer of a stroke that is refused by r.
+pub fn refused(r: Refusal) -> StrokeAnswer
+    ensures { result ≡ blank r }
+{
+    StrokeAnswer {
+        number: r.number,
+        place: r.place,
+        ..missed()
     }
 }
 
@@ -114,7 +135,7 @@ fn crossing(w: Window, s: Stroke) -> StrokeAnswer
     let x = ways::passage(w.left, w.right, s.x1, s.x2);
     let y = ways::passage(w.bottom, w.top, s.y1, s.y2);
     if ways::apart(x, y, 0) {
-        return blank(0, 0);
+        return missed();
     }
     let b = ends::finish(s, x, y);
     let a = ends::start(s, x, y);
@@ -126,19 +147,17 @@ fn crossing(w: Window, s: Stroke) -> StrokeAnswer
 pub fn liang_barsky(w: Window, s: Stroke) -> StrokeAnswer
     ensures { Clipping w s result }
 {
-    let a = grid::window_refusal(w);
-    if a.number != 0 {
-        return blank(a.number, a.place);
+    if let Err(refusal) = grid::test_window(w) {
+        return refused(refusal);
     }
     if plain::inside(w, s) {
         return whole_answer(s);
     }
-    let b = grid::stroke_refusal(s);
-    if b.number != 0 {
-        return blank(b.number, b.place);
+    if let Err(refusal) = grid::test_stroke(s) {
+        return refused(refusal);
     }
     if plain::outside(w, s) {
-        return blank(0, 0);
+        return missed();
     }
     crossing(w, s)
 }

@@ -11,16 +11,7 @@ fn between(lo: i32, hi: i32, a: i32, b: i32) -> bool
     ensures ends_between { result ≡ true → EndsBetween lo hi a b }
     ensures fact { result ≡ false → EndsBetween lo hi a b → ⊥ }
 {
-    if a < lo {
-        return false;
-    }
-    if hi < a {
-        return false;
-    }
-    if b < lo {
-        return false;
-    }
-    b <= hi
+    lo <= a && a <= hi && lo <= b && b <= hi
 }
 
 // Whether both ends of the way from a to b are below lo, or both above hi, and so all of it.
@@ -31,7 +22,7 @@ fn beyond(lo: i32, hi: i32, a: i32, b: i32) -> bool
     if b < lo {
         return a < lo;
     }
-    hi < whole::lesser(a, b)
+    hi < a.min(b)
 }
 
 // How a way of one coordinate, or a stroke, lies by its two ends alone: plainly inside, plainly outside, or neither.
@@ -72,10 +63,7 @@ pub fn inside(w: Window, s: Stroke) -> bool
     ensures ends_inside { result ≡ true → EndsInside w s }
     ensures fact { result ≡ false → EndsInside w s → ⊥ }
 {
-    if between(w.left, w.right, s.x1, s.x2) {
-        return between(w.bottom, w.top, s.y1, s.y2);
-    }
-    false
+    between(w.left, w.right, s.x1, s.x2) && between(w.bottom, w.top, s.y1, s.y2)
 }
 
 // Whether the stroke is plainly beyond one side of the window.
@@ -83,10 +71,7 @@ pub fn outside(w: Window, s: Stroke) -> bool
     ensures fact { result ≡ true → (n d : ℤ) → Keeps w s n d → ⊥ }
     ensures reaching { result ≡ false → Reaching w s }
 {
-    if beyond(w.bottom, w.top, s.y1, s.y2) {
-        return true;
-    }
-    beyond(w.left, w.right, s.x1, s.x2)
+    beyond(w.bottom, w.top, s.y1, s.y2) || beyond(w.left, w.right, s.x1, s.x2)
 }
 
 // Both questions at once, for a loop over many strokes: no number is compared twice with a side.

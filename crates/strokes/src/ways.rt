@@ -89,8 +89,5 @@ pub fn apart(x: Way, y: Way, least: u32) -> bool
     ensures apart { result ≡ true → Apart least x y }
     ensures overlap { result ≡ false → Overlap least x y }
 {
-    if y.end * x.long < x.start * y.long + least {
-        return true;
-    }
-    x.end * y.long < y.start * x.long + least
+    y.end * x.long < x.start * y.long + least || x.end * y.long < y.start * x.long + least
 }
