@@ -1,5 +1,6 @@
 -- There is one answer: no side is crossed where all corners lie on one side of the line, and of four sides one is the first.
-use mathlib.Core.Path.{◌≡◌, refl, sym, ◌∙◌}
+use mathlib.Core.Path.{◌≡◌, refl}
+use Rattle.std.specs.Prelude.{None, Some}
 use mathlib.Core.Bool.{Bool, true, false}
 use mathlib.Core.List.{List}
 use mathlib.Core.Logic.{inl, inr}
@@ -20,7 +21,7 @@ use Rattle.strokes.specs.Sides.{four_sides}
 use Rattle.strokes.specs.Workers.{side_met}
 use Rattle.crossed_sides.specs.declared.Crossed.{Crossed}
 use Rattle.crossed_sides.specs.Laws.{OneCrossing}
-use Rattle.crossed_sides.specs.Line.{first_corner, second_corner, OneSide, ComesIn, CrossedBy}
+use Rattle.crossed_sides.specs.Line.{first_corner, second_corner, OneSide, ComesIn, CrossedAt}
 
 -- ---- beside the window no side is crossed
 some : {P : Side → Type 0} {ks : List Side} {n : ℕ} → ((k : Side) → P k → ⊥) → FirstOf P ks n → ⊥
@@ -45,8 +46,8 @@ module _ (w : Window) (s : Stroke) where
   never_in (inl a) k h = let c = (left_corners a k).1 in let r = h.right in omega zarith
   never_in (inr a) k h = let c = (right_corners a k).0 in let l = h.left in omega zarith
 
-  crossed_not_beside : {c d : Crossed} → CrossedBy w s c → CrossedBy w s d → c.beside ≡ true → d.beside ≡ false → ⊥
-  crossed_not_beside p q e f = some (never_in (p.beside e)) (q.comes f)
+  crossed_not_beside : {c : Crossed} → OneSide w s → CrossedAt w s c → ⊥
+  crossed_not_beside p q = some (never_in p) q.comes
 
 -- ---- the numbers of the upright sides and of the level ones
 met_among : (a b : ℤ) (i j : ℕ) (P : ℕ → Type 0) → P i → P j → P (side_met a b i j)
@@ -64,18 +65,10 @@ same_level a b c d false true e =
     let u = met_among c d 0 1 (λ n. n ≤ 1) (omega arith) (omega arith) in absurd (omega arith)
 
 pub one_crossing : OneCrossing
-one_crossing w s c d p q = go c.beside d.beside refl refl
-  where
-    go : (t u : Bool) → c.beside ≡ t → d.beside ≡ u → c ≡ d
-    go true true e f =
-        let i = p.no_entry e ∙ sym (q.no_entry f) in
-        let o = p.no_exit e ∙ sym (q.no_exit f) in
-        let b = e ∙ sym f in
-        λ k. record { beside = b k; entry = i k; exit = o k }
-    go true false e f = absurd (crossed_not_beside w s p q e f)
-    go false true e f = absurd (crossed_not_beside w s q p f e)
-    go false false e f =
-        let i = same_level s.y1 s.y2 s.x1 s.x2 c.entry d.entry (least_unique (p.comes e) (q.comes f)) in
-        let o = same_level s.y2 s.y1 s.x2 s.x1 c.exit d.exit (least_unique (p.goes e) (q.goes f)) in
-        let b = e ∙ sym f in
-        λ k. record { beside = b k; entry = i k; exit = o k }
+one_crossing w s None None p q = refl
+one_crossing w s None (Some d) p q = absurd (crossed_not_beside w s p q)
+one_crossing w s (Some c) None p q = absurd (crossed_not_beside w s q p)
+one_crossing w s (Some c) (Some d) p q =
+    let i = same_level s.y1 s.y2 s.x1 s.x2 c.entry d.entry (least_unique p.comes q.comes) in
+    let o = same_level s.y2 s.y1 s.x2 s.x1 c.exit d.exit (least_unique p.goes q.goes) in
+    λ k. Some (record { entry = i k; exit = o k })

@@ -9,10 +9,10 @@
 --   OneSide w s         all four corners lie left of the line, or all right of it; each is the first one of a side
 --   entry_side, exit_side s level   the number of the side where the stroke's line comes in, or goes out, if it is a level one, bottom or top,
 --                       and if it is not: which of two it is, the stroke's direction tells
---   CrossedBy w s c     c is right for a window and a stroke: the line leaves all corners on one side, or of the sides where it comes in, and of those
---                       where it goes out, the first is the one that c tells. In a corner of the window it crosses two at once. Beside the window it
---                       crosses no side, level or not
-use Rattle.std.specs.Prelude.{◌≡◌, Bool, true, false, ◌⊎◌, ℕ, ℤ, pos, ◌-ℤ◌, ◌*ℤ◌, ◌≤ℤ◌, ◌<ℤ◌}
+--   CrossedAt w s c     of the sides where the line comes in, and of those where it goes out, the first is the one that c tells. In a corner of the
+--                       window it crosses two at once
+--   CrossedBy w s c     c is right for a window and a stroke: the line leaves all corners on one side, or it crosses the window as c tells
+use Rattle.std.specs.Prelude.{Bool, Option, None, Some, ◌⊎◌, ℕ, ℤ, pos, ◌-ℤ◌, ◌*ℤ◌, ◌≤ℤ◌, ◌<ℤ◌}
 use Rattle.whole.specs.Choice.{when◌then◌else◌}
 use Rattle.grid.specs.declared.Stroke.{Stroke}
 use Rattle.grid.specs.declared.Window.{Window}
@@ -58,9 +58,10 @@ entry_side s level = when level then side_met s.y1 s.y2 2 3 else side_met s.x1 s
 abbrev pub exit_side : Stroke → Bool → ℕ
 exit_side s level = when level then side_met s.y2 s.y1 2 3 else side_met s.x2 s.x1 0 1
 
-pub record CrossedBy (w : Window) (s : Stroke) (c : Crossed) : Type 0 where
-  pub beside : c.beside ≡ true → OneSide w s
-  pub no_entry : c.beside ≡ true → c.entry ≡ false
-  pub no_exit : c.beside ≡ true → c.exit ≡ false
-  pub comes : c.beside ≡ false → FirstOf (ComesIn w s) four_sides (entry_side s c.entry)
-  pub goes : c.beside ≡ false → FirstOf (GoesOut w s) four_sides (exit_side s c.exit)
+pub record CrossedAt (w : Window) (s : Stroke) (c : Crossed) : Type 0 where
+  pub comes : FirstOf (ComesIn w s) four_sides (entry_side s c.entry)
+  pub goes : FirstOf (GoesOut w s) four_sides (exit_side s c.exit)
+
+abbrev pub CrossedBy : Window → Stroke → Option Crossed → Type 0
+CrossedBy w s None = OneSide w s
+CrossedBy w s (Some c) = CrossedAt w s c

@@ -8,15 +8,8 @@ ghost use Rattle.crossed_sides.specs.Line.{CrossedBy, entry_side as Line·entryS
 ghost use Rattle.crossed_sides.specs.Workers.{CourseOf, HasLength, LevelIf};
 
 use grid::{Stroke, Window};
-
-// The numbers of the window's sides.
-const LEFT: u8 = 0;
-
-const RIGHT: u8 = 1;
-
-const BOTTOM: u8 = 2;
-
-const TOP: u8 = 3;
+use strokes::Side;
+use strokes::ends::side_met;
 
 // The course of one coordinate, which has two sides of the window across it: how long it is, how far from its start lie the side where it comes in and
 // that where it goes out, and where on the table they are. A side that lies behind the start is at a distance below 0.
@@ -29,11 +22,10 @@ pub struct Course {
     pub to: i32,
 }
 
-// What the line does: it leaves all four corners on one side, or it crosses the window. `entry` says whether it comes in over a level side, the bottom or
-// the top, and not over an upright one; `exit` says the same of going out. Which of the two it is, the stroke's direction tells.
+// Where the line crosses the window. `entry` says whether it comes in over a level side, the bottom or the top, and not over an upright one; `exit` says
+// the same of going out. Which of the two it is, the stroke's direction tells.
 #[derive(Clone, Copy)]
 pub struct Crossed {
-    pub beside: bool,
     pub entry: bool,
     pub exit: bool,
 }
@@ -75,8 +67,9 @@ fn is_level(s: Stroke, a: i32, b: i32) -> bool
     a < b
 }
 
+// Where the line crosses the window, or None where it leaves all four corners on one side.
 // Each corner is put on one side of the line by two products, at most 32,766² = 1,073,610,756, and so of 32 bits.
-pub fn find(w: Window, s: Stroke, x: Course, y: Course) -> Crossed
+pub fn find(w: Window, s: Stroke, x: Course, y: Course) -> Option<Crossed>
     requires window_on_table { WindowOnTable w }
     requires stroke_on_table { StrokeOnTable s }
     requires has_length { HasLength s }
@@ -87,26 +80,17 @@ pub fn find(w: Window, s: Stroke, x: Course, y: Course) -> Crossed
     let upright_in = y.long * x.near;
     let level_out = x.long * y.far;
     if level_out < upright_in {
-        return Crossed {
-            beside: true,
-            entry: false,
-            exit: false,
-        };
+        return None;
     }
     let upright_out = y.long * x.far;
     let level_in = x.long * y.near;
     if upright_out < level_in {
-        return Crossed {
-            beside: true,
-            entry: false,
-            exit: false,
-        };
+        return None;
     }
-    Crossed {
-        beside: false,
+    Some(Crossed {
         entry: is_level(s, upright_in, level_in),
         exit: is_level(s, level_out, upright_out),
-    }
+    })
 }
 
 // The number of the side where the line comes in.
@@ -114,29 +98,19 @@ pub fn entry_side(s: Stroke, level: bool) -> u8
     ensures { result ≡ Line·entrySide s level }
 {
     if level {
-        if s.y1 <= s.y2 {
-            return BOTTOM;
-        }
-        return TOP;
+        side_met(s.y1, s.y2, Side::Bottom, Side::Top)
+    } else {
+        side_met(s.x1, s.x2, Side::Left, Side::Right)
     }
-    if s.x1 <= s.x2 {
-        return LEFT;
-    }
-    RIGHT
 }
 
-// The number of the side where the line goes out.
+// The number of the side where the line goes out: looking back from there it comes in.
 pub fn exit_side(s: Stroke, level: bool) -> u8
     ensures { result ≡ Line·exitSide s level }
 {
     if level {
-        if s.y1 < s.y2 {
-            return TOP;
-        }
-        return BOTTOM;
+        side_met(s.y2, s.y1, Side::Bottom, Side::Top)
+    } else {
+        side_met(s.x2, s.x1, Side::Left, Side::Right)
     }
-    if s.x1 < s.x2 {
-        return RIGHT;
-    }
-    LEFT
 }
