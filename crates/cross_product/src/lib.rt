@@ -17,7 +17,7 @@ use crossed_sides::Course;
 use fraction::Fraction;
 use grid::{Stroke, Window};
 use spans::NO_SIDE;
-use strokes::{End, StrokeAnswer};
+use strokes::{End, StrokeAnswer, plain};
 
 // The stroke's own start, where no side cuts it off.
 fn own_start(s: Stroke) -> End
@@ -137,10 +137,9 @@ fn crossing(w: Window, s: Stroke) -> StrokeAnswer
 {
     let x = crossed_sides::course_past(w.left, w.right, s.x1, s.x2);
     let y = crossed_sides::course_past(w.bottom, w.top, s.y1, s.y2);
-    let line = crossed_sides::find(w, s, x, y);
-    if line.beside {
-        return strokes::blank(0, 0);
-    }
+    let Some(line) = crossed_sides::find(w, s, x, y) else {
+        return strokes::missed();
+    };
     let b = finish(w, s, x, y, line.exit);
     let a = start(w, s, x, y, line.entry);
     strokes::kept_answer(a, b)
@@ -151,19 +150,17 @@ fn crossing(w: Window, s: Stroke) -> StrokeAnswer
 pub fn cross_product(w: Window, s: Stroke) -> StrokeAnswer
     ensures { Clipping w s result }
 {
-    let a = grid::window_refusal(w);
-    if a.number != 0 {
-        return strokes::blank(a.number, a.place);
+    if let Err(refusal) = grid::test_window(w) {
+        return strokes::refused(refusal);
     }
-    if strokes::plain::inside(w, s) {
+    if plain::inside(w, s) {
         return strokes::whole_answer(s);
     }
-    let b = grid::stroke_refusal(s);
-    if b.number != 0 {
-        return strokes::blank(b.number, b.place);
+    if let Err(refusal) = grid::test_stroke(s) {
+        return strokes::refused(refusal);
     }
-    if strokes::plain::outside(w, s) {
-        return strokes::blank(0, 0);
+    if plain::outside(w, s) {
+        return strokes::missed();
     }
     crossing(w, s)
 }
