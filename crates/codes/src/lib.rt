@@ -175,7 +175,7 @@ fn refused(r: Refusal) -> CountedAnswer
 {
     CountedAnswer {
         shortenings: 0,
-        answer: strokes::blank(r.number, r.place),
+        answer: strokes::refused(r),
     }
 }
 
@@ -185,7 +185,7 @@ fn missed(shortenings: u32) -> CountedAnswer
 {
     CountedAnswer {
         shortenings,
-        answer: strokes::blank(0, 0),
+        answer: strokes::missed(),
     }
 }
 
@@ -289,13 +289,11 @@ fn clipped(w: Window, s: Stroke) -> CountedAnswer
 pub fn cohen_sutherland(w: Window, s: Stroke) -> CountedAnswer
     ensures { CohenSutherland w s result }
 {
-    let window = grid::window_refusal(w);
-    if window.number != 0 {
-        return refused(window);
+    if let Err(window_refusal) = grid::test_window(w) {
+        return refused(window_refusal);
     }
-    let stroke = grid::stroke_refusal(s);
-    if stroke.number != 0 {
-        return refused(stroke);
+    if let Err(stroke_refusal) = grid::test_stroke(s) {
+        return refused(stroke_refusal);
     }
     clipped(w, s)
 }
