@@ -2,6 +2,7 @@
 #![tactic(auto)]
 
 ghost use Rattle.std.specs.Prelude.{◌≡◌};
+ghost use Rattle.grid.specs.Refusals.{none, tested};
 ghost use Rattle.grid.specs.Table.{StrokeOnTable};
 ghost use Rattle.convex.specs.Corners.{corners_of, CornersOnTable};
 ghost use Rattle.convex.specs.Ways.{CornerOnTable, Short, cross_of};
@@ -66,28 +67,37 @@ fn kept_span(c: &[i32], s: Stroke) -> SidedSpan
 {
     let mut kept = spans::whole();
     let count = c.len() / 2;
-    let mut k = 0;
-    while k < count {
+    for k in 0..count {
         let a = convex::corner_at(c, 2 * k);
         let b = convex::corner_at(c, 2 * convex::next_of(k, count));
         kept = cut_by_edge(a, b, s, k as u8, kept);
-        k += 1;
     }
     kept
 }
 
-// Not kept: a refusal, or a missed stroke.
-fn blank(r: Refusal) -> CornerAnswer
-    ensures { result ≡ blank_answer r }
+// Nothing is kept.
+fn missed() -> CornerAnswer
+    ensures { result ≡ blank_answer none }
 {
     CornerAnswer {
-        number: r.number,
-        place: r.place,
+        number: 0,
+        place: 0,
         kept: false,
         t0: Fraction { num: 0, den: 1 },
         t1: Fraction { num: 0, den: 1 },
         side0: NO_SIDE,
         side1: NO_SIDE,
+    }
+}
+
+// A refusal: nothing is kept either.
+fn refused(r: Refusal) -> CornerAnswer
+    ensures { result ≡ blank_answer r }
+{
+    CornerAnswer {
+        number: r.number,
+        place: r.place,
+        ..missed()
     }
 }
 
@@ -100,10 +110,7 @@ fn clipped(c: &[i32], s: Stroke) -> CornerAnswer
     let left = kept_span(c, s);
     let span = left.span;
     if spans::is_empty(span) {
-        return blank(Refusal {
-            number: 0,
-            place: 0,
-        });
+        return missed();
     }
     let first = span.first;
     let last = span.last;
@@ -118,30 +125,30 @@ fn clipped(c: &[i32], s: Stroke) -> CornerAnswer
     }
 }
 
-// What the call refuses; length and count come before the range.
-fn refusal(c: &[i32], s: Stroke) -> Refusal
-    ensures { result ≡ cyrus_beck_refusal c.now s }
+// Tests the corners and the stroke of a call; length and count come before the range.
+fn test_call(c: &[i32], s: Stroke) -> Result<(), Refusal>
+    ensures { result ≡ tested (cyrus_beck_refusal c.now s) }
 {
     if !convex::right_count(16, c.len()) {
-        return Refusal {
+        return Err(Refusal {
             number: grid::NO_WINDOW,
             place: 0,
-        };
+        });
     }
     let off = grid::first_off(c);
     if off < c.len() {
-        return Refusal {
+        return Err(Refusal {
             number: grid::WINDOW_OFF,
             place: off,
-        };
+        });
     }
     if !convex::strictly_convex(c) {
-        return Refusal {
+        return Err(Refusal {
             number: grid::NO_WINDOW,
             place: 0,
-        };
+        });
     }
-    grid::stroke_refusal(s)
+    grid::test_stroke(s)
 }
 
 // What a corner window keeps of a stroke, by the Cyrus-Beck rule. The corners are x y x y .., counterclockwise.
@@ -149,9 +156,8 @@ fn refusal(c: &[i32], s: Stroke) -> Refusal
 pub fn cyrus_beck(corners: &[i32], s: Stroke) -> CornerAnswer
     ensures { CyrusBeck corners.now s result }
 {
-    let r = refusal(corners, s);
-    if r.number != 0 {
-        return blank(r);
+    match test_call(corners, s) {
+        Err(refusal) => refused(refusal),
+        Ok(()) => clipped(corners, s),
     }
-    clipped(corners, s)
 }
