@@ -12,7 +12,7 @@ pub struct Corner {
     pub y: i32,
 }
 
-// The way from one point of the table to another.
+// The way from one point of the table to another. A point has two numbers as well; they are two types, so that none is taken for the other.
 #[derive(Clone, Copy)]
 pub struct Way {
     pub x: i32,
@@ -20,16 +20,12 @@ pub struct Way {
 }
 
 // Whether so many numbers are 3 to `most` corners, two numbers each.
+#[tactic(auto, unfolding(crate::specs::Corners::right_count))]
 pub fn right_count(most: usize, n: usize) -> bool
     requires { most ≤ most_corners }
     ensures { result ≡ right_count most n }
 {
-    if n % 2 == 0 {
-        if 6 <= n {
-            return n <= 2 * most;
-        }
-    }
-    false
+    n % 2 == 0 && 6 <= n && n <= 2 * most
 }
 
 // Of n corners the one that comes after the corner k: after the last the first.
@@ -80,10 +76,7 @@ fn turns_left(a: Way, b: Way) -> bool
 fn change(a: Way, b: Way) -> u32
     ensures { result ≡ change_of a b }
 {
-    if (a.y < 0) ^ (b.y < 0) {
-        return 1;
-    }
-    0
+    u32::from((a.y < 0) ^ (b.y < 0))
 }
 
 // Whether corners are strictly convex counterclockwise: every turn goes left, and the edges begin to go down once and to go up
@@ -92,32 +85,16 @@ pub fn strictly_convex(c: &[i32]) -> bool
     requires { CornersOnTable c.now }
     ensures { result ≡ strictly_convex (corners_of c.now) }
 {
-    let n = c.len();
-    let closing = way_from(corner_at(c, n - 2), corner_at(c, 0));
-    let mut edge_x = closing.x;
-    let mut edge_y = closing.y;
+    let closing = way_from(corner_at(c, c.len() - 2), corner_at(c, 0));
+    let mut edge = closing;
     let mut changes = 0;
-    let mut i = 2;
-    while i < n {
-        let edge = Way {
-            x: edge_x,
-            y: edge_y,
-        };
-        let next = way_from(corner_at(c, i - 2), corner_at(c, i));
+    for k in 1..c.len() / 2 {
+        let next = way_from(corner_at(c, 2 * k - 2), corner_at(c, 2 * k));
         if !turns_left(edge, next) {
             return false;
         }
         changes += change(edge, next);
-        edge_x = next.x;
-        edge_y = next.y;
-        i += 2;
+        edge = next;
     }
-    let edge = Way {
-        x: edge_x,
-        y: edge_y,
-    };
-    if !turns_left(edge, closing) {
-        return false;
-    }
-    changes + change(edge, closing) == 2
+    turns_left(edge, closing) && changes + change(edge, closing) == 2
 }
