@@ -2,7 +2,7 @@
 use mathlib.Core.Path.{◌≡◌, refl, sym, ap, ap₂, ◌∙◌}
 use mathlib.Core.Logic.{inl, inr}
 use mathlib.Core.List.{List, [], ◌∷◌, ◌++◌, append_assoc, append-nil}
-use mathlib.Core.Option.{some}
+use Rattle.std.specs.Prelude.{Some}
 use Prim.Native.Nat.{ℕ, suc, ◌+◌, ◌-◌, ◌/◌, ◌%◌, ◌<◌, ◌≤◌, ◌^◌}
 use native.Mathlib.Nat.{lt_of_lt_of_le}
 use native.Mathlib.Omega.{arith}
@@ -18,7 +18,6 @@ use Rattle.text.specs.Pages.{integer, ascii}
 use Rattle.text.specs.Runs.{run, is_not}
 use Rattle.text.proofs.Runs.{run_failed, run_passed}
 use Rattle.words.specs.Words.{words, arguments, numeral, as_integer, integers}
-use Rattle.words.specs.declared.Integer.TheVariants as Integer
 use Rattle.words.proofs.Spaces.{to_space, words_cut}
 use Rattle.words.proofs.Theorems.{integer_back}
 use Rattle.strip_lines.specs.Lines.{listed, lengths, strip_text, row_text}
@@ -64,7 +63,7 @@ few_digits (negsuc n) h = lt_of_lt_of_le (the_next n h) (lit≤ tt)
     the_next : (n : ℕ) → n < 2 ^ 31 → suc n < 2 ^ 32
     the_next n h = omega arith
 
-number_back : (z : ℤ) → mag z < 2 ^ 31 → as_integer (numeral (integer z)) ≡ Integer.Is z
+number_back : (z : ℤ) → mag z < 2 ^ 31 → as_integer (numeral (integer z)) ≡ Some z
 unfolding as_integer
 number_back z h = rw (integer_back z (few_digits z h), lt-ltb (mag z) (2 ^ 31) h)
 
@@ -72,7 +71,7 @@ abbrev joined : ℤ → List ℤ → List ℕ
 joined z [] = integer z
 joined z (y ∷ zs) = integer z ++ 32 ∷ joined y zs
 
-all_back : (z : ℤ) (zs : List ℤ) → Small (z ∷ zs) → integers (words (joined z zs)) ≡ some (z ∷ zs)
+all_back : (z : ℤ) (zs : List ℤ) → Small (z ∷ zs) → integers (words (joined z zs)) ≡ Some (z ∷ zs)
 unfolding integers
 all_back z [] h = rw (last_word z, number_back z (h 0))
 all_back z (y ∷ zs) h = rw (first_word z (joined y zs), number_back z (h 0), all_back y zs (λ (j : ℕ). h (suc j)))
@@ -156,5 +155,5 @@ module _ (t : List ℕ) (i end : ℕ) (k : ℕ) (w : Window) (one : 1 ≤ i) (st
       (drop-cons t (i - 1) 0 (omega (arith, sign_at)) ∙ ap (λ (n : ℕ). get_or t (i - 1) 0 ∷ drop n t) at)
       ∙ ap words (ap (take (length front)) front_is ∙ take_at front (32 ∷ 61 ∷ behind) (length front) refl)
 
-  pub six_are : Small (row_numbers k w) → end ≤ length t → integers (arguments (take (end - 1 - (i - 1)) (drop (i - 1) t))) ≡ some (row_numbers k w)
+  pub six_are : Small (row_numbers k w) → end ≤ length t → integers (arguments (take (end - 1 - (i - 1)) (drop (i - 1) t))) ≡ Some (row_numbers k w)
   six_are small h = ap integers (words_are h) ∙ all_back (pos (k / 32)) (pos (k % 32) ∷ sides w) small

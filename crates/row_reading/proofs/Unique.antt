@@ -1,7 +1,7 @@
 -- A line tells its six numbers, and they tell the slot and the strip.
 use mathlib.Core.Path.{◌≡◌, refl, sym, ap, ◌∙◌}
 use mathlib.Core.List.{List, [], ◌∷◌, ◌++◌}
-use mathlib.Core.Option.{some}
+use Rattle.std.specs.Prelude.{Some}
 use Prim.Native.Nat.{ℕ, ◌+◌, ◌-◌, ◌≤◌, ◌<◌}
 use native.Mathlib.Omega.{arith}
 use lib.IntN.{ℤ}
@@ -43,7 +43,7 @@ one_row t i j k v w h a b =
     let most : end ≤ length t = omega (arith, run_le (is_not 61) (drop i t), length-drop i t) in
     let this = six_are t i end j v h a.line refl (small_row j v a.slot a.good) most in
     let that = six_are t i end k w h b.line refl (small_row k w b.slot b.good) most in
-    let both : some (row_numbers j v) ≡ some (row_numbers k w) = sym this ∙ that in
+    let both : Some (row_numbers j v) ≡ Some (row_numbers k w) = sym this ∙ that in
     let same : row_numbers j v ≡ row_numbers k w = cc in
     let ns = row_numbers j v in
     (sym (told_slot ns j v refl) ∙ told_slot ns k w same, sym (told_strip ns j v refl) ∙ told_strip ns k w same)

@@ -8,84 +8,65 @@ ghost use Rattle.row_reading.specs.Workers.{NumbersAt, RowOf, EndOf};
 
 use grid::Window;
 
-// The line at a place of a text: the table's slot and the strip that it is the line of, and where it ends; or that it is no strip's.
-#[derive(Drop)]
-pub enum Found {
-    Row(usize, Window, usize),
-    Nothing,
+// A strip's line in a text: the table's slot and the strip that it is the line of, and where it ends.
+#[derive(Clone, Copy)]
+pub struct Row {
+    pub slot: usize,
+    pub strip: Window,
+    pub end: usize,
 }
 
-// The slot and the strip that numbers are, or that they are none.
-#[derive(Drop)]
-enum Told {
-    Row(usize, Window),
-    Nothing,
-}
-
-// Reads the six numbers from `from` on that stand before an equals sign, and says whether they are six. The byte before them is passed over, as
-// `read_integers` passes over one before each.
-fn read_six(text: &[u8], from: usize, numbers: &mut [i32; 6]) -> bool
+// Reads the numbers from `from` on that stand before an equals sign, if they are six. The byte before them is passed over, as `read_integers` passes
+// over one before each.
+fn read_six(text: &[u8], from: usize) -> Option<[i32; 6]>
     requires le_from { 1 ≤ from }
     requires from_in_bounds { from ≤ length text.now }
-    ensures { NumbersAt text.now from numbers.new result }
+    ensures { NumbersAt text.now from result }
 {
     let end = text::find(text, from, b'=');
-    let read = words::read_integers(&text[from - 1..end - 1], numbers);
-    if !read.whole {
-        return false;
+    let mut numbers = [0i32; 6];
+    let count = words::read_integers(&text[from - 1..end - 1], &mut numbers)?;
+    if count != 6 {
+        return None;
     }
-    read.count == 6
+    Some(numbers)
 }
 
 // The slot and the strip that six numbers are: the renter, his slot, and the strip's own. Signs are left to the comparison.
-fn row_of(numbers: &[i32; 6]) -> Told
+fn row_of(numbers: &[i32; 6]) -> Option<(usize, Window)>
     ensures { RowOf numbers.now result }
 {
     let k = whole::size(numbers[0] as i64) * 32 + whole::size(numbers[1] as i64);
     if 63 < k {
-        return Told::Nothing;
+        return None;
     }
     let w = slots::strip_at(numbers, 1);
-    let refusal = grid::window_refusal(w);
-    if refusal.number != 0 {
-        return Told::Nothing;
-    }
-    Told::Row(k as usize, w)
+    grid::test_window(w).ok()?;
+    Some((k as usize, w))
 }
 
-// Where the line of the strip in the slot k ends that stands at a place of a text; 0 where another thing stands there.
-fn end_of(text: &[u8], from: usize, k: usize, w: Window) -> usize
+// Where the line of the strip in the slot k ends, if it stands at a place of a text.
+fn end_of(text: &[u8], from: usize, k: usize, w: Window) -> Option<usize>
     requires from_in_bounds { from ≤ length text.now }
     requires k_bound { k < 64 }
     ensures { EndOf text.now from k w result }
 {
     let mut page = [0u8; 580];
     let count = strip_lines::put_row(&mut page, 0, k, w);
-    if text.len() - from < count {
-        return 0;
+    if !text[from..].starts_with(&page[..count]) {
+        return None;
     }
-    if check::same(&text[from..from + count], &page[..count]) {
-        return from + count;
-    }
-    0
+    Some(from + count)
 }
 
 // Finds the line at a place that is not the text's first.
-pub fn row_at(text: &[u8], from: usize) -> Found
+pub fn row_at(text: &[u8], from: usize) -> Option<Row>
     requires le_from { 1 ≤ from }
     requires from_in_bounds { from ≤ length text.now }
     ensures { RowAt text.now from result }
 {
-    let mut numbers = [0i32; 6];
-    if !read_six(text, from, &mut numbers) {
-        return Found::Nothing;
-    }
-    let Told::Row(k, w) = row_of(&numbers) else {
-        return Found::Nothing;
-    };
-    let end = end_of(text, from, k, w);
-    if end == 0 {
-        return Found::Nothing;
-    }
-    Found::Row(k, w, end)
+    let numbers = read_six(text, from)?;
+    let (slot, strip) = row_of(&numbers)?;
+    let end = end_of(text, from, slot, strip)?;
+    Some(Row { slot, strip, end })
 }
