@@ -4,19 +4,21 @@
 // The name of the new file is that of the file and ".new": the caller lends it, and says how long the file's own name is.
 #![tactic(auto)]
 
-ghost use Rattle.std.specs.Prelude.{◌≡◌, ◌≤◌, length};
+ghost use Rattle.std.specs.Prelude.{◌≤◌, length, IfOk, IfSome};
 ghost use Rattle.keeping.specs.Folders.{FolderEnd};
 
 use std::fs::{File, OpenOptions};
 use std::io::{Error, ErrorKind};
 use std::{fs, str};
 
-// What was read of a file: how many bytes; none where there is no such file; or that it could not be read, of which standard error then says why.
-#[derive(Drop)]
-pub struct Held {
-    pub count: usize,
-    pub missing: bool,
-    pub failed: bool,
+// Something could not be done, and standard error has said why.
+#[derive(Clone, Copy, Debug, PartialEq, Eq)]
+pub struct Told;
+
+// Tells what failed and why.
+fn tell_failure(rt: &HostRuntime, what: &[u8], error: &Error) -> Told {
+    streams::fail(rt, what, error);
+    Told
 }
 
 // Tells that another program has the file in hand, or had it when it was stopped.
@@ -83,93 +85,68 @@ fn is_link(rt: &HostRuntime, name: &[u8]) -> bool {
     }
 }
 
-// Whether a name is a file's own. A link's is not: the new file would take its place, and there would be two books. Standard error then says so.
-pub fn is_own(rt: &HostRuntime, name: &[u8]) -> bool {
+// Tests that a name is a file's own. A link's is not: the new file would take its place, and there would be two books.
+pub fn test_own(rt: &HostRuntime, name: &[u8]) -> Result<(), Told> {
     if !is_link(rt, name) {
-        return true;
+        return Ok(());
     }
     streams::tell(rt, name);
     streams::tell(
         rt,
         b" is a link: name the file itself, so that the book has one name\n",
     );
-    false
+    Err(Told)
 }
 
-// Takes a file in hand: makes the file that says so, and answers it, or nothing, where standard error then says why.
-pub fn take(rt: &HostRuntime, busy: &[u8]) -> Option<File> {
-    match create(rt, busy) {
-        Ok(held) => Some(held),
+// Makes a file that is not there yet. If it is there, `tell_there` tells what that means.
+fn make<F: Fn()>(rt: &HostRuntime, name: &[u8], tell_there: F) -> Result<File, Told>
+    requires { F.IsAlwaysCallable tell_there }
+{
+    match create(rt, name) {
+        Ok(made) => Ok(made),
         Err(error) => {
             if error.kind() == ErrorKind::AlreadyExists {
-                tell_busy(rt, busy);
-            } else {
-                streams::fail(rt, busy, &error);
+                tell_there();
+                return Err(Told);
             }
-            None
+            Err(tell_failure(rt, name, &error))
         }
     }
+}
+
+// Takes a file in hand: makes the file that says so.
+pub fn take(rt: &HostRuntime, busy: &[u8]) -> Result<File, Told> {
+    make(rt, busy, || tell_busy(rt, busy))
 }
 
 // Lets a file go that is in hand.
 pub fn leave(rt: &HostRuntime, busy: &[u8], held: File) {
     drop(held);
-    match remove(rt, busy) {
-        Ok(()) => {}
-        Err(error) => streams::fail(rt, busy, &error),
+    if let Err(error) = remove(rt, busy) {
+        streams::fail(rt, busy, &error);
     }
 }
 
-// Whether there is no new file. Of one that is there, standard error says what to do: the file is in hand, so no program is at it.
-pub fn is_clear(rt: &HostRuntime, new: &[u8]) -> bool {
+// Tests that there is no new file. Of one that is there, standard error says what to do: the file is in hand, so no program is at it.
+pub fn test_clear(rt: &HostRuntime, new: &[u8]) -> Result<(), Told> {
     match open(rt, new) {
-        Err(_) => true,
+        Err(_) => Ok(()),
         Ok(left) => {
             drop(left);
             tell_left(rt, new);
-            false
+            Err(Told)
         }
     }
-}
-
-// A file that could not be read, or that the disk does not say it holds: standard error says why, and nothing is to be answered from it.
-fn not_read(rt: &HostRuntime, file: &[u8], error: &Error) -> Held
-    ensures { result.count ≡ 0 }
-{
-    streams::fail(rt, file, error);
-    Held {
-        count: 0,
-        missing: false,
-        failed: true,
-    }
-}
-
-// Why a file could not be opened: there is none, or standard error says it.
-fn unopened(rt: &HostRuntime, file: &[u8], error: &Error) -> Held
-    ensures { result.count ≡ 0 }
-{
-    if error.kind() == ErrorKind::NotFound {
-        return Held {
-            count: 0,
-            missing: true,
-            failed: false,
-        };
-    }
-    not_read(rt, file, error)
 }
 
 // How many bytes of a file's name are its folder's: up to the last slash, and that too; none where it has no slash.
 fn folder(file: &[u8]) -> usize
     ensures { FolderEnd file.now result }
 {
-    let mut end = file.len();
-    while 0 < end {
-        if file[end - 1] == b'/' {
-            return end;
-        }
-        end -= 1;
+    match file.iter().rposition(|byte| *byte == b'/') {
+        Some(slash) => slash + 1,
+        None => 0,
     }
-    0
 }
 
 // Opens a file's folder.
@@ -188,29 +165,30 @@ fn sync_folder(rt: &HostRuntime, file: &[u8]) -> Result<(), Error> {
 }
 
 // Reads a file until it ends or buf is full, and has the disk hold it under its name: a program that was stopped may have written it and not seen to
-// that, and what is answered from it must not be lost.
-pub fn read(rt: &HostRuntime, file: &[u8], buf: &mut [u8]) -> Held
-    ensures { result.count ≤ length buf.new }
+// that, and what is answered from it must not be lost. Says how many bytes there are, or that there is no such file.
+pub fn read(rt: &HostRuntime, file: &[u8], buf: &mut [u8]) -> Result<Option<usize>, Told>
+    ensures { IfOk result (λ held. IfSome held (λ count. count ≤ length buf.new)) }
 {
     match open(rt, file) {
-        Ok(from) => read_open(rt, file, from, buf),
-        Err(error) => unopened(rt, file, &error),
+        Ok(from) => Ok(Some(read_open(rt, file, from, buf)?)),
+        Err(error) => {
+            if error.kind() == ErrorKind::NotFound {
+                return Ok(None);
+            }
+            Err(tell_failure(rt, file, &error))
+        }
     }
 }
 
 // The same of a file that is open.
-fn read_open(rt: &HostRuntime, file: &[u8], from: File, buf: &mut [u8]) -> Held
-    ensures { result.count ≤ length buf.new }
+fn read_open(rt: &HostRuntime, file: &[u8], from: File, buf: &mut [u8]) -> Result<usize, Told>
+    ensures { IfOk result (λ count. count ≤ length buf.new) }
 {
     let mut from = from;
     let taken = streams::read_file(rt, &mut from, buf);
     match hold_read(rt, file, from) {
-        Ok(()) => Held {
-            count: taken.count,
-            missing: false,
-            failed: taken.failed,
-        },
-        Err(error) => not_read(rt, file, &error),
+        Ok(()) => taken.ok_or(Told),
+        Err(error) => Err(tell_failure(rt, file, &error)),
     }
 }
 
@@ -228,30 +206,15 @@ fn put_down(to: File, text: &[u8]) -> Result<(), Error> {
     to.sync_all()
 }
 
-// Makes the new file, and answers it, or nothing, where standard error then says why.
-fn make(rt: &HostRuntime, new: &[u8]) -> Option<File> {
-    match create(rt, new) {
-        Ok(to) => Some(to),
-        Err(error) => {
-            if error.kind() == ErrorKind::AlreadyExists {
-                tell_left(rt, new);
-            } else {
-                streams::fail(rt, new, &error);
-            }
-            None
-        }
-    }
-}
-
 // Tells that the new text is not kept, and removes the new file.
-fn not_kept(rt: &HostRuntime, new: &[u8], error: &Error) -> bool {
-    streams::fail(
+fn not_kept(rt: &HostRuntime, new: &[u8], error: &Error) -> Told {
+    let told = tell_failure(
         rt,
         b"the book could not be written, and is as it was",
         error,
     );
     let _ = remove(rt, new);
-    false
+    told
 }
 
 // Writes a new text to its new file, which then takes the file's name.
@@ -260,26 +223,21 @@ fn replace(rt: &HostRuntime, new: &[u8], file: &[u8], to: File, text: &[u8]) -> 
     rename(rt, new, file)
 }
 
-// Keeps a new text in a file that is in hand: it is on disk, under the file's name, before this answers true. Else standard error says why.
-pub fn keep(rt: &HostRuntime, new: &[u8], long: usize, text: &[u8]) -> bool
+// Keeps a new text in a file that is in hand: where this answers Ok, it is on disk, under the file's name.
+pub fn keep(rt: &HostRuntime, new: &[u8], long: usize, text: &[u8]) -> Result<(), Told>
     requires { long ≤ length new.now }
 {
     let file = &new[..long];
-    let Some(to) = make(rt, new) else {
-        return false;
-    };
+    let to = make(rt, new, || tell_left(rt, new))?;
     if let Err(error) = replace(rt, new, file, to, text) {
-        return not_kept(rt, new, &error);
+        return Err(not_kept(rt, new, &error));
     }
     match sync_folder(rt, file) {
-        Ok(()) => true,
-        Err(error) => {
-            streams::fail(
-                rt,
-                b"the book is written, but the disk does not say that it holds it",
-                &error,
-            );
-            false
-        }
+        Ok(()) => Ok(()),
+        Err(error) => Err(tell_failure(
+            rt,
+            b"the book is written, but the disk does not say that it holds it",
+            &error,
+        )),
     }
 }
