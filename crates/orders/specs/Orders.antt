@@ -8,18 +8,16 @@
 --   ReleaseWords l r k   after the first word of l come the renter r and the slot k, and no more
 --   StripsWords l r      after the first word of l comes the renter r, and no more
 --   Unknown w            the word w is no command
---   Orders l o           the promise of `read`, for what a line says: the line l orders o
-use Rattle.std.specs.Prelude.{◌≡◌, List, [], ℕ, zero, suc, ℤ, Float, length}
+--   Orders l o           the promise of `read`, for what a line says: the line l orders o, or o is an error that says whose words are wrong
+use Rattle.std.specs.Prelude.{◌≡◌, List, [], ℕ, zero, suc, ℤ, Float, Some, Result, Ok, Err, length}
 use Rattle.std.specs.Float.{binary32}
 use Rattle.std.specs.Float.Ieee.{of_bits}
 use Rattle.text.specs.Pages.{ascii}
 use Rattle.words.specs.Words.{numeral, as_integer}
-use Rattle.words.specs.declared.Integer.TheVariants as Integer
 use Rattle.decimal.specs.Decimals.{Reads}
-use Rattle.decimal.specs.declared.Reading.TheVariants.{Number}
 use Rattle.intake.specs.declared.WindowMm.{WindowMm}
 use Rattle.pen_line.specs.Lines.{start_of, end_of, word}
-use Rattle.orders.specs.declared.Fault.TheVariants as Fault
+use Rattle.orders.specs.declared.Fault.{Fault}
 use Rattle.orders.specs.declared.Order.{Order}
 
 -- ---- words
@@ -35,10 +33,10 @@ abbrev pub Over : List ℕ → ℕ → Type 0
 Over l n = start_of l (place_after l n) ≡ length l
 
 abbrev pub IsWhole : List ℕ → ℤ → Type 0
-IsWhole w z = as_integer (numeral w) ≡ Integer.Is z
+IsWhole w z = as_integer (numeral w) ≡ Some z
 
 pub data IsLength (w : List ℕ) : Float → Type 0 where
-  nearest : {bits : ℕ} → Reads w (Number bits) → IsLength w (of_bits binary32 bits)
+  nearest : {bits : ℕ} → Reads w (Some bits) → IsLength w (of_bits binary32 bits)
 
 -- ---- what follows a command
 
@@ -68,14 +66,14 @@ pub record Unknown (w : List ℕ) : Type 0 where
   pub not_show : w ≡ ascii "show" → ⊥
 
 -- The first word says which cases there are: a command has two, that its words follow or that they do not.
-pub data Orders (l : List ℕ) : Order → Type 0 where
-  blank : word_after l 0 ≡ [] → Orders l Order.Blank
-  unknown : (word_after l 0 ≡ [] → ⊥) → Unknown (word_after l 0) → Orders l (Order.Wrong Fault.Word)
-  book : {r : ℤ} {s : WindowMm} → word_after l 0 ≡ ascii "book" → BookWords l r s → Orders l (Order.Book r s)
-  no_book : word_after l 0 ≡ ascii "book" → ((r : ℤ) (s : WindowMm) → BookWords l r s → ⊥) → Orders l (Order.Wrong Fault.Book)
-  release : {r k : ℤ} → word_after l 0 ≡ ascii "release" → ReleaseWords l r k → Orders l (Order.Release r k)
-  no_release : word_after l 0 ≡ ascii "release" → ((r k : ℤ) → ReleaseWords l r k → ⊥) → Orders l (Order.Wrong Fault.Release)
-  strips : {r : ℤ} → word_after l 0 ≡ ascii "strips" → StripsWords l r → Orders l (Order.Strips r)
-  no_strips : word_after l 0 ≡ ascii "strips" → ((r : ℤ) → StripsWords l r → ⊥) → Orders l (Order.Wrong Fault.Strips)
-  show : word_after l 0 ≡ ascii "show" → Over l 1 → Orders l Order.Show
-  no_show : word_after l 0 ≡ ascii "show" → (Over l 1 → ⊥) → Orders l (Order.Wrong Fault.Show)
+pub data Orders (l : List ℕ) : Result Order Fault → Type 0 where
+  blank : word_after l 0 ≡ [] → Orders l (Ok Order.Blank)
+  unknown : (word_after l 0 ≡ [] → ⊥) → Unknown (word_after l 0) → Orders l (Err Fault.Word)
+  book : {r : ℤ} {s : WindowMm} → word_after l 0 ≡ ascii "book" → BookWords l r s → Orders l (Ok (Order.Book r s))
+  no_book : word_after l 0 ≡ ascii "book" → ((r : ℤ) (s : WindowMm) → BookWords l r s → ⊥) → Orders l (Err Fault.Book)
+  release : {r k : ℤ} → word_after l 0 ≡ ascii "release" → ReleaseWords l r k → Orders l (Ok (Order.Release r k))
+  no_release : word_after l 0 ≡ ascii "release" → ((r k : ℤ) → ReleaseWords l r k → ⊥) → Orders l (Err Fault.Release)
+  strips : {r : ℤ} → word_after l 0 ≡ ascii "strips" → StripsWords l r → Orders l (Ok (Order.Strips r))
+  no_strips : word_after l 0 ≡ ascii "strips" → ((r : ℤ) → StripsWords l r → ⊥) → Orders l (Err Fault.Strips)
+  show : word_after l 0 ≡ ascii "show" → Over l 1 → Orders l (Ok Order.Show)
+  no_show : word_after l 0 ≡ ascii "show" → (Over l 1 → ⊥) → Orders l (Err Fault.Show)

@@ -2,17 +2,16 @@
 #![tactic(auto)]
 
 ghost use Rattle.std.specs.Prelude.{◌≡◌, ◌≤◌, eqb, length};
+ghost use Rattle.std.specs.Option.{ok_or};
 ghost use Rattle.text.specs.Pages.{ascii};
 ghost use Rattle.pen_line.specs.Lines.{start_of, spoken};
 ghost use Rattle.orders.specs.Orders.{Orders};
-ghost use Rattle.orders.specs.Workers.{Begins, WholeFrom, LengthFrom, Names};
+ghost use Rattle.orders.specs.Workers.{NextWord, Begins, WholeFrom, LengthFrom, Names};
 
-use decimal::Reading;
 use intake::WindowMm;
-use words::Integer;
 
 // Whose words are wrong: a line's first word, or those after a command.
-#[derive(Clone, Copy)]
+#[derive(Clone, Copy, Debug, PartialEq, Eq)]
 pub enum Fault {
     Word,
     Book,
@@ -29,7 +28,6 @@ pub enum Order {
     Release(i32, i32),
     Strips(i32),
     Show,
-    Wrong(Fault),
 }
 
 // The command that a word is.
@@ -39,47 +37,35 @@ enum Command {
     Release,
     Strips,
     Show,
-    Other,
 }
 
-// A word as a whole number, and where it ends.
-#[derive(Clone, Copy)]
-enum Whole {
-    Bad,
-    Is(i32, usize),
+// Where the next word from `from` on starts, and where it ends.
+fn next_word(line: &[u8], from: usize) -> (usize, usize)
+    requires { from ≤ length line.now }
+    ensures { NextWord line.now from result.0 result.1 }
+{
+    let start = text::skip(line, from, b' ');
+    (start, text::find(line, start, b' '))
 }
 
-// A word as a number of millimetres, and where it ends.
-#[derive(Clone, Copy)]
-enum Length {
-    Bad,
-    Is(f32, usize),
-}
-
-// Reads the next word from `from` on as a whole number.
-fn whole_from(line: &[u8], from: usize) -> Whole
+// Reads the next word from `from` on as a whole number, and says where it ends.
+fn whole_from(line: &[u8], from: usize) -> Option<(i32, usize)>
     requires { from ≤ length line.now }
     ensures { WholeFrom line.now from result }
 {
-    let start = text::skip(line, from, b' ');
-    let end = text::find(line, start, b' ');
-    match words::read_integer(&line[start..end]) {
-        Integer::Is(z) => Whole::Is(z, end),
-        Integer::Bad => Whole::Bad,
-    }
+    let (start, end) = next_word(line, from);
+    let number = words::read_integer(&line[start..end])?;
+    Some((number, end))
 }
 
-// Reads the next word from `from` on as a number of millimetres.
-fn length_from(line: &[u8], from: usize) -> Length
+// Reads the next word from `from` on as a number of millimetres, and says where it ends.
+fn length_from(line: &[u8], from: usize) -> Option<(f32, usize)>
     requires { from ≤ length line.now }
     ensures { LengthFrom line.now from result }
 {
-    let start = text::skip(line, from, b' ');
-    let end = text::find(line, start, b' ');
-    match decimal::read(&line[start..end]) {
-        Reading::Number(bits) => Length::Is(words::from_bits(bits), end),
-        Reading::Nothing => Length::Bad,
-    }
+    let (start, end) = next_word(line, from);
+    let bits = decimal::read(&line[start..end])?;
+    Some((words::from_bits(bits), end))
 }
 
 // Whether no word follows the place `from`.
@@ -90,121 +76,102 @@ fn over(line: &[u8], from: usize) -> bool
     text::skip(line, from, b' ') == line.len()
 }
 
-// Reads a line whose first word is book.
-fn read_booking(line: &[u8], from: usize) -> Order
+// Reads what follows the word book.
+fn read_booking(line: &[u8], from: usize) -> Option<Order>
     requires { Begins line.now (ascii "book") from }
-    ensures { Orders line.now result }
+    ensures { Orders line.now (ok_or result Fault.Book) }
 {
-    let Whole::Is(renter, a) = whole_from(line, from) else {
-        return Order::Wrong(Fault::Book);
-    };
-    let Length::Is(left, b) = length_from(line, a) else {
-        return Order::Wrong(Fault::Book);
-    };
-    let Length::Is(bottom, c) = length_from(line, b) else {
-        return Order::Wrong(Fault::Book);
-    };
-    let Length::Is(right, d) = length_from(line, c) else {
-        return Order::Wrong(Fault::Book);
-    };
-    let Length::Is(top, e) = length_from(line, d) else {
-        return Order::Wrong(Fault::Book);
-    };
+    let (renter, a) = whole_from(line, from)?;
+    let (left, b) = length_from(line, a)?;
+    let (bottom, c) = length_from(line, b)?;
+    let (right, d) = length_from(line, c)?;
+    let (top, e) = length_from(line, d)?;
     if !over(line, e) {
-        return Order::Wrong(Fault::Book);
+        return None;
     }
-    Order::Book(
-        renter,
-        WindowMm {
-            left,
-            bottom,
-            right,
-            top,
-        },
-    )
+    let strip = WindowMm {
+        left,
+        bottom,
+        right,
+        top,
+    };
+    Some(Order::Book(renter, strip))
 }
 
-// Reads a line whose first word is release.
-fn read_release(line: &[u8], from: usize) -> Order
+// Reads what follows the word release.
+fn read_release(line: &[u8], from: usize) -> Option<Order>
     requires { Begins line.now (ascii "release") from }
-    ensures { Orders line.now result }
+    ensures { Orders line.now (ok_or result Fault.Release) }
 {
-    let Whole::Is(renter, a) = whole_from(line, from) else {
-        return Order::Wrong(Fault::Release);
-    };
-    let Whole::Is(slot, b) = whole_from(line, a) else {
-        return Order::Wrong(Fault::Release);
-    };
-    if over(line, b) {
-        return Order::Release(renter, slot);
+    let (renter, a) = whole_from(line, from)?;
+    let (slot, b) = whole_from(line, a)?;
+    if !over(line, b) {
+        return None;
     }
-    Order::Wrong(Fault::Release)
+    Some(Order::Release(renter, slot))
 }
 
-// Reads a line whose first word is strips.
-fn read_strips(line: &[u8], from: usize) -> Order
+// Reads what follows the word strips.
+fn read_strips(line: &[u8], from: usize) -> Option<Order>
     requires { Begins line.now (ascii "strips") from }
-    ensures { Orders line.now result }
+    ensures { Orders line.now (ok_or result Fault.Strips) }
 {
-    let Whole::Is(renter, a) = whole_from(line, from) else {
-        return Order::Wrong(Fault::Strips);
-    };
-    if over(line, a) {
-        return Order::Strips(renter);
+    let (renter, a) = whole_from(line, from)?;
+    if !over(line, a) {
+        return None;
     }
-    Order::Wrong(Fault::Strips)
+    Some(Order::Strips(renter))
 }
 
-// Reads a line whose first word is show.
-fn read_show(line: &[u8], from: usize) -> Order
+// Reads what follows the word show.
+fn read_show(line: &[u8], from: usize) -> Option<Order>
     requires { Begins line.now (ascii "show") from }
-    ensures { Orders line.now result }
+    ensures { Orders line.now (ok_or result Fault.Show) }
 {
-    if over(line, from) {
-        return Order::Show;
+    if !over(line, from) {
+        return None;
     }
-    Order::Wrong(Fault::Show)
+    Some(Order::Show)
 }
 
-// The command that a word is.
-fn command_of(word: &[u8]) -> Command
+// The command that a word is, if it is one.
+fn command_of(word: &[u8]) -> Option<Command>
     ensures { Names word.now result }
 {
-    if check::same(word, b"book") {
-        return Command::Book;
+    if word == b"book".as_slice() {
+        return Some(Command::Book);
     }
-    if check::same(word, b"release") {
-        return Command::Release;
+    if word == b"release".as_slice() {
+        return Some(Command::Release);
     }
-    if check::same(word, b"strips") {
-        return Command::Strips;
+    if word == b"strips".as_slice() {
+        return Some(Command::Strips);
     }
-    if check::same(word, b"show") {
-        return Command::Show;
+    if word == b"show".as_slice() {
+        return Some(Command::Show);
     }
-    Command::Other
+    None
 }
 
 // Reads a line without its comment.
-fn read_words(line: &[u8]) -> Order
+fn read_words(line: &[u8]) -> Result<Order, Fault>
     ensures { Orders line.now result }
 {
-    let start = text::skip(line, 0, b' ');
-    let end = text::find(line, start, b' ');
+    let (start, end) = next_word(line, 0);
     if end == start {
-        return Order::Blank;
+        return Ok(Order::Blank);
     }
     match command_of(&line[start..end]) {
-        Command::Book => read_booking(line, end),
-        Command::Release => read_release(line, end),
-        Command::Strips => read_strips(line, end),
-        Command::Show => read_show(line, end),
-        Command::Other => Order::Wrong(Fault::Word),
+        Some(Command::Book) => read_booking(line, end).ok_or(Fault::Book),
+        Some(Command::Release) => read_release(line, end).ok_or(Fault::Release),
+        Some(Command::Strips) => read_strips(line, end).ok_or(Fault::Strips),
+        Some(Command::Show) => read_show(line, end).ok_or(Fault::Show),
+        None => Err(Fault::Word),
     }
 }
 
 // Reads a line.
-pub fn read(line: &[u8]) -> Order
+pub fn read(line: &[u8]) -> Result<Order, Fault>
     ensures { Orders (spoken line.now) result }
 {
     let end = pen_line::words_end(line);
