@@ -3,6 +3,8 @@ use mathlib.Core.Path.{◌≡◌, refl}
 use mathlib.Core.Bool.{Bool, true, false}
 use lib.IntN.{ℤ}
 use lib.Signed.{◌≤ℤ◌, ◌<ℤ◌, lt_z}
+use Rattle.std.specs.Int.{int_min, int_max}
+use Rattle.std.specs.Prelude.{cond}
 use Rattle.whole.specs.Choice.{when◌then◌else◌}
 use Rattle.whole.specs.Extremes.{lesser, greater}
 use Rattle.whole.proofs.Order.{zarith}
@@ -40,3 +42,22 @@ module _ {a b r : ℤ} where
       go : (t : Bool) → r ≡ (when t then b else a) → a ≤ℤ c → b ≤ℤ c → r ≤ℤ c
       go true e h k = let is : r ≡ b = e in omega zarith
       go false e h k = let is : r ≡ a = e in omega zarith
+
+-- std's words for the same
+pub min_is : (a b : ℤ) → int_min a b ≡ lesser a b
+unfolding lesser
+min_is a b = go (lt_z b a)
+  where
+    go : (t : Bool) → cond t b a ≡ (when t then b else a)
+    go true = refl
+    go false = refl
+
+pub max_is : (a b : ℤ) → int_max a b ≡ greater a b
+unfolding greater
+max_is a b = go (lt_z b a) (lt_z a b) refl refl
+  where
+    go : (s t : Bool) → lt_z b a ≡ s → lt_z a b ≡ t → cond s a b ≡ (when t then b else a)
+    go true true p q = let h : b <ℤ a = lt_yes refl refl p in let k : a <ℤ b = lt_yes refl refl q in omega zarith
+    go true false p q = refl
+    go false true p q = refl
+    go false false p q = let h : a ≤ℤ b = lt_no refl refl p in let k : b ≤ℤ a = lt_no refl refl q in omega zarith
