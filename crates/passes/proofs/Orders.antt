@@ -1,9 +1,8 @@
 -- The sides in each order are an arrangement of the four: one after the other is taken out of those that are left.
-use mathlib.Core.Path.{◌≡◌, refl, sym, ap, ◌∙◌}
+use mathlib.Core.Path.{◌≡◌, refl, ap, ◌∙◌}
 use mathlib.Core.List.Permᴰ
 use mathlib.Core.List.{List, [], ◌∷◌, map, Permᴰ}
-use Prim.Native.Nat.{ℕ, zero, suc, ◌+◌, ◌*◌, ◌/◌, ◌%◌, ◌<◌, ◌≤◌}
-use native.Mathlib.Numerals.{add-one}
+use Prim.Native.Nat.{ℕ, zero, suc, ◌/◌, ◌%◌, ◌<◌, ◌≤◌}
 use native.Mathlib.Omega.{arith}
 use lib.ListN.{length, get_or, drop, length-map, get_or-map}
 use lib.Seq.{drop-cons}
@@ -12,7 +11,7 @@ use Rattle.grid.specs.Sides.{Side, left, right, bottom, top, place_of, side_at}
 use Rattle.rings.specs.Windows.{side_lines}
 use Rattle.limits.specs.Sides.{side_line}
 use Rattle.limits.proofs.Sides.{place_below, side_place}
-use Rattle.passes.specs.Orders.{without, sides_in, side_in, lines_in, packed}
+use Rattle.passes.specs.Orders.{without, sides_in, side_in, lines_in, places_of}
 
 -- ---- one taken out
 taken : (k : ℕ) (xs : List Side) → k < length xs → Permᴰ xs (get_or xs k left ∷ without k xs)
@@ -53,22 +52,13 @@ module _ (o : ℕ) (h : o ≤ 23) where
   unfolding sides_in
   sides_length = omega (arith, three_length, two_length, without_length (o % 2) two (omega (arith, three_length, two_length)))
 
-  -- of the sides packed from the k-th on, the first and the others
-  module _ (k : ℕ) (l : k < 4) {rest : ℕ} (e : rest ≡ packed (drop k (sides_in o))) where
-    in_two : rest ≡ place_of (side_in o k) + 4 * packed (drop (suc k) (sides_in o))
-    unfolding packed
-    in_two = e ∙ ap packed (drop-cons (sides_in o) k left (omega (arith, sides_length)))
+  -- the k-th side, as the program numbers it
+  module _ (k : ℕ) (l : k < 4) {n : ℕ} (e : n ≡ get_or (places_of (sides_in o)) k 0) where
+    pub place_is : n ≡ place_of (side_in o k)
+    place_is = e ∙ get_or-map place_of (sides_in o) k left
 
-    pub next_place : rest % 4 ≡ place_of (side_in o k)
-    next_place = omega (arith, in_two, place_below (side_in o k))
-
-    pub next_side : side_at (rest % 4) ≡ side_in o k
-    next_side = ap side_at next_place ∙ side_place (side_in o k)
-
-    pub sides_after : rest / 4 ≡ packed (drop (k + 1) (sides_in o))
-    sides_after =
-        let d : rest / 4 ≡ packed (drop (suc k) (sides_in o)) = omega (arith, in_two, place_below (side_in o k)) in
-        d ∙ ap (λ (j : ℕ). packed (drop j (sides_in o))) (sym (add-one k))
+    pub side_is : side_at n ≡ side_in o k
+    side_is = ap side_at place_is ∙ side_place (side_in o k)
 
 map_arranged : {A B : Type 0} {xs ys : List A} (f : A → B) → Permᴰ xs ys → Permᴰ (map f xs) (map f ys)
 map_arranged f Permᴰ.nil = Permᴰ.nil
@@ -89,3 +79,8 @@ module _ (o : ℕ) (w : Window) (h : o ≤ 23) where
   pub lines_from : (k : ℕ) → k < 4 → drop k (lines_in o w) ≡ side_line w (side_in o k) ∷ drop (suc k) (lines_in o w)
   unfolding lines_in
   lines_from k l = rw (drop-cons (lines_in o w) k (side_line w left) (omega (arith, lines_length)), get_or-map (side_line w) (sides_in o) k left)
+
+pub places_below : (ss : List Side) (k : ℕ) → k < length ss → get_or (places_of ss) k 0 < 4
+places_below [] k h = absurd (omega arith)
+places_below (s ∷ ss) zero h = place_below s
+places_below (s ∷ ss) (suc k) h = places_below ss k (omega arith)

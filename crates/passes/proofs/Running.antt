@@ -1,6 +1,7 @@
 -- Each pass leaves a ring that ends at most one place later, which the remaining passes go on from, or no area; a side with no corner of the outline outside
 -- leaves the ring as it is.
 use mathlib.Core.Path.{◌≡◌, refl, sym, ap, ◌∙◌, subst, transport}
+use mathlib.Core.Bool.{Bool, false}
 use mathlib.Core.List.{List, [], ◌∷◌, ◌++◌, append-nil, append_assoc}
 use mathlib.Core.Option.{none}
 use Prim.Native.Nat.{ℕ, zero, suc, ◌+◌, ◌-◌, ◌*◌, ◌/◌, ◌<◌, ◌≤◌}
@@ -8,10 +9,10 @@ use native.Mathlib.Nat.{sub-zero}
 use native.Mathlib.Numerals.{add-one}
 use native.Mathlib.Omega.{arith}
 use lib.IntN.{ℤ}
-use lib.ListN.{length, take, drop, replicate, drop_of_length-le, get_or-replicate}
-use lib.Seq.{take-suc}
+use lib.ListN.{length, take, drop, set, replicate, get_or, drop_of_length-le, get_or-replicate}
+use lib.Seq.{take-suc, take-suc-set}
 use Rattle.grid.specs.declared.Window.{Window}
-use Rattle.grid.specs.Sides.{Side}
+use Rattle.grid.specs.Sides.{Side, place_of}
 use Rattle.rings.specs.Lists.{All}
 use Rattle.rings.specs.Points.{Point, Line, In}
 use Rattle.rings.specs.Rings.{Ring}
@@ -34,7 +35,7 @@ use Rattle.remains.proofs.Pieces.{cut_nothing}
 use Rattle.remains.proofs.Held.{small_in}
 use Rattle.remains.proofs.Loaded.{ring_loaded, loaded_held}
 use Rattle.passes.specs.Orders.{side_in, lines_in}
-use Rattle.passes.specs.Passes.{Running, Ran, area}
+use Rattle.passes.specs.Passes.{Cutting, Running, Ran, area}
 use Rattle.passes.proofs.Orders.{lines_length, lines_from}
 
 -- ---- each corner that a cut leaves lies in the ring
@@ -98,6 +99,15 @@ module _ {w : Window} {o : ℕ} {zs m m' : List ℤ} {p p' : Places} {k : ℕ} {
         none_so_far = λ d. none_goes_on (cut c.pass l (subst (λ (hs : List Line). Cuts hs (ring_at m' p') none) next d));
       }
 
+-- with its count in its place
+pub run_counted : {w : Window} {o : ℕ} {zs m m' : List ℤ} {p p' : Places} {k : ℕ} (cs : List ℕ) {s : Side} → o ≤ 23 → k < 4 → s ≡ side_in o k → k < length cs
+    → Passed w zs s m p m' p' → Running w o zs m p k (take k cs) → 3 ≤ p'.to - p'.from
+    → Running w o zs m' p' (k + 1) (take (k + 1) (set cs k (p'.to - p'.from)))
+run_counted {w} {o} {zs} {m' = m'} {p' = p'} {k} cs ho hk is l c r h =
+    let n = p'.to - p'.from in
+    let counted : take k cs ++ (n ∷ []) ≡ take (k + 1) (set cs k n) = sym (ap (λ (j : ℕ). take j (set cs k n)) (add-one k) ∙ take-suc-set cs k n l) in
+    subst (Running w o zs m' p' (k + 1)) counted (run_more ho hk is c r h)
+
 -- the first k sides in an order, of which none cuts: each leaves all corners
 pub run_skipped : {w : Window} {o : ℕ} {zs : List ℤ} → OutlineOnTable zs → o ≤ 23 → (k : ℕ) → k ≤ 4
     → ((j : ℕ) → j < k → All (In (side_line w (side_in o j))) (corners_of zs))
@@ -120,3 +130,16 @@ run_ended {w} {o} {zs} {m} {p} {cs} h size r =
     (subst (λ (ks : List ℕ). Passes (lines_in o w) (corners_of zs) ks (ring_at m p)) (append-nil cs)
     (r.so_far (ring_at m p) [] (subst (λ (hs : List Line). Passes hs (ring_at m p) [] (ring_at m p)) (sym end) no_pass)))
     (ring_all m p.from n (λ j a b. small_in r.held j a (omega arith)))
+
+-- the first pass: the sides before the k-th in the order cut nothing off
+module _ {w : Window} {o : ℕ} {zs m' : List ℤ} {p' : Places} {k : ℕ} {s : Side} (cs : List Bool) (t : OutlineOnTable zs) (ho : o ≤ 23) (hk : k ≤ 3) (cutting : Cutting w zs cs)
+    (uncut : (j : ℕ) → j < k → get_or cs (place_of (side_in o j)) false ≡ false) (is : s ≡ side_in o k)
+    (c : Passed w zs s (loaded_of zs) (places 0 (length zs / 2)) m' p') where
+  skipped : Running w o zs (loaded_of zs) (places 0 (length zs / 2)) k (take k (replicate 4 (length zs / 2)))
+  skipped = run_skipped t ho k (omega arith) (λ j l. cutting (side_in o j) (uncut j l))
+
+  pub first_gone : p'.to - p'.from < 3 → Cuts (lines_in o w) (corners_of zs) none
+  first_gone h = run_gone ho (omega arith) is c skipped h
+
+  pub first_more : 3 ≤ p'.to - p'.from → Running w o zs m' p' (k + 1) (take (k + 1) (set (replicate 4 (length zs / 2)) k (p'.to - p'.from)))
+  first_more h = run_counted (replicate 4 (length zs / 2)) ho (omega arith) is (omega arith) c skipped h

@@ -3,8 +3,8 @@
 --   sides_in o         the four sides in the order o: of their arrangements in dictionary order that at place o, from 0 to 23
 --   side_in o k        the k-th of them, from 0 on
 --   lines_in o w       the lines of a window's sides in the order o
---   packed ss         sides in one number, two bits each, the first in the lowest
-use Rattle.std.specs.Prelude.{List, [], ◌∷◌, map, ℕ, zero, suc, ◌+◌, ◌*◌, ◌/◌, ◌%◌, get_or}
+--   places_of ss      the places of sides, as the program numbers them
+use Rattle.std.specs.Prelude.{List, [], ◌∷◌, map, ℕ, zero, suc, ◌/◌, ◌%◌, get_or}
 use Rattle.grid.specs.declared.Window.{Window}
 use Rattle.grid.specs.Sides.{Side, left, right, bottom, top, place_of}
 use Rattle.rings.specs.Points.{Line}
@@ -29,6 +29,5 @@ side_in o k = get_or (sides_in o) k left
 unfoldable pub lines_in : ℕ → Window → List Line
 lines_in o w = map (side_line w) (sides_in o)
 
-unfoldable pub packed : List Side → ℕ
-packed [] = 0
-packed (s ∷ ss) = place_of s + 4 * packed ss
+abbrev pub places_of : List Side → List ℕ
+places_of ss = map place_of ss

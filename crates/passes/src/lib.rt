@@ -1,55 +1,70 @@
 // Cutting an outline along the sides of a window, one pass a side, in the order given. The window is its four sides' numbers, each at its side's place.
 #![tactic(auto)]
 
-ghost use Rattle.std.specs.Prelude.{◌≡◌, false, ℕ, ◌+◌, ◌*◌, ◌<◌, ◌≤◌, length, get_or};
+ghost use Rattle.std.specs.Prelude.{◌≡◌, false, ℕ, ◌+◌, ◌*◌, ◌<◌, ◌≤◌, length, get_or, take, slice_index, EachIndex};
 ghost use Rattle.grid.specs.Sides.{place_of};
 ghost use Rattle.grid.specs.Table.{WindowOnTable};
 ghost use Rattle.limits.specs.Sides.{window_of};
 ghost use Rattle.crossings.specs.Outlines.{OutlineOnTable};
-ghost use Rattle.passes.specs.Orders.{sides_in, side_in, packed};
-ghost use Rattle.passes.specs.Turns.{InOrder, Underway, Completed};
-ghost use Rattle.passes.specs.Passes.{Cutting, nothing_left, Ran};
+ghost use Rattle.passes.specs.Orders.{sides_in, side_in, places_of};
+ghost use Rattle.passes.specs.Passes.{Cutting, nothing_left, Running, Ran};
 
 use memory::Places;
 
-// The sides in each of the 24 orders, the first in the lowest two bits: 0 left, 1 right, 2 bottom, 3 top.
-const SIDES: [u8; 24] = [
-    228, 180, 216, 120, 156, 108, 225, 177, 201, 57, 141, 45, 210, 114, 198, 54, 78, 30, 147, 99,
-    135, 39, 75, 27,
+// The sides in each of the 24 orders: 0 left, 1 right, 2 bottom, 3 top.
+const SIDES: [[u8; 4]; 24] = [
+    [0, 1, 2, 3],
+    [0, 1, 3, 2],
+    [0, 2, 1, 3],
+    [0, 2, 3, 1],
+    [0, 3, 1, 2],
+    [0, 3, 2, 1],
+    [1, 0, 2, 3],
+    [1, 0, 3, 2],
+    [1, 2, 0, 3],
+    [1, 2, 3, 0],
+    [1, 3, 0, 2],
+    [1, 3, 2, 0],
+    [2, 0, 1, 3],
+    [2, 0, 3, 1],
+    [2, 1, 0, 3],
+    [2, 1, 3, 0],
+    [2, 3, 0, 1],
+    [2, 3, 1, 0],
+    [3, 0, 1, 2],
+    [3, 0, 2, 1],
+    [3, 1, 0, 2],
+    [3, 1, 2, 0],
+    [3, 2, 0, 1],
+    [3, 2, 1, 0],
 ];
 
-// The sides in an order, packed like that.
-fn sides_of(order: u32) -> u8
+// The sides in an order.
+fn sides_of(order: u32) -> [u8; 4]
     requires { order ≤ 23 }
-    ensures { result ≡ packed (sides_in order) }
+    ensures value { result ≡ places_of (sides_in order) }
+    ensures by_index { EachIndex result (λ k. slice_index result k < 4) }
 {
     SIDES[order as usize]
 }
 
-// A place in an order of the sides: the side that is the k-th, and those after it, are packed in rest.
-#[derive(Drop)]
-struct Turn {
-    k: usize,
-    rest: u8,
-}
-
-// The first side of an order that cuts, or else its last side; cuts has whether a side cuts, at the side's place.
-fn first_turn(order: u32, cuts: &[bool; 4]) -> Turn
+// The place in an order of the first side that cuts, or else of its last side; cuts has whether a side cuts, at the side's place.
+fn first_cutting(order: u32, cuts: &[bool; 4]) -> usize
     requires { order ≤ 23 }
-    ensures in_order { InOrder order result }
-    ensures by_index { (j : ℕ) → j < result.k → get_or cuts.now (place_of (side_in order j)) false ≡ false }
+    ensures place { result ≤ 3 }
+    ensures by_index { (j : ℕ) → j < result → get_or cuts.now (place_of (side_in order j)) false ≡ false }
 {
-    let mut rest = sides_of(order);
-    let mut k: usize = 0;
-    while k < 3 && !cuts[(rest % 4) as usize] {
-        rest /= 4;
-        k += 1;
+    let sides = sides_of(order);
+    for (k, side) in sides.iter().enumerate() {
+        if cuts[*side as usize] {
+            return k;
+        }
     }
-    Turn { k, rest }
+    3
 }
 
 // What the passes left: the places of a ring in the memory, or none; and how many corners each pass left, in the order given.
-#[derive(Drop)]
+#[derive(Clone, Copy)]
 pub struct Leftover {
     pub places: Places,
     pub counts: [u8; 4],
@@ -65,30 +80,31 @@ fn nothing() -> Leftover
     }
 }
 
-// The passes after that of a turn, which left the ring at the places q, each along a side that cuts. Which order it is, the packed sides tell.
-// What the passes up to then left stands at the front of counts; a side that does not cut leaves as many corners as there were.
+// The passes after the k-th in an order, each along a side that cuts. The k-th left the ring at the places in `before`, and at the front of its counts stands
+// what the passes up to it left; a side that does not cut leaves as many corners as there were.
 fn go_on(
     numbers: &[i32; 4],
-    t: Turn,
     cuts: &[bool; 4],
+    order: u32,
+    k: usize,
     outline: &[i32],
     m: &mut [i32],
-    q: Places,
-    before: [u8; 4],
+    before: Leftover,
 ) -> Leftover
     requires window_on_table { WindowOnTable (window_of numbers.now) }
     requires cutting { Cutting (window_of numbers.now) outline.now cuts.now }
     requires outline_on_table { OutlineOnTable outline.now }
     requires outline_in_bounds { 2 * length outline.now + 16 ≤ length m.old }
-    requires by_index { (o : ℕ) × Underway (window_of numbers.now) o outline.now t m.old q before }
-    ensures { Completed (window_of numbers.now) outline.now t m.old q before m.new result }
+    requires order_bound { order ≤ 23 }
+    requires place { k ≤ 3 }
+    requires underway { Running (window_of numbers.now) order outline.now m.old before.places (k + 1) (take (k + 1) before.counts) }
+    ensures { Ran (window_of numbers.now) order outline.now m.new result }
 {
-    let mut p = q;
-    let mut counts = before;
-    let mut rest = t.rest / 4;
-    let mut k = t.k + 1;
-    while k < 4 {
-        let side = (rest % 4) as usize;
+    let sides = sides_of(order);
+    let mut p = before.places;
+    let mut counts = before.counts;
+    for j in k + 1..4 {
+        let side = sides[j] as usize;
         if cuts[side] {
             p = later_pass::pass(
                 numbers,
@@ -102,9 +118,7 @@ fn go_on(
                 return nothing();
             }
         }
-        counts[k] = (p.to - p.from) as u8;
-        rest /= 4;
-        k += 1;
+        counts[j] = (p.to - p.from) as u8;
     }
     Leftover { places: p, counts }
 }
@@ -125,8 +139,8 @@ pub fn run(
     requires outline_in_bounds { 2 * length outline.now + 16 ≤ length m.old }
     ensures { Ran (window_of numbers.now) order outline.now m.new result }
 {
-    let t = first_turn(order, cuts);
-    let side = (t.rest % 4) as usize;
+    let k = first_cutting(order, cuts);
+    let side = sides_of(order)[k] as usize;
     let p = first_pass::pass(side, outline, limits::limit_of(side, numbers[side]), m);
     let left = p.to - p.from;
     if left < 3 {
@@ -134,7 +148,14 @@ pub fn run(
     }
     // The sides before this one cut nothing off.
     let mut counts = [(outline.len() / 2) as u8; 4];
-    let k = t.k;
     counts[k] = left as u8;
-    go_on(numbers, t, cuts, outline, m, p, counts)
+    go_on(
+        numbers,
+        cuts,
+        order,
+        k,
+        outline,
+        m,
+        Leftover { places: p, counts },
+    )
 }
