@@ -2,6 +2,7 @@
 use mathlib.Core.Path.{◌≡◌, refl, sym, ap, ◌∙◌, subst}
 use mathlib.Core.Bool.{Bool, true, false}
 use mathlib.Core.List.{List, [], ◌∷◌, ◌++◌, map}
+use Rattle.std.specs.Prelude.{Option, Some, None}
 use Prim.Native.Nat.{ℕ, suc, ◌+◌, ◌*◌, ◌/◌, ◌≤◌}
 use native.Mathlib.Omega.{arith}
 use lib.IntN.{ℤ, pos}
@@ -9,7 +10,7 @@ use lib.ListN.{length, drop, length-append}
 use Rattle.whole.specs.Choice.{when◌then◌else◌}
 use Rattle.grid.specs.declared.Stroke.{Stroke}
 use Rattle.grid.specs.declared.Window.{Window}
-use Rattle.grid.specs.Table.{stroke_at, strokes_of, WindowOnTable, StrokesOnTable, NumbersOnTable}
+use Rattle.grid.specs.Table.{ends, stroke_at, strokes_of, WindowOnTable, StrokesOnTable, NumbersOnTable}
 use Rattle.grid.proofs.Calls.{call_unique}
 use Rattle.grid.proofs.StrokeLists.{strokes_more, strokes_none, stroke_of_list}
 use Rattle.rings.specs.Lists.{Each}
@@ -18,8 +19,7 @@ use Rattle.strokes.specs.Strokes.{Clipped}
 use Rattle.strokes.specs.declared.StrokeAnswer.{StrokeAnswer}
 use Rattle.strokes.proofs.Computed.{clipped_of, clipped_of_is}
 use Rattle.strokes.proofs.Unique.{clipped_unique}
-use Rattle.cuts.specs.Cuts.{is_given, no_cut, CutIs, SaysGiven}
-use Rattle.cuts.specs.declared.Cut.{Cut}
+use Rattle.cuts.specs.Cuts.{is_given, part_kept, CutIs, SaysGiven}
 use Rattle.batch.specs.Batches.{five_of, row, rows, RowsGiven, batch_refusal}
 use Rattle.batch.specs.Laws.{OneBatch, OneBatchWithTouches}
 
@@ -49,9 +49,10 @@ module _ {w : Window} (on : WindowOnTable w) where
       lists.◌and◌ (clipped_of_is on (record { x1 = h 0 (omega arith); y1 = h 1 (omega arith); x2 = h 2 (omega arith); y2 = h 3 (omega arith) }))
       (each_clipped zs (λ k l. h (suc (suc (suc (suc k)))) (omega arith)))
 
--- the row of stroke k, of which c is given
-abbrev pub cut_row : ℕ → Cut → List ℤ
-cut_row k c = pos k ∷ c.ax ∷ c.ay ∷ c.bx ∷ c.by ∷ []
+-- the row of stroke k, of which a part is given or nothing
+abbrev pub cut_row : ℕ → Option Stroke → List ℤ
+cut_row k None = []
+cut_row k (Some part) = pos k ∷ ends part
 
 module _ (touches : Bool) where
   -- the computed rows of the strokes from the place p on
@@ -71,15 +72,11 @@ module _ (touches : Bool) where
     rows_none h = rw (strokes_none zs p h)
 
   -- ---- the row of stroke k, by what is given of it
-  pub row_cut : {w : Window} {s : Stroke} {c : Cut} {a : StrokeAnswer} (k : ℕ) → CutIs touches w s c → Clipped w s a
-      → row touches k a ≡ (when c.given then cut_row k c else [])
-  row_cut {w} {s} {c} {a} k cut r = five (is_given touches a) ∙ ap row_of (sym (cut a r))
+  pub row_cut : {w : Window} {s : Stroke} {c : Option Stroke} {a : StrokeAnswer} (k : ℕ) → CutIs touches w s c → Clipped w s a
+      → row touches k a ≡ cut_row k c
+  row_cut {w} {s} {c} {a} k cut r = five (is_given touches a) ∙ ap (cut_row k) (sym (cut a r))
     where
-      row_of : Cut → List ℤ
-      row_of c = when c.given then cut_row k c else []
-
-      five : (b : Bool) → (when b then five_of k a else [])
-          ≡ row_of (when b then record { given = true; ax = a.ax; ay = a.ay; bx = a.bx; by = a.by } else no_cut)
+      five : (b : Bool) → (when b then five_of k a else []) ≡ cut_row k (when b then Some (part_kept a) else None)
       five true = refl
       five false = refl
 

@@ -1,46 +1,41 @@
 -- The loop that writes the rows: n numbers of them stand in the output, and those of the strokes from k on are to come.
 use mathlib.Core.Path.{◌≡◌, sym, ap, ◌∙◌, subst}
-use mathlib.Core.Bool.{Bool, true, false}
-use mathlib.Core.List.{List, [], ◌++◌}
+use mathlib.Core.Bool.{Bool}
+use mathlib.Core.List.{List, ◌∷◌, ◌++◌}
+use Rattle.std.specs.Prelude.{Some, None}
 use Prim.Native.Nat.{ℕ, ◌+◌, ◌*◌, ◌/◌, ◌≤◌}
 use native.Mathlib.Omega.{arith}
-use lib.IntN.{ℤ}
+use lib.IntN.{ℤ, pos}
 use lib.ListN.{length, length-append}
 use lib.Seq.{sets}
-use Rattle.whole.specs.Choice.{when◌then◌else◌}
 use Rattle.grid.specs.declared.Stroke.{Stroke}
 use Rattle.grid.specs.declared.Window.{Window}
-use Rattle.grid.specs.Table.{stroke_at, StrokeOnTable, WindowOnTable, StrokesOnTable}
+use Rattle.grid.specs.Table.{ends, stroke_at, StrokeOnTable, WindowOnTable, StrokesOnTable}
 use Rattle.grid.proofs.Fill.{Filled, filled_start, filled_room, filled_put, filled_end}
 use Rattle.grid.proofs.StrokeLists.{stroke_of_list}
 use Rattle.strokes.specs.declared.StrokeAnswer.{StrokeAnswer}
 use Rattle.strokes.proofs.Computed.{clipped_of, clipped_of_is}
 use Rattle.strokes.proofs.Unique.{clipped_unique}
 use Rattle.cuts.specs.Cuts.{CutIs}
-use Rattle.cuts.specs.declared.Cut.{Cut}
 use Rattle.batch.specs.Batches.{row, RowsGiven, RoomForRow, WroteRow, WroteRows}
-use Rattle.batch.proofs.Rows.{cut_row, row_cut, rows_from, rows_more, rows_none, clipped, computed_rows}
+use Rattle.batch.proofs.Rows.{row_cut, rows_from, rows_more, rows_none, clipped, computed_rows}
 
 -- a stroke that is left is on the table
 pub stroke_left : {zs : List ℤ} {s : Stroke} (p : ℕ) → StrokesOnTable zs → p + 4 ≤ length zs → s ≡ stroke_at zs p → StrokeOnTable s
 stroke_left p t h e = subst StrokeOnTable (sym e) (stroke_of_list p t h)
 
 -- ---- one row, by what is given of its stroke
-module _ (touches : Bool) {w : Window} {s : Stroke} {c : Cut} (cut : CutIs touches w s c) (k n : ℕ) (out : List ℤ) where
-  pub row_room : WindowOnTable w → StrokeOnTable s → RoomForRow touches w s k n out → c.given ≡ true → n + 5 ≤ length out
-  row_room on t room g =
-      let a = clipped_of_is on t in
-      omega (arith, room _ a, ap length (row_cut touches k cut a ∙ ap (λ (b : Bool). when b then cut_row k c else []) g))
+module _ (touches : Bool) {w : Window} {s : Stroke} (k n : ℕ) (out : List ℤ) where
+  pub row_room : {part : Stroke} → CutIs touches w s (Some part) → WindowOnTable w → StrokeOnTable s → RoomForRow touches w s k n out
+      → n + 5 ≤ length out
+  row_room cut on t room = let a = clipped_of_is on t in omega (arith, room _ a, ap length (row_cut touches k cut a))
 
-  pub row_put : c.given ≡ true → {r : ℕ} {after : List ℤ} → r ≡ n + 5 → after ≡ sets out n (cut_row k c) → WroteRow touches w s k n r out after
-  row_put g e f a clip =
-      let is = row_cut touches k cut clip ∙ ap (λ (b : Bool). when b then cut_row k c else []) g in
-      (e ∙ ap (λ (xs : List ℤ). n + length xs) (sym is), f ∙ ap (sets out n) (sym is))
+  pub row_put : {part : Stroke} → CutIs touches w s (Some part) → {after : List ℤ} → after ≡ sets out n (pos k ∷ ends part)
+      → WroteRow touches w s k n (n + 5) out after
+  row_put cut f a clip = let is = row_cut touches k cut clip in (ap (λ (xs : List ℤ). n + length xs) (sym is), f ∙ ap (sets out n) (sym is))
 
-  pub row_left_out : c.given ≡ false → {r : ℕ} {after : List ℤ} → r ≡ n → after ≡ out → WroteRow touches w s k n r out after
-  row_left_out g e f a clip =
-      let is = row_cut touches k cut clip ∙ ap (λ (b : Bool). when b then cut_row k c else []) g in
-      (omega (arith, e, ap length is), f ∙ ap (sets out n) (sym is))
+  pub row_left_out : CutIs touches w s None → WroteRow touches w s k n n out out
+  row_left_out cut a clip = let is = row_cut touches k cut clip in (omega (arith, ap length is), ap (sets out n) (sym is))
 
 -- ---- all of them
 pub record Writing (touches : Bool) (w : Window) (zs out₀ out : List ℤ) (n k : ℕ) : Type 0 where

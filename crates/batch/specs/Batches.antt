@@ -12,8 +12,8 @@
 --   RoomForRow touches w s k n out   from n on there is room for the row of stroke k, which is s, if it has one
 --   WroteRow touches w s k n r before after   this row is put from n on, and the next one starts at r
 --   WroteRows touches w zs n before after   the rows are written from the front, n numbers in all
---   RefusesRows touches w zs room r   r is what such a call refuses where its output has `room` numbers: what both calls refuse, then 8
-use Rattle.std.specs.Prelude.{◌≡◌, Bool, true, false, List, [], ◌∷◌, ◌++◌, ℕ, suc, ◌+◌, ◌≤◌, ℤ, pos, length}
+--   RefusesRows touches w zs room r   r is what the test of such a call says where its output has `room` numbers: what both calls refuse, then 8
+use Rattle.std.specs.Prelude.{◌≡◌, Bool, true, false, List, [], ◌∷◌, ◌++◌, ℕ, suc, ◌+◌, ◌≤◌, ℤ, pos, length, ⊤, Result, Err}
 use Rattle.std.proofs.lemmas.List.Edits.{sets}
 use Rattle.whole.specs.Choice.{when◌then◌else◌}
 use Rattle.grid.specs.declared.Answer.{Answer}
@@ -21,7 +21,7 @@ use Rattle.grid.specs.declared.Refusal.{Refusal}
 use Rattle.grid.specs.declared.Stroke.{Stroke}
 use Rattle.grid.specs.declared.Window.{Window}
 use Rattle.grid.specs.Calls.{Call, GaveNumbers}
-use Rattle.grid.specs.Refusals.{first, window_refusal, strokes_refusal, room_refusal}
+use Rattle.grid.specs.Refusals.{first, tested, window_refusal, strokes_refusal, room_refusal}
 use Rattle.grid.specs.Table.{strokes_of}
 use Rattle.rings.specs.Lists.{Each}
 use Rattle.strokes.specs.Strokes.{Clipped}
@@ -70,6 +70,6 @@ WroteRow touches w s k n r before after =
 abbrev pub WroteRows : Bool → Window → List ℤ → ℕ → List ℤ → List ℤ → Type 0
 WroteRows touches w zs = GaveNumbers (RowsGiven touches w zs)
 
-pub record RefusesRows (touches : Bool) (w : Window) (zs : List ℤ) (room : ℕ) (r : Refusal) : Type 0 where
-  pub refused : ((batch_refusal w zs).number ≡ 0 → ⊥) → r ≡ batch_refusal w zs
-  pub done : (batch_refusal w zs).number ≡ 0 → (xs : List ℤ) → RowsGiven touches w zs xs → r ≡ room_refusal (length xs) room
+pub record RefusesRows (touches : Bool) (w : Window) (zs : List ℤ) (room : ℕ) (r : Result ⊤ Refusal) : Type 0 where
+  pub refused : ((batch_refusal w zs).number ≡ 0 → ⊥) → r ≡ Err (batch_refusal w zs)
+  pub done : (batch_refusal w zs).number ≡ 0 → (xs : List ℤ) → RowsGiven touches w zs xs → r ≡ tested (room_refusal (length xs) room)
