@@ -1,7 +1,7 @@
 -- A listing that has come to the slot k goes on: a free slot gives nothing, one in use its row, for which there is room.
-use mathlib.Core.Path.{◌≡◌, refl, sym, ap, ◌∙◌, subst}
+use mathlib.Core.Path.{◌≡◌, sym, ap, ◌∙◌, subst}
 use mathlib.Core.List.{List, ◌++◌}
-use Prim.Native.Nat.{ℕ, ◌+◌, ◌*◌, ◌^◌, ◌≤◌, ◌<◌, zero-le}
+use Prim.Native.Nat.{ℕ, ◌+◌, ◌*◌, ◌^◌, ◌≤◌, ◌<◌}
 use native.Mathlib.Omega.{arith}
 use borrow.Author.Tests.{eq-eqb, ne_eqb}
 use lib.Dec.{eqb}
@@ -19,16 +19,9 @@ use Rattle.slots.proofs.Marks.{use_test}
 use Rattle.own_strips.specs.Rows.{listed_on, Rows}
 use Rattle.own_strips.proofs.Listed.{listed_used, listed_free}
 
-pub rows_start : {from : ℕ} {zs lent : List ℤ} → from ≤ 32 → length (listed_on from zs 0) ≤ length lent → Rows from zs (5 * (from + 0)) 0 0 lent lent
-rows_start low room = record { low = low; place = refl; room = room; front = refl; tail = refl; same = refl; fits = zero-le }
-
 module _ {from : ℕ} {zs : List ℤ} {p k n : ℕ} {lent out : List ℤ} (r : Rows from zs p k n lent out) where
   pub filled : Filled (listed_on from zs 0) (listed_on from zs k) out lent n
   filled = record { front = r.front; tail = r.tail; same = r.same; fits = r.fits }
-
-  -- the same slot, and the same place, counted otherwise
-  pub moved : {q l : ℕ} → p ≡ q → k ≡ l → Rows from zs q l n lent out
-  moved {q} {l} e f = subst (λ (m : ℕ). Rows from zs q m n lent out) f (subst (λ (m : ℕ). Rows from zs m k n lent out) e r)
 
   -- it has come further
   on : {k' n' : ℕ} {out' : List ℤ} (p' : ℕ) → p' ≡ 5 * (from + k') → Filled (listed_on from zs 0) (listed_on from zs k') out' lent n'

@@ -2,10 +2,11 @@
 -- type of the function says.
 --   listed_from k ss      the slots in use among ss, the first of ss being slot k: of each its slot, then left bottom right top
 --   listing_refusal renter zs   what listing refuses: 19, then 23
+--   listing_answer r      the answer of a listing: how many numbers it has written, or the refusal
 --   ListStrips renter zs a before after   what `own_strips::list_strips` promises of the table zs, its answer, and its output before and after
-use Rattle.std.specs.Prelude.{◌≡◌, List, [], ◌∷◌, ◌++◌, ℕ, suc, ℤ, pos}
+use Rattle.std.specs.Prelude.{◌≡◌, List, [], ◌∷◌, ◌++◌, ℕ, suc, ℤ, pos, Result, Ok, Err}
 use Rattle.whole.specs.Choice.{when◌then◌else◌}
-use Rattle.grid.specs.Calls.{Call}
+use Rattle.grid.specs.Calls.{Call, refused_by}
 use Rattle.grid.specs.Refusals.{first}
 use Rattle.grid.specs.Table.{sides}
 use Rattle.grid.specs.declared.Answer.{Answer}
@@ -20,6 +21,10 @@ listed_from k (s ∷ ss) = when in_use s then pos k ∷ sides s.strip ++ listed_
 
 unfoldable pub listing_refusal : ℤ → List ℤ → Refusal
 listing_refusal renter zs = first (renter_refusal renter ∷ table_refusal zs ∷ [])
+
+abbrev pub listing_answer : Result ℕ Refusal → Answer
+listing_answer (Ok n) = record { number = 0; place = 0; count = n }
+listing_answer (Err r) = refused_by r
 
 -- A case of `Call`, which says once what every call does with a lent output: 8 with the numbers needed, where they have no room.
 abbrev pub ListStrips : ℤ → List ℤ → Answer → List ℤ → List ℤ → Type 0

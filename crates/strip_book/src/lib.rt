@@ -39,7 +39,7 @@ pub struct ReleaseAnswer {
 }
 
 // A refusal of the book's own, whose place is 0.
-fn refused(number: u8) -> Refusal
+pub fn refused(number: u8) -> Refusal
     ensures { result ≡ refuse number 0 }
 {
     Refusal { number, place: 0 }
