@@ -22,6 +22,7 @@ fn put_expected(page: &mut [u8], at: usize, count: usize) -> usize
 }
 
 // Puts why a line is not taken.
+#[tactic(auto, unfolding(crate::specs::Complaints::reason))]
 fn put_reason(page: &mut [u8], at: usize, fault: Fault) -> usize
     requires { at + 80 ≤ length page.old }
     ensures put { Put page.old page.new at result (reason fault) }
@@ -38,41 +39,46 @@ fn put_reason(page: &mut [u8], at: usize, fault: Fault) -> usize
 }
 
 // Puts what slip was seen and what to write, or else why the line is not taken.
-fn put_said(page: &mut [u8], at: usize, slip: Slip, fault: Fault) -> usize
+#[tactic(auto, unfolding(crate::specs::Complaints::remark))]
+fn put_said(page: &mut [u8], at: usize, slip: Option<Slip>, fault: Fault) -> usize
     requires { at + 80 ≤ length page.old }
     ensures put { Put page.old page.new at result (remark slip fault) }
     ensures upper_bound { result ≤ at + 80 }
 {
     match slip {
-        Slip::Mark => text::put(
+        Some(Slip::Mark) => text::put(
             page,
             at,
             b"a byte-order mark before the first word; save the file without it",
         ),
-        Slip::Unseen => text::put(
+        Some(Slip::Unseen) => text::put(
             page,
             at,
             b"a tab or a carriage return; words are parted by spaces",
         ),
-        Slip::Capital => text::put(
+        Some(Slip::Capital) => text::put(
             page,
             at,
             b"a capital letter; the words are strip, move, line and close",
         ),
-        Slip::Comma => text::put(
+        Some(Slip::Comma) => text::put(
             page,
             at,
             b"a comma in a number; write a point, or a space between two numbers",
         ),
-        Slip::PointLast => text::put(page, at, b"a point with no digit after it; leave it out"),
-        Slip::PointFirst => text::put(
+        Some(Slip::PointLast) => text::put(
+            page,
+            at,
+            b"a point with no digit after it; leave it out",
+        ),
+        Some(Slip::PointFirst) => text::put(
             page,
             at,
             b"a point with no digit before it; write a 0 there",
         ),
-        Slip::Plus => text::put(page, at, b"a plus sign; leave it out"),
-        Slip::Exponent => text::put(page, at, b"an e in a number; write out its digits"),
-        Slip::Other => put_reason(page, at, fault),
+        Some(Slip::Plus) => text::put(page, at, b"a plus sign; leave it out"),
+        Some(Slip::Exponent) => text::put(page, at, b"an e in a number; write out its digits"),
+        None => put_reason(page, at, fault),
     }
 }
 

@@ -1,17 +1,14 @@
 -- What a word asks for, where it stands, and where the words of a line end.
-use mathlib.Core.Path.{◌≡◌, refl, sym, ap, ap₂, ◌∙◌, subst}
-use mathlib.Core.List.{List, [], ◌∷◌, ◌++◌}
-use Prim.Native.Nat.{ℕ, suc, ◌+◌, ◌-◌, ◌<◌, ◌≤◌}
+use mathlib.Core.Path.{◌≡◌, refl, sym, ap, ◌∙◌, subst}
+use mathlib.Core.List.{List, []}
+use Prim.Native.Nat.{ℕ, ◌+◌, ◌-◌, ◌<◌, ◌≤◌}
 use native.Mathlib.Omega.{arith}
 use borrow.Author.Tests.{lt-ltb, le-ltb, eq-eqb, ne_eqb}
 use lib.Dec.{eqb}
-use lib.ListN.{length, get_or, take, drop, drop_of_length-le, length-append, length-drop}
-use lib.Seq.{length-take-le, split_at, get_or-append_seam}
+use lib.ListN.{length, get_or, take, drop, length-drop}
+use lib.Seq.{length-take-le}
 use Rattle.whole.proofs.Comparisons.{tt_ff}
 use mathlib.Core.Bool.{Bool, true, false}
-use Rattle.std.specs.List.{ends_with}
-use Rattle.std.proofs.lemmas.Slice.Eq.{ends_is}
-use Rattle.std.proofs.lemmas.Bool.Decides.{Decides-eqb}
 use Rattle.whole.specs.Choice.{when◌then◌else◌}
 use Rattle.text.specs.Pages.{ascii}
 use Rattle.text.specs.Runs.{run, is_not}
@@ -105,23 +102,3 @@ module _ (l : List ℕ) (e : ℕ) (p : e ≡ 0 + run (is_not 35) (drop 0 l)) whe
 
     pub no_return : (get_or l (e - 1) 0 ≡ 13 → ⊥) → e ≡ words_end l
     no_return r = all ∙ sym (no_comment ∙ rw (ne_eqb _ 13 (λ z. r (ap (λ (x : ℕ). get_or l (x - 1) 0) all ∙ z))) refl)
-
--- ---- a line that ends with a carriage return
-
-pub last_return : {l : List ℕ} (front : List ℕ) → l ≡ front ++ 13 ∷ [] → get_or l (length l - 1) 0 ≡ 13
-last_return {l} front e =
-    let k : length l - 1 ≡ length front = omega (arith, ap length e, length-append front (13 ∷ [])) in
-    ap₂ (λ x i. get_or x i 0) e k ∙ get_or-append_seam front 13 [] 0
-
-pub return_last : (l : List ℕ) → get_or l (length l - 1) 0 ≡ 13 → l ≡ take (length l - 1) l ++ 13 ∷ []
-return_last [] r = absurd (omega (arith, r))
-return_last (b ∷ l) r =
-    let n = length (b ∷ l) - 1 in
-    split_at (b ∷ l) n 0 (omega arith) ∙ ap₂ (λ x y. take n (b ∷ l) ++ x ∷ y) r (let past : length (b ∷ l) ≤ suc n = omega arith in drop_of_length-le (b ∷ l) past)
-
-module _ (l : List ℕ) {r : Bool} (e : r ≡ ends_with eqb l (13 ∷ [])) where
-  pub with_return : r ≡ true → get_or l (length l - 1) 0 ≡ 13
-  with_return t = last_return _ ((ends_is Decides-eqb l (13 ∷ []) r e).0 t)
-
-  pub without_return : r ≡ false → get_or l (length l - 1) 0 ≡ 13 → ⊥
-  without_return f q = tt_ff (sym ((ends_is Decides-eqb l (13 ∷ []) r e).1 _ (return_last l q)) ∙ f)

@@ -8,7 +8,7 @@ ghost use Rattle.slips.specs.Texts.{line_after, slip_for};
 
 use pen_line::Fault;
 
-// A slip that the answer names, or none of them.
+// A slip that the answer names.
 #[derive(Clone, Copy)]
 pub enum Slip {
     // A byte-order mark before the first word.
@@ -23,93 +23,63 @@ pub enum Slip {
     PointFirst,
     Plus,
     Exponent,
-    Other,
-}
-
-// The byte at a place, or 0 past the end.
-fn byte_at(bytes: &[u8], i: usize) -> u8
-    ensures { result ≡ get_or bytes.now i 0 }
-{
-    if i < bytes.len() {
-        return bytes[i];
-    }
-    0
 }
 
 // Whether a line starts with a byte-order mark.
 fn marked(line: &[u8]) -> bool
     ensures { result ≡ has_mark line.now }
 {
-    if byte_at(line, 0) != 0xEF {
-        return false;
-    }
-    if byte_at(line, 1) != 0xBB {
-        return false;
-    }
-    byte_at(line, 2) == 0xBF
+    line.starts_with(&[0xEF, 0xBB, 0xBF])
 }
 
 // Whether something stands in a line that looks like a space, or like nothing.
 fn unseen(line: &[u8]) -> bool
     ensures { result ≡ unseen line.now }
 {
-    if text::has(line, b'\t') {
-        return true;
-    }
-    text::has(line, b'\r')
+    text::has(line, b'\t') || text::has(line, b'\r')
 }
 
-fn is_capital(b: u8) -> bool
-    ensures { result ≡ is_capital b }
+// Whether a text starts with a capital letter.
+fn is_capital(text: &[u8]) -> bool
+    ensures { result ≡ is_capital (get_or text.now 0 0) }
 {
-    if b'A' <= b {
-        return b <= b'Z';
+    match text.first() {
+        Some(first) => first.is_ascii_uppercase(),
+        None => false,
     }
-    false
 }
 
 // The slip in a number that starts with a digit.
-fn of_digits(word: &[u8]) -> Slip
+fn of_digits(word: &[u8]) -> Option<Slip>
     ensures { result ≡ of_digits word.now }
 {
-    if text::has(word, b'e') {
-        return Slip::Exponent;
+    if text::has(word, b'e') || text::has(word, b'E') {
+        return Some(Slip::Exponent);
     }
-    if text::has(word, b'E') {
-        return Slip::Exponent;
-    }
-    Slip::Other
+    None
 }
 
 // The slip in a number without its minus.
-fn of_plain(word: &[u8]) -> Slip
+fn of_plain(word: &[u8]) -> Option<Slip>
     ensures { result ≡ of_plain word.now }
 {
     if text::has(word, b',') {
-        return Slip::Comma;
+        return Some(Slip::Comma);
     }
-    let count = word.len();
-    if count == 0 {
-        return Slip::Other;
+    if word.ends_with(b".") {
+        return Some(Slip::PointLast);
     }
-    if byte_at(word, count - 1) == b'.' {
-        return Slip::PointLast;
+    let first = *word.first()?;
+    match first {
+        b'.' => Some(Slip::PointFirst),
+        b'+' => Some(Slip::Plus),
+        _ if decimal::is_digit(first) => of_digits(word),
+        _ => None,
     }
-    let first = byte_at(word, 0);
-    if first == b'.' {
-        return Slip::PointFirst;
-    }
-    if first == b'+' {
-        return Slip::Plus;
-    }
-    if decimal::is_digit(first) {
-        return of_digits(word);
-    }
-    Slip::Other
 }
 
 // The slip in a word that should be a number.
-fn of_number(word: &[u8]) -> Slip
+fn of_number(word: &[u8]) -> Option<Slip>
     ensures { result ≡ of_number word.now }
 {
     let from = text::skip(word, 0, b'-');
@@ -117,44 +87,41 @@ fn of_number(word: &[u8]) -> Slip
 }
 
 // The first slip in the next `count` words of a line from `from` on, which should be numbers.
-fn of_numbers(line: &[u8], from: usize, count: usize) -> Slip
+fn of_numbers(line: &[u8], from: usize, count: usize) -> Option<Slip>
     requires { from ≤ length line.now }
     ensures { result ≡ of_numbers line.now from count }
 {
     let mut end = from;
-    let mut left = count;
-    while 0 < left {
+    for _ in 0..count {
         let start = text::skip(line, end, b' ');
         end = text::find(line, start, b' ');
-        let slip = of_number(&line[start..end]);
-        let Slip::Other = slip else {
-            return slip;
-        };
-        left -= 1;
+        if let Some(slip) = of_number(&line[start..end]) {
+            return Some(slip);
+        }
     }
-    Slip::Other
+    None
 }
 
 // The slip in a line without its comment, whose first word should be followed by `count` numbers.
-fn of_words(line: &[u8], count: usize) -> Slip
+fn of_words(line: &[u8], count: usize) -> Option<Slip>
     ensures { result ≡ of_line line.now count }
 {
     if marked(line) {
-        return Slip::Mark;
+        return Some(Slip::Mark);
     }
     if unseen(line) {
-        return Slip::Unseen;
+        return Some(Slip::Unseen);
     }
     let start = text::skip(line, 0, b' ');
-    if is_capital(byte_at(line, start)) {
-        return Slip::Capital;
+    if is_capital(&line[start..]) {
+        return Some(Slip::Capital);
     }
     let end = text::find(line, start, b' ');
     of_numbers(line, end, count)
 }
 
 // The same for a line with its comment, which does not count.
-fn seen(line: &[u8], count: usize) -> Slip
+fn seen(line: &[u8], count: usize) -> Option<Slip>
     ensures { result ≡ of_line (spoken line.now) count }
 {
     let end = pen_line::words_end(line);
@@ -166,32 +133,30 @@ fn line_after(text: &[u8], before: usize) -> &[u8]
     ensures { result.now ≡ line_after before text.now }
 {
     let mut from = 0;
-    let mut ahead = before;
-    while 0 < ahead {
+    for _ in 0..before {
         let end = text::find(text, from, b'\n');
         if end == text.len() {
             return &text[end..];
         }
         from = end + 1;
-        ahead -= 1;
     }
     let end = text::find(text, from, b'\n');
     &text[from..end]
 }
 
 // The slip to tell: only where a word is wrong may it have been meant otherwise.
-fn slip_for(line: &[u8], fault: Fault) -> Slip
+fn slip_for(line: &[u8], fault: Fault) -> Option<Slip>
     ensures { result ≡ slip_for line.now fault }
 {
     match fault {
         Fault::UnknownWord => seen(line, 0),
         Fault::NotNumbers(count) => seen(line, count),
-        _ => Slip::Other,
+        _ => None,
     }
 }
 
 // The slip in the line of a text that so many lines stand before, where the fault says why it is not taken.
-pub fn shown(text: &[u8], before: usize, fault: Fault) -> Slip
+pub fn shown(text: &[u8], before: usize, fault: Fault) -> Option<Slip>
     ensures { result ≡ slip_for (line_after before text.now) fault }
 {
     slip_for(line_after(text, before), fault)

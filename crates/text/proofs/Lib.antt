@@ -1,3 +1,4 @@
 pub mod Runs
 pub mod Puts
 pub mod Numbers
+pub mod Ends
