@@ -24,9 +24,9 @@ use Rattle.bookkeeping.proofs.Steps.{book_good, book_slots}
 use Rattle.strip_lines.specs.Lines.{row_text}
 use Rattle.book_rows.specs.Rows.{rows_text}
 use Rattle.book_rows.proofs.Rows.{rows_on, row_used, row_free}
+use Rattle.std.specs.Prelude.{Ok}
 use Rattle.book_text.specs.Texts.{head_text, end_text, book_text, with_strip, Sound}
 use Rattle.book_text.specs.Readings.{Follows, Lines, first, one_more, ReadsAs, book}
-use Rattle.book_text.specs.declared.Verdict.TheVariants.{Book}
 use Rattle.book_text.proofs.Lines.{with_long}
 use Rattle.book_text.proofs.Slots.{empty_at, used_is, put_here, put_elsewhere, told_by_slots}
 use Rattle.book_text.proofs.Written.{written}
@@ -220,7 +220,7 @@ module _ (zs : List ℤ) (s : Sound zs) where
   unfolding rows_text
   no_more = ap (rows_text 64) (slice_empty 64 (slots_of zs))
 
-  pub read_back : ReadsAs (book_text zs) Book zs
+  pub read_back : ReadsAs (book_text zs) (Ok tt) zs
   read_back =
       let r = read_to 64 (omega arith) in
-      subst (ReadsAs t Book) (table_is r) (book r.lines (r.rest ∙ ap (λ (x : List ℕ). x ++ end_text) no_more))
+      subst (ReadsAs t (Ok tt)) (table_is r) (book r.lines (r.rest ∙ ap (λ (x : List ℕ). x ++ end_text) no_more))

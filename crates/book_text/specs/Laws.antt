@@ -5,21 +5,19 @@
 --   OneText      so two sound books that have one text are one book
 --   SoundEmpty   the empty book is sound
 --   StaysSound   each call on a sound book leaves a sound book: so it is with every book that calls on the empty book leave
-use Rattle.std.specs.Prelude.{◌≡◌, List, ℕ, ℤ}
+use Rattle.std.specs.Prelude.{◌≡◌, ⊤, List, ℕ, ℤ, Result, Ok}
 use Rattle.bookkeeping.specs.Runs.{Event, InBook, empty_book}
 use Rattle.book_text.specs.Texts.{book_text, Sound}
 use Rattle.book_text.specs.Readings.{ReadsAs}
-use Rattle.book_text.specs.declared.Verdict.{Verdict}
-use Rattle.book_text.specs.declared.Verdict.TheVariants.{Book}
 
 abbrev pub OneReading : Type 0
-OneReading = (t : List ℕ) (a b : Verdict) (ys zs : List ℤ) → ReadsAs t a ys → ReadsAs t b zs → (a ≡ b) × (a ≡ Book → ys ≡ zs)
+OneReading = (t : List ℕ) (a b : Result ⊤ ℕ) (ys zs : List ℤ) → ReadsAs t a ys → ReadsAs t b zs → (a ≡ b) × (a ≡ Ok tt → ys ≡ zs)
 
 abbrev pub ReadsBack : Type 0
-ReadsBack = (zs : List ℤ) → Sound zs → ReadsAs (book_text zs) Book zs
+ReadsBack = (zs : List ℤ) → Sound zs → ReadsAs (book_text zs) (Ok tt) zs
 
 abbrev pub WritesBack : Type 0
-WritesBack = (t : List ℕ) (zs : List ℤ) → ReadsAs t Book zs → Sound zs × (t ≡ book_text zs)
+WritesBack = (t : List ℕ) (zs : List ℤ) → ReadsAs t (Ok tt) zs → Sound zs × (t ≡ book_text zs)
 
 abbrev pub OneText : Type 0
 OneText = (ys zs : List ℤ) → Sound ys → Sound zs → book_text ys ≡ book_text zs → ys ≡ zs

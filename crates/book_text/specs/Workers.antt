@@ -1,13 +1,11 @@
 -- What a worker behind the reading of a text promises.
---   EndsAs t at n r   at the place `at` of the text t, where its line n starts, stands the last line of a book, and r is Book where nothing follows
---                     it, and Faulty with the line after n where something does; or another thing stands there, and r is Faulty with n
-use Rattle.std.specs.Prelude.{◌≡◌, List, ℕ, ◌+◌, drop}
+--   EndsAs t at n r   at the place `at` of the text t, where its line n starts, stands the last line of a book, and r is Ok where nothing follows
+--                     it, and else the error is the line after n; or another thing stands there, and the error is the line n
+use Rattle.std.specs.Prelude.{◌≡◌, ⊤, List, ℕ, ◌+◌, Result, Ok, Err, drop}
 use Rattle.row_reading.specs.Rows.{StandsAt}
 use Rattle.book_text.specs.Texts.{end_text}
-use Rattle.book_text.specs.declared.Verdict.{Verdict}
-use Rattle.book_text.specs.declared.Verdict.TheVariants.{Book, Faulty}
 
-pub data EndsAs (t : List ℕ) (at n : ℕ) : Verdict → Type 0 where
-  ends : drop at t ≡ end_text → EndsAs t at n Book
-  goes_on : StandsAt t at end_text → (drop at t ≡ end_text → ⊥) → EndsAs t at n (Faulty (n + 1))
-  another : (StandsAt t at end_text → ⊥) → EndsAs t at n (Faulty n)
+pub data EndsAs (t : List ℕ) (at n : ℕ) : Result ⊤ ℕ → Type 0 where
+  ends : drop at t ≡ end_text → EndsAs t at n (Ok tt)
+  goes_on : StandsAt t at end_text → (drop at t ≡ end_text → ⊥) → EndsAs t at n (Err (n + 1))
+  another : (StandsAt t at end_text → ⊥) → EndsAs t at n (Err n)

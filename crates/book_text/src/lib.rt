@@ -2,31 +2,18 @@
 #![tactic(auto)]
 
 ghost use Rattle.std.specs.Prelude.{◌≡◌, ◌≤◌, ◌<◌, length};
-ghost use Rattle.whole.specs.Choice.{Decides};
 ghost use Rattle.text.specs.Pages.{Put};
 ghost use Rattle.slots.specs.Slots.{is_book};
 ghost use Rattle.bookkeeping.specs.Runs.{empty_book};
-ghost use Rattle.row_reading.specs.Rows.{StandsAt};
-ghost use Rattle.book_text.specs.Texts.{head_text, book_text, with_strip};
+ghost use Rattle.book_text.specs.Texts.{book_text, with_strip};
 ghost use Rattle.book_text.specs.Readings.{ReadsAs};
 ghost use Rattle.book_text.specs.Workers.{EndsAs};
 
 use grid::Window;
-use row_reading::Found;
-use slots::Tested;
+// The first line of a book's text, and the last.
+const HEAD: &[u8] = b"strip book 1: renter, slot, left bottom right top in 1/32 mm = in mm\n";
 
-// How many bytes the first line has.
-const HEAD: usize = 69;
-
-// How many bytes the last line has.
-const END: usize = 4;
-
-// What a text is found to be: a book's; or none, and then the first line at which it goes on as no book's does.
-#[derive(Drop)]
-pub enum Verdict {
-    Book,
-    Faulty(usize),
-}
+const END: &[u8] = b"end\n";
 
 // Puts the text of a book.
 pub fn put_book(page: &mut [u8], book: &[i32]) -> usize
@@ -34,46 +21,25 @@ pub fn put_book(page: &mut [u8], book: &[i32]) -> usize
     requires in_bounds { 37200 ≤ length page.old }
     ensures { Put page.old page.new 0 result (book_text book.now) }
 {
-    let a = text::put(
-        page,
-        0,
-        b"strip book 1: renter, slot, left bottom right top in 1/32 mm = in mm\n",
-    );
+    let a = text::put(page, 0, HEAD);
     let b = book_rows::put_rows(page, a, book, 0, 64);
-    text::put(page, b, b"end\n")
+    text::put(page, b, END)
 }
 
-// Whether a text begins with a book's first line.
-fn has_head(text: &[u8]) -> bool
-    ensures { Decides result (StandsAt text.now 0 head_text) }
-{
-    if text.len() < HEAD {
-        return false;
-    }
-    check::same(
-        &text[..HEAD],
-        b"strip book 1: renter, slot, left bottom right top in 1/32 mm = in mm\n",
-    )
-}
-
-// What a text is found to be that has no strip's line at a place: a book's if the last line stands there and nothing behind it. If something does,
-// the last line itself is not at fault, but the one after it.
-fn ends_at(text: &[u8], at: usize, line: usize) -> Verdict
+// Tests a text that has no strip's line at a place: it is a book's if the last line stands there and nothing behind it. If something does, the last
+// line itself is not at fault, but the one after it.
+fn test_end(text: &[u8], at: usize, line: usize) -> Result<(), usize>
     requires at_in_bounds { at ≤ length text.now }
     requires line_bound { line ≤ 66 }
     ensures { EndsAs text.now at line result }
 {
-    let left = text.len() - at;
-    if left < END {
-        return Verdict::Faulty(line);
+    let Some(behind) = text[at..].strip_prefix(END) else {
+        return Err(line);
+    };
+    if !behind.is_empty() {
+        return Err(line + 1);
     }
-    if !check::same(&text[at..at + END], b"end\n") {
-        return Verdict::Faulty(line);
-    }
-    if END < left {
-        return Verdict::Faulty(line + 1);
-    }
-    Verdict::Book
+    Ok(())
 }
 
 // Puts a strip in the slot k, and says whether the table is a book then.
@@ -85,37 +51,35 @@ fn enter(book: &mut [i32], k: usize, w: Window) -> bool
 {
     slots::put(book, k, 1, w);
     let mut rack = [racks::VACANT; 288];
-    let tested = slots::test_book(book, &mut rack);
-    let Tested::Good(n) = tested else {
-        return false;
-    };
-    true
+    slots::test_book(book, &mut rack).is_some()
 }
 
-// Reads a text into an empty table: each line puts its strip in its slot, which comes after those of the lines before it, and leaves a book.
-pub fn read_book(text: &[u8], book: &mut [i32]) -> Verdict
+// Reads a text into an empty table: each line puts its strip in its slot, which comes after those of the lines before it, and leaves a book. The error
+// is the first line at which the text goes on as no book's does.
+pub fn read_book(text: &[u8], book: &mut [i32]) -> Result<(), usize>
     requires { book.old ≡ empty_book }
     ensures { ReadsAs text.now result book.new }
 {
-    if !has_head(text) {
-        return Verdict::Faulty(1);
+    if !text.starts_with(HEAD) {
+        return Err(1);
     }
-    let mut at = HEAD;
+    let mut at = HEAD.len();
     let mut line: usize = 2;
     let mut next: usize = 0;
+    // A while: where a line begins is known when the one before it has been read.
     while at < text.len() {
-        let Found::Row(k, w, end) = row_reading::row_at(text, at) else {
-            return ends_at(text, at, line);
+        let Some(row) = row_reading::row_at(text, at) else {
+            return test_end(text, at, line);
         };
-        if k < next {
-            return Verdict::Faulty(line);
+        if row.slot < next {
+            return Err(line);
         }
-        if !enter(book, k, w) {
-            return Verdict::Faulty(line);
+        if !enter(book, row.slot, row.strip) {
+            return Err(line);
         }
-        at = end;
-        next = k + 1;
+        at = row.end;
+        next = row.slot + 1;
         line += 1;
     }
-    Verdict::Faulty(line)
+    Err(line)
 }
