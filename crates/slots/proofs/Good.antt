@@ -3,11 +3,12 @@
 use mathlib.Core.Path.{◌≡◌, refl, sym, ap, ◌∙◌}
 use mathlib.Core.Bool.{Bool, true, false, ◌&&◌, ◌||◌}
 use mathlib.Core.List.{List, [], ◌∷◌}
-use Prim.Native.Nat.{ℕ, zero, suc, ◌-◌, ◌*◌, ◌/◌, ◌≤◌}
+use Prim.Native.Nat.{ℕ, zero, suc, ◌+◌, ◌-◌, ◌*◌, ◌/◌, ◌≤◌}
 use native.Mathlib.Omega.{arith}
 use borrow.Author.Tests.{eq-eqb, ne_eqb}
 use lib.IntN.{ℤ, pos, negsuc}
 use lib.ListN.{length, drop, length-drop}
+use lib.Seq.{drop-drop}
 use Rattle.whole.specs.Choice.{when◌then◌else◌}
 use Rattle.whole.proofs.Comparisons.{ff_tt}
 use Rattle.grid.specs.Refusals.{window_refusal}
@@ -98,6 +99,10 @@ bad_later zs k f = go (each_good (slots_of zs)) refl
     go : (b : Bool) → each_good (slots_of zs) ≡ b → each_good (slots_of zs) ≡ false
     go false e = e
     go true e = absurd (ff_tt (sym f ∙ ap each_good (slots_drop k zs) ∙ good_drop k (slots_of zs) e))
+
+-- the same of the slots from a place on, and from k slots behind it
+pub bad_behind : (zs : List ℤ) (p k : ℕ) → each_good (slots_from (p + 5 * k) zs) ≡ false → each_good (slots_from p zs) ≡ false
+bad_behind zs p k f = bad_later (drop p zs) k (ap (λ (ys : List ℤ). each_good (slots_of ys)) (drop-drop (5 * k) p zs) ∙ f)
 
 -- no more strips than slots
 pub strips_few : (ss : List Slot) → length (strips_in ss) ≤ length ss

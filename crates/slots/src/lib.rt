@@ -46,6 +46,23 @@ fn gather_slot(book: &[i32], p: usize, rack: &mut [i16; 288], n: usize) -> Optio
     Some(n + 1)
 }
 
+// The same with the eight slots from the place p on, the last of them first. They are written out: in a loop a free slot costs two instructions more.
+fn gather_eight(book: &[i32], p: usize, rack: &mut [i16; 288], n: usize) -> Option<usize>
+    requires p_bound { p + 40 ≤ 320 }
+    requires book_len { length book.now ≡ 320 }
+    requires gathered { Gathered (slots_from (p + 40) book.now) n rack.old }
+    ensures { Gathers (slots_from p book.now) result rack.new }
+{
+    let from7 = gather_slot(book, p + 35, rack, n)?;
+    let from6 = gather_slot(book, p + 30, rack, from7)?;
+    let from5 = gather_slot(book, p + 25, rack, from6)?;
+    let from4 = gather_slot(book, p + 20, rack, from5)?;
+    let from3 = gather_slot(book, p + 15, rack, from4)?;
+    let from2 = gather_slot(book, p + 10, rack, from3)?;
+    let from1 = gather_slot(book, p + 5, rack, from2)?;
+    gather_slot(book, p, rack, from1)
+}
+
 // Tests the marks and the strips of all slots, from the last to the first, and puts the strips on a rack, on which there is none before. How many there
 // are; None where a slot is faulty.
 fn gather(book: &[i32], rack: &mut [i16; 288]) -> Option<usize>
@@ -54,8 +71,8 @@ fn gather(book: &[i32], rack: &mut [i16; 288]) -> Option<usize>
     ensures { Gathers (slots_of book.now) result rack.new }
 {
     let mut n = 0;
-    for behind in 0..64 {
-        n = gather_slot(book, 315 - 5 * behind, rack, n)?;
+    for behind in 0..8 {
+        n = gather_eight(book, 280 - 40 * behind, rack, n)?;
     }
     Some(n)
 }

@@ -9,4 +9,4 @@ loop-behind-init c = starts c.args.book.now c.requires.book_len c.requires.carri
 pub returns-in_err-n : goal.returns-in_err-n
 returns-in_err-n c =
     rw c.from_residual.ensures
-    (fails c.args.book.now c.requires.book_len (315 - 5 * c.loop-behind.behind) (omega arith) c.in_err-n.ensures)
+    (fails c.args.book.now c.requires.book_len (280 - 40 * c.loop-behind.behind) (omega arith) c.in_err-n.ensures)

@@ -1,6 +1,5 @@
 -- By its mark the slot is free, or its strip is tested and put on the rack, and is good where the mark is 1.
-use Rattle.std.proofs.Common.{◌≡◌, ◌+◌, ◌≤◌, length, arith, ◌∙◌, sym}
-use Rattle.grid.specs.declared.Refusal.{Refusal}
+use Rattle.std.proofs.Common.{◌+◌, ◌≤◌, length, arith, ◌∙◌, sym}
 use Rattle.grid.proofs.Refusals.{window_on_table}
 use Rattle.slots.proofs.Good.{strips_behind}
 use Rattle.slots.proofs.Testing.{tests_fine, tests_bad, mark_is, fails_mark, passes_free, fails_strip, passes_used}
