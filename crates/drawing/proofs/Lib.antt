@@ -1,5 +1,4 @@
 pub mod Computed
-pub mod Points
 pub mod Turns
 pub mod Walks
 pub mod Heads

@@ -22,7 +22,7 @@ use Rattle.drawing.specs.Pen.{same, fresh, after, turn, turn_at, drawn_stroke}
 use Rattle.drawing.specs.Drawings.{Drawing, fault, drawn, in_front, onward, walk, meaning, numbers_of}
 use Rattle.format.specs.declared.Step.{Step}
 use Rattle.format.specs.declared.Found.{Found}
-use Rattle.drawing.specs.declared.pen.Point.{Point}
+use Rattle.intake.specs.declared.Point.{Point}
 use Rattle.drawing.specs.declared.pen.Pen.{Pen}
 use Rattle.drawing.specs.declared.pen.Turn.{Turn}
 use Rattle.drawing.proofs.Computed.{computed}

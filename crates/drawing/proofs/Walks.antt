@@ -6,14 +6,16 @@ use native.Mathlib.Nat.{zero-add, add-zero}
 use native.Mathlib.Omega.{arith}
 use borrow.Author.Tests.{le-leb}
 use lib.ListN.{length}
+use Rattle.std.specs.Prelude.{Result, Ok, Err}
 use Rattle.grid.specs.Refusals.{refuse, bad_drawing}
+use Rattle.grid.specs.declared.Refusal.{Refusal}
 use Rattle.grid.specs.declared.Window.{Window}
 use Rattle.grid.specs.declared.Stroke.{Stroke}
 use Rattle.drawing.specs.Intake.{Intake}
 use Rattle.format.specs.Format.{record_at}
 use Rattle.drawing.specs.Pen.{turn_at, drawn_stroke}
-use Rattle.drawing.specs.Drawings.{Drawing, fault, drawn, in_front, onward, walk, refused, told}
-use Rattle.drawing.specs.declared.DrawingAnswer.{DrawingAnswer}
+use Rattle.drawing.specs.Drawings.{Drawing, fault, drawn, in_front, onward, walk, surveyed}
+use Rattle.drawing.specs.declared.Surveyed.{Surveyed}
 use Rattle.drawing.specs.declared.pen.Pen.{Pen}
 use Rattle.drawing.specs.declared.pen.Turn.{Turn}
 use Rattle.drawing.proofs.Turns.{Leaves, leaves, led}
@@ -51,18 +53,18 @@ module _ (intake : Intake) (bs : List ℕ) (w : Window) where
 
 -- ---- how many strokes there are
 
--- the answer where n strokes were drawn before
-abbrev pub counted : ℕ → Drawing → DrawingAnswer
-counted n (fault place) = told (fault place)
-counted n (drawn w ss) = record { number = 0; place = 0; window = w; count = n + length ss }
+-- what is found where n strokes were drawn before
+abbrev pub counted : ℕ → Drawing → Result Surveyed Refusal
+counted n (fault place) = surveyed (fault place)
+counted n (drawn w ss) = Ok (record { window = w; strokes = n + length ss })
 
-pub none_before : (d : Drawing) → counted 0 d ≡ told d
+pub none_before : (d : Drawing) → counted 0 d ≡ surveyed d
 none_before (fault place) = refl
 none_before (drawn w ss) = simp (zero-add)
 
 one_before : (n : ℕ) (s : Stroke) (d : Drawing) → counted (n + 1) d ≡ counted n (in_front s d)
 one_before n s (fault place) = refl
-one_before n s (drawn w ss) = ap (λ (k : ℕ). record { number = 0; place = 0; window = w; count = k }) (omega arith)
+one_before n s (drawn w ss) = ap (λ (k : ℕ). Ok (record { window = w; strokes = k })) (omega arith)
 
 module _ (intake : Intake) (bs : List ℕ) (w : Window) (at : ℕ) (pen : Pen) where
   pub count_goes : {to : Pen} {next : ℕ} → turn_at intake bs at pen ≡ Turn.Goes to next
@@ -75,8 +77,8 @@ module _ (intake : Intake) (bs : List ℕ) (w : Window) (at : ℕ) (pen : Pen) w
       simp (turned intake bs w at pen e, (led intake bs at pen e).2) (one_before pen.strokes (drawn_stroke pen to) (rest intake bs w next to))
 
   pub count_ends : turn_at intake bs at pen ≡ Turn.End
-      → record { number = 0; place = 0; window = w; count = pen.strokes } ≡ counted pen.strokes (rest intake bs w at pen)
+      → Ok (record { window = w; strokes = pen.strokes }) ≡ counted pen.strokes (rest intake bs w at pen)
   count_ends e = simp (turned intake bs w at pen e, add-zero)
 
-  pub count_fails : {place : ℕ} → turn_at intake bs at pen ≡ Turn.Fault place → refused (refuse bad_drawing 0) ≡ counted pen.strokes (rest intake bs w at pen)
+  pub count_fails : {place : ℕ} → turn_at intake bs at pen ≡ Turn.Fault place → Err (refuse bad_drawing 0) ≡ counted pen.strokes (rest intake bs w at pen)
   count_fails e = simp (turned intake bs w at pen e)

@@ -10,11 +10,13 @@
 --   drawing_refusal d     what is refused before the output's room is looked at: 11 is decided first, then 3
 --   refused r            the answer that refuses by r: every other field is 0
 --   told d               the answer for d where nothing but a fault is refused
+--   surveyed d           its window and how many strokes it has, or the refusal of its fault
+--   answered r           a window and how many strokes, or a refusal, as an answer
 --   ReadsAs d a before after   the call on bytes that mean d: its answer a, and its output before and after
 --   Drawable bs room     the bytes mean a drawing whose strokes have room in an output of so many numbers
 --   ReadDrawing bs a before after   what `drawing::read_drawing` promises on the bytes bs: its answer a,
 --                                   and its output before and after
-use Rattle.std.specs.Prelude.{◌≡◌, List, [], ◌∷◌, ◌++◌, ℕ, zero, suc, ◌+◌, ◌*◌, ◌≤◌, eqb, ℤ, pos, length}
+use Rattle.std.specs.Prelude.{◌≡◌, List, [], ◌∷◌, ◌++◌, ℕ, zero, suc, ◌+◌, ◌*◌, ◌≤◌, eqb, ℤ, pos, length, Result, Ok, Err}
 use Rattle.whole.specs.Choice.{when◌then◌else◌}
 use Rattle.grid.specs.Table.{ends}
 use Rattle.grid.specs.Refusals.{refuse, no_area, bad_drawing}
@@ -28,6 +30,7 @@ use Rattle.format.specs.Format.{head_size, head_fault, window_at}
 use Rattle.drawing.specs.Pen.{fresh, turn_at, drawn_stroke}
 use Rattle.drawing.specs.declared.pen.Pen.{Pen}
 use Rattle.drawing.specs.declared.pen.Turn.{Turn}
+use Rattle.drawing.specs.declared.Surveyed.{Surveyed}
 use Rattle.drawing.specs.declared.DrawingAnswer.{DrawingAnswer}
 
 pub data Drawing : Type 0 where
@@ -81,6 +84,14 @@ refused r = record { number = r.number; place = r.place; window = record { left 
 abbrev pub told : Drawing → DrawingAnswer
 told (fault place) = refused (refuse bad_drawing 0)
 told (drawn w ss) = record { number = 0; place = 0; window = w; count = length ss }
+
+abbrev pub surveyed : Drawing → Result Surveyed Refusal
+surveyed (fault place) = Err (refuse bad_drawing 0)
+surveyed (drawn w ss) = Ok (record { window = w; strokes = length ss })
+
+abbrev pub answered : Result Surveyed Refusal → DrawingAnswer
+answered (Ok s) = record { number = 0; place = 0; window = s.window; count = s.strokes }
+answered (Err r) = refused r
 
 abbrev pub ReadsAs : Drawing → DrawingAnswer → List ℤ → List ℤ → Type 0
 ReadsAs d = Lent refused (drawing_refusal d) (GivenBy refused (λ _. told d) (λ xs. xs ≡ numbers d))

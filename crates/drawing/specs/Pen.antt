@@ -8,8 +8,8 @@
 --   after intake at next pen s   what the step s does. Its record starts at the byte `at`, and the record after it at the byte `next`
 --   turn_at intake bs at pen      what the record at `at` does
 --   drawn_stroke pen to   the stroke between the places of two pens: the one before it, and `to` after it
-use Rattle.std.specs.Prelude.{Bool, true, false, ◌&&◌, List, ℕ, ◌+◌, ◌*◌, eqb, ltb, ℤ, pos}
-use Rattle.std.specs.Int.Signed.{le_z}
+use Rattle.std.specs.Prelude.{Bool, true, false, ◌&&◌, List, ℕ, ◌+◌, ◌*◌, eqb, ltb, pos}
+use Rattle.std.specs.Ordering.{int_eq}
 use Rattle.whole.specs.Choice.{when◌then◌else◌}
 use Rattle.grid.specs.Refusals.{most_strokes}
 use Rattle.grid.specs.declared.Stroke.{Stroke}
@@ -18,15 +18,12 @@ use Rattle.drawing.specs.Intake.{Intake}
 use Rattle.format.specs.Format.{record_at}
 use Rattle.format.specs.declared.Step.{Step}
 use Rattle.format.specs.declared.Found.{Found}
-use Rattle.drawing.specs.declared.pen.Point.{Point}
+use Rattle.intake.specs.declared.Point.{Point}
 use Rattle.drawing.specs.declared.pen.Pen.{Pen}
 use Rattle.drawing.specs.declared.pen.Turn.{Turn}
 
-unfoldable pub equal : ℤ → ℤ → Bool
-equal a b = le_z a b && le_z b a
-
 unfoldable pub same : Point → Point → Bool
-same p q = equal p.x q.x && equal p.y q.y
+same p q = int_eq p.x q.x && int_eq p.y q.y
 
 abbrev pub fresh : Pen
 fresh = let p : Point = record { x = pos 0; y = pos 0 } in record { moved = false; here = p; start = p; strokes = 0 }

@@ -2,16 +2,16 @@
 #![tactic(auto)]
 
 ghost use Rattle.std.specs.Prelude.{◌≡◌, ◌+◌, ◌≤◌, length};
-ghost use Rattle.grid.specs.Refusals.{refuse};
+ghost use Rattle.grid.specs.Refusals.{refuse, bad_drawing};
 ghost use Rattle.grid.specs.Calls.{written};
 ghost use Rattle.drawing.specs.Intake.{ByIntake};
 ghost use Rattle.format.specs.Format.{most_bytes, head_size};
 ghost use Rattle.drawing.specs.Pen.{fresh};
-ghost use Rattle.drawing.specs.Drawings.{walk, meaning, numbers, refused, told, Drawable, ReadDrawing};
+ghost use Rattle.drawing.specs.Drawings.{walk, meaning, numbers, surveyed, answered, Drawable, ReadDrawing};
 
 mod pen;
 
-use grid::Window;
+use grid::{Refusal, Window};
 use pen::Turn;
 
 // A refusal's number and place, or the window of a drawing and how many strokes it has.
@@ -24,42 +24,41 @@ pub struct DrawingAnswer {
     pub count: usize,
 }
 
-// A refusal: every other field is 0.
-fn refused(number: u8, place: usize) -> DrawingAnswer
-    ensures { result ≡ refused (refuse number place) }
+// A drawing without a fault: its window, and how many strokes it has.
+#[derive(Clone, Copy)]
+struct Surveyed {
+    window: Window,
+    strokes: usize,
+}
+
+// The refusal of a drawing with a fault.
+fn faulty() -> Refusal
+    ensures { result ≡ refuse bad_drawing 0 }
 {
-    DrawingAnswer {
-        number,
-        place,
-        window: Window {
-            left: 0,
-            bottom: 0,
-            right: 0,
-            top: 0,
-        },
-        count: 0,
+    Refusal {
+        number: grid::BAD_DRAWING,
+        place: 0,
     }
 }
 
 // The first pass over the records: how many strokes they make, or that there is a fault.
-fn count_strokes(bytes: &[u8], window: Window) -> DrawingAnswer
+fn count_strokes(bytes: &[u8], window: Window) -> Result<Surveyed, Refusal>
     requires { length bytes.now ≤ most_bytes }
-    ensures { ByIntake (λ intake. told (walk intake bytes.now window (length bytes.now) head_size fresh)) result }
+    ensures { ByIntake (λ intake. surveyed (walk intake bytes.now window (length bytes.now) head_size fresh)) result }
 {
     let mut pen = pen::fresh();
     let mut at: usize = format::HEAD_SIZE;
+    // A loop: where the next record starts is known only once this one is read, so that no range has it.
     loop {
         match pen::turn_at(bytes, at, pen) {
             Turn::End => {
-                return DrawingAnswer {
-                    number: 0,
-                    place: 0,
+                return Ok(Surveyed {
                     window,
-                    count: pen.strokes,
-                };
+                    strokes: pen.strokes,
+                });
             }
             Turn::Fault(_) => {
-                return refused(grid::BAD_DRAWING, 0);
+                return Err(faulty());
             }
             Turn::Goes(to, next) | Turn::Draws(to, next) => {
                 pen = to;
@@ -70,17 +69,16 @@ fn count_strokes(bytes: &[u8], window: Window) -> DrawingAnswer
 }
 
 // What the bytes mean: the window and how many strokes, or that there is a fault.
-fn survey(bytes: &[u8]) -> DrawingAnswer
-    ensures { ByIntake (λ intake. told (meaning intake bytes.now)) result }
+fn survey(bytes: &[u8]) -> Result<Surveyed, Refusal>
+    ensures { ByIntake (λ intake. surveyed (meaning intake bytes.now)) result }
 {
     if format::head_fault(bytes) != format::HEAD_SIZE {
-        return refused(grid::BAD_DRAWING, 0);
+        return Err(faulty());
     }
-    let w = intake::window_to_grid(format::window_at(bytes));
-    if w.number != 0 {
-        return refused(grid::BAD_DRAWING, 0);
+    match intake::window_on_grid(format::window_at(bytes)) {
+        Ok(window) => count_strokes(bytes, window),
+        Err(_) => Err(faulty()),
     }
-    count_strokes(bytes, w.window)
 }
 
 // The second pass over the records: the strokes are written.
@@ -90,6 +88,7 @@ fn write_strokes(bytes: &[u8], out: &mut [i32])
 {
     let mut pen = pen::fresh();
     let mut at: usize = format::HEAD_SIZE;
+    // A loop, as in the first pass.
     loop {
         match pen::turn_at(bytes, at, pen) {
             Turn::End => {
@@ -112,21 +111,39 @@ fn write_strokes(bytes: &[u8], out: &mut [i32])
     }
 }
 
-// Reads a drawing and writes its strokes in order, four numbers each.
+// Reads a drawing and writes its strokes, or refuses it: first by a fault, then by its window, then by the room.
+fn read(bytes: &[u8], out: &mut [i32]) -> Result<Surveyed, Refusal>
+    ensures { ReadDrawing bytes.now (answered result) out.old out.new }
+{
+    let found = survey(bytes)?;
+    grid::test_window(found.window)?;
+    grid::test_room(4 * found.strokes, out.len())?;
+    write_strokes(bytes, out);
+    Ok(found)
+}
+
+// Reads a drawing and writes its strokes in order, four numbers each. Where it refuses every other field is 0.
 // Its statement is `ReadDrawing`, specs/Drawings.antt.
 pub fn read_drawing(bytes: &[u8], out: &mut [i32]) -> DrawingAnswer
     ensures { ReadDrawing bytes.now result out.old out.new }
 {
-    let found = survey(bytes);
-    if found.number != 0 {
-        return found;
+    match read(bytes, out) {
+        Ok(Surveyed { window, strokes }) => DrawingAnswer {
+            number: 0,
+            place: 0,
+            window,
+            count: strokes,
+        },
+        Err(Refusal { number, place }) => DrawingAnswer {
+            number,
+            place,
+            window: Window {
+                left: 0,
+                bottom: 0,
+                right: 0,
+                top: 0,
+            },
+            count: 0,
+        },
     }
-    let area = grid::window_refusal(found.window);
-    let room = grid::room_refusal(4 * found.count, out.len());
-    let refusal = grid::first_of(area, room);
-    if refusal.number != 0 {
-        return refused(refusal.number, refusal.place);
-    }
-    write_strokes(bytes, out);
-    found
 }

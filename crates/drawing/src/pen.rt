@@ -3,18 +3,11 @@ ghost use Rattle.std.specs.Prelude.{◌≡◌, ◌<◌, ◌≤◌, length};
 ghost use Rattle.grid.specs.Refusals.{most_strokes};
 ghost use Rattle.drawing.specs.Intake.{ByIntake};
 ghost use Rattle.format.specs.Format.{most_bytes};
-ghost use Rattle.drawing.specs.Pen.{same, fresh, drawn_to, after, turn_at, drawn_stroke};
+ghost use Rattle.drawing.specs.Pen.{fresh, drawn_to, after, turn_at, drawn_stroke};
 
 use format::{Found, Step, reader};
 use grid::Stroke;
-use intake::PointMm;
-
-// A point of the grid.
-#[derive(Clone, Copy)]
-pub struct Point {
-    pub x: i32,
-    pub y: i32,
-}
+use intake::{Point, PointMm};
 
 // Whether there was a move, where the pen is, where its figure starts, and the strokes so far.
 #[derive(Clone, Copy)]
@@ -40,16 +33,6 @@ pub enum Turn {
 
 // The most strokes of a drawing.
 const MOST_STROKES: usize = 4096;
-
-// Whether two points are the same.
-fn same(p: Point, q: Point) -> bool
-    ensures { result ≡ same p q }
-{
-    if p.x == q.x {
-        return p.y == q.y;
-    }
-    false
-}
 
 // The pen before the first record.
 pub fn fresh() -> Pen
@@ -83,20 +66,18 @@ fn move_to(at: usize, next: usize, pen: Pen, x: f32, y: f32) -> Turn
     requires { at ≤ most_bytes }
     ensures { ByIntake (λ intake. after intake at next pen (Step.Move x y)) result }
 {
-    let a = intake::point_to_grid(PointMm { x, y });
-    if a.number != 0 {
-        return Turn::Fault(at + 1 + 4 * a.place);
+    match intake::point_on_grid(PointMm { x, y }) {
+        Ok(p) => Turn::Goes(
+            Pen {
+                moved: true,
+                here: p,
+                start: p,
+                strokes: pen.strokes,
+            },
+            next,
+        ),
+        Err(refusal) => Turn::Fault(at + 1 + 4 * refusal.place),
     }
-    let p = Point { x: a.x, y: a.y };
-    Turn::Goes(
-        Pen {
-            moved: true,
-            here: p,
-            start: p,
-            strokes: pen.strokes,
-        },
-        next,
-    )
 }
 
 // A line to a point in millimetres.
@@ -107,14 +88,13 @@ fn line_to(at: usize, next: usize, pen: Pen, x: f32, y: f32) -> Turn
     if !pen.moved {
         return Turn::Fault(at);
     }
-    if pen.strokes < MOST_STROKES {
-        let a = intake::point_to_grid(PointMm { x, y });
-        if a.number != 0 {
-            return Turn::Fault(at + 1 + 4 * a.place);
-        }
-        return Turn::Draws(drawn_to(pen, Point { x: a.x, y: a.y }), next);
+    if MOST_STROKES <= pen.strokes {
+        return Turn::Fault(at);
     }
-    Turn::Fault(at)
+    match intake::point_on_grid(PointMm { x, y }) {
+        Ok(p) => Turn::Draws(drawn_to(pen, p), next),
+        Err(refusal) => Turn::Fault(at + 1 + 4 * refusal.place),
+    }
 }
 
 // A close: back to the figure's start, by a stroke where the pen is at another point.
@@ -124,7 +104,7 @@ fn close(at: usize, next: usize, pen: Pen) -> Turn
     if !pen.moved {
         return Turn::Fault(at);
     }
-    if same(pen.here, pen.start) {
+    if pen.here == pen.start {
         return Turn::Goes(pen, next);
     }
     if pen.strokes < MOST_STROKES {

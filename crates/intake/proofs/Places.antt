@@ -1,6 +1,7 @@
 -- What a point and a window become, by what became of their numbers one after the other.
 use mathlib.Core.Path.{◌≡◌, sym, ap, ◌∙◌}
-use Prim.Native.Nat.{ℕ}
+use Prim.Native.Nat.{ℕ, ◌≤◌}
+use native.Mathlib.Omega.{arith}
 use lib.IntN.{ℤ}
 use lib.Ieee.{Float}
 use mir.Syntax.{w32}
@@ -11,7 +12,7 @@ use Rattle.grid.specs.Refusals.{refuse}
 use Rattle.grid.specs.declared.Refusal.{Refusal}
 use Rattle.intake.specs.declared.PointMm.{PointMm}
 use Rattle.intake.specs.declared.WindowMm.{WindowMm}
-use Rattle.intake.specs.Millimetres.{Taken, placed, TakenAt, grid_point, PointOnGrid, grid_window, WindowOnGrid}
+use Rattle.intake.specs.Millimetres.{Taken, no_number, infinite, off_range, placed, TakenAt, grid_point, PointOnGrid, grid_window, WindowOnGrid}
 use Rattle.intake.proofs.Outcome.{outcome, taken_is, read_back}
 use Rattle.intake.proofs.Answers.{found_point, found_window}
 
@@ -40,7 +41,42 @@ module _ {place : ℕ} {x : Float} where
           let number : n ≡ r.number = ap (λ (q : Refusal). q.number) same in
           (sym (taken_is k) ∙ ap Err number, sym same ∙ ap (λ (m : ℕ). refuse m place) number)
 
+-- a refusal has a number, and no other place
+no_zero : {x : Float} {n : ℕ} → Taken x (Err n) → n ≡ 0 → ⊥
+no_zero no_number e = absurd (omega (arith, e))
+no_zero (infinite s) e = absurd (omega (arith, e))
+no_zero (off_range n h) e = absurd (omega (arith, e))
+
 -- ---- a point
+pub point_refused : {p : PointMm} {r : Refusal} → PointOnGrid p (Err r) → (r.number ≡ 0 → ⊥) × (r.place ≤ 1)
+unfolding grid_point
+point_refused {r = r} t = go t.x t.y t.x_taken t.y_taken t.is
+  where
+    go : {a b : Float} (x y : Result ℤ ℕ) → Taken a x → Taken b y → Err r ≡ grid_point x y → (r.number ≡ 0 → ⊥) × (r.place ≤ 1)
+    go (Ok x) (Ok y) f g e = absurd (ff_tt (ap is_ok e))
+    go (Ok x) (Err n) f g e =
+        let same : r ≡ refuse n 1 = cc in
+        (λ z. no_zero g (sym (ap (λ (q : Refusal). q.number) same) ∙ z), omega (arith, ap (λ (q : Refusal). q.place) same))
+    go (Err n) y f g e =
+        let same : r ≡ refuse n 0 = cc in
+        (λ z. no_zero f (sym (ap (λ (q : Refusal). q.number) same) ∙ z), omega (arith, ap (λ (q : Refusal). q.place) same))
+
+pub window_refused : {w : WindowMm} {r : Refusal} → WindowOnGrid w (Err r) → r.number ≡ 0 → ⊥
+unfolding grid_window
+window_refused {r = r} t = go t.left t.bottom t.right t.top t.left_taken t.bottom_taken t.right_taken t.top_taken t.is
+  where
+    go : {a b c d : Float} (left bottom right top : Result ℤ ℕ) → Taken a left → Taken b bottom → Taken c right → Taken d top
+        → Err r ≡ grid_window left bottom right top → r.number ≡ 0 → ⊥
+    go (Ok left) (Ok bottom) (Ok right) (Ok top) f g h i e z = absurd (ff_tt (ap is_ok e))
+    go (Ok left) (Ok bottom) (Ok right) (Err n) f g h i e z =
+        let same : r ≡ refuse n 3 = cc in no_zero i (sym (ap (λ (q : Refusal). q.number) same) ∙ z)
+    go (Ok left) (Ok bottom) (Err n) top f g h i e z =
+        let same : r ≡ refuse n 2 = cc in no_zero h (sym (ap (λ (q : Refusal). q.number) same) ∙ z)
+    go (Ok left) (Err n) right top f g h i e z =
+        let same : r ≡ refuse n 1 = cc in no_zero g (sym (ap (λ (q : Refusal). q.number) same) ∙ z)
+    go (Err n) bottom right top f g h i e z =
+        let same : r ≡ refuse n 0 = cc in no_zero f (sym (ap (λ (q : Refusal). q.number) same) ∙ z)
+
 module _ {p : PointMm} where
   pub x_refused : {r : Refusal} → TakenAt 0 p.x (Err r) → PointOnGrid p (Err r)
   unfolding grid_point

@@ -52,7 +52,7 @@ pub struct BackAnswer {
 }
 
 // A point of the grid.
-#[derive(Clone, Copy)]
+#[derive(Clone, Copy, PartialEq, Eq)]
 pub struct Point {
     pub x: i32,
     pub y: i32,

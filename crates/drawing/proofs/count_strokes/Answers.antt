@@ -1,5 +1,5 @@
 -- `drawing::count_strokes` meets its contract: the strokes so far and those of the rest of the records are together those of all.
-use Rattle.std.proofs.Common.{sym, ◌∙◌, arith}
+use Rattle.std.proofs.Common.{sym, ap, ◌∙◌, arith, Err}
 use Rattle.format.specs.Format.{head_size}
 use Rattle.drawing.specs.Pen.{fresh}
 use Rattle.drawing.proofs.Computed.{computed, is_computed, by_computed}
@@ -16,7 +16,7 @@ returns-in-End c =
 
 pub returns-in-Fault : goal.returns-in-Fault
 returns-in-Fault c =
-    by_computed (c.refused.ensures
+    by_computed (ap Err c.faulty.ensures
     ∙ count_fails computed c.args.bytes.now c.args.window c.loop-to.at c.loop-to.pen (sym (is_computed c.in-Fault.ensures)) ∙ c.loop-to.invariant.1)
 
 pub loop-to-smaller-in-Goes : goal.loop-to-smaller-in-Goes
