@@ -8,12 +8,16 @@ use borrow.Author.Tests.{leb-true, le-leb, le-ltb}
 use lib.Dec.{leb}
 use lib.IntN.{ℤ}
 use lib.ListN.{length}
-use Rattle.grid.specs.Refusals.{wrong_length, number_off, not_convex, refuse, first, off_table, window_refusal}
+use Rattle.std.specs.Bool.{⊤}
+use Rattle.std.specs.Prelude.{Result, Ok, Err, is_err}
+use Rattle.whole.proofs.Comparisons.{ff_tt, tt_ff}
+use Rattle.grid.specs.Refusals.{wrong_length, number_off, not_convex, refuse, first, off_table, tested, window_refusal}
 use Rattle.grid.specs.Table.{first_off, WindowOnTable, NumbersOnTable}
 use Rattle.grid.specs.declared.Refusal.{Refusal}
 use Rattle.grid.specs.declared.Window.{Window}
 use Rattle.grid.proofs.Ranges.{off_later, off_none, within_on}
 use Rattle.grid.proofs.Refusals.{goes_on, all_done, window_on_table, nothing_off}
+use Rattle.grid.proofs.Tested.{was_fine, was_refused}
 use Rattle.rings.specs.Rings.{Ring}
 use Rattle.convex.specs.Corners.{corners_of, strictly_convex, most_corners, right_count, count_refusal, convex_refusal, CornersOnTable}
 use Rattle.convex.proofs.Refusals.{passed, count_passed, convex_passed, counted_on_table}
@@ -27,6 +31,15 @@ first_on (z ∷ zs) f =
     let e = off_later z zs (within_on z (f 0 (omega arith))) refl in
     let h = first_on zs (λ k l. f (suc k) (omega arith)) in
     omega arith
+
+-- ---- a window that is tested
+pub tests_fine : (r : Result ⊤ Refusal) (w : Window) → r ≡ tested (window_refusal w) → is_err r ≡ false → (window_refusal w).number ≡ 0
+tests_fine (Ok u) w e f = was_fine (window_refusal w) e
+tests_fine (Err q) w e f = absurd (tt_ff f)
+
+pub tests_bad : (r : Result ⊤ Refusal) (w : Window) → r ≡ tested (window_refusal w) → is_err r ≡ true → (window_refusal w).number ≡ 0 → ⊥
+tests_bad (Ok u) w e f = absurd (ff_tt f)
+tests_bad (Err q) w e f = (was_refused (window_refusal w) e).1
 
 -- ---- nothing is refused
 pub record Taken (w : Window) (o : ℕ) (zs : List ℤ) : Type 0 where

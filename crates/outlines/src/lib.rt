@@ -1,7 +1,7 @@
 // An outline against a rectangle, in any of the 24 side orders: the ring of what they have in common.
 #![tactic(auto)]
 
-ghost use Rattle.std.specs.Prelude.{◌≡◌, true, List, ◌+◌, ◌*◌, ◌≤◌, ℤ, length};
+ghost use Rattle.std.specs.Prelude.{◌≡◌, true, List, ◌+◌, ◌*◌, ◌≤◌, ℤ, length, MatchResult};
 ghost use Rattle.whole.specs.Choice.{Decides};
 ghost use Rattle.grid.specs.Calls.{answered_by};
 ghost use Rattle.grid.specs.Table.{WindowOnTable, NumbersOnTable};
@@ -11,7 +11,7 @@ ghost use Rattle.passes.specs.Passes.{Cutting};
 ghost use Rattle.reach.specs.Reach.{Reaches, ReachOnTable};
 ghost use Rattle.convex.specs.Corners.{most_corners, right_count};
 ghost use Rattle.outlines.specs.Outlines.{outline_refusal, refused_outline, gave_outline, OutlineDone, Outline};
-ghost use Rattle.outlines.specs.Workers.{GaveCounted};
+ghost use Rattle.outlines.specs.Workers.{GaveCounted, CallTaken, CallRefused};
 
 use grid::{Refusal, Window};
 
@@ -42,7 +42,7 @@ fn takes(w: Window, order: u32, outline: &[i32], reach: Window) -> bool
     if !convex::strictly_convex(outline) {
         return false;
     }
-    if grid::window_refusal(w).number != 0 {
+    if grid::test_window(w).is_err() {
         return false;
     }
     order <= 23
@@ -51,11 +51,10 @@ fn takes(w: Window, order: u32, outline: &[i32], reach: Window) -> bool
 // What is refused, where something is: only then the tests are made in the order of their numbers.
 fn refusal(w: Window, order: u32, outline: &[i32]) -> Refusal
     requires { (outline_refusal w order outline.now).number ≡ 0 → ⊥ }
-    ensures { result ≡ outline_refusal w order outline.now }
+    ensures { CallRefused w order outline.now result }
 {
-    let first = grid::window_refusal(w);
-    if first.number != 0 {
-        return first;
+    if let Err(window_refusal) = grid::test_window(w) {
+        return window_refusal;
     }
     if 23 < order {
         return Refusal {
@@ -82,15 +81,30 @@ fn refusal(w: Window, order: u32, outline: &[i32]) -> Refusal
     }
 }
 
-// The answer that refuses.
-fn refused_by(r: Refusal) -> OutlineAnswer
-    ensures { result ≡ refused_outline r }
+// Tests a call. Where nothing is refused, it says how far the outline reaches.
+fn test_call(w: Window, order: u32, outline: &[i32]) -> Result<Window, Refusal>
+    ensures { MatchResult result (CallTaken w order outline.now) (CallRefused w order outline.now) }
 {
-    OutlineAnswer {
-        number: r.number,
-        place: r.place,
-        count: 0,
-        passes: [0; 4],
+    if convex::right_count(MOST_CORNERS, outline.len()) {
+        let reach = reach::reach_of(outline);
+        if takes(w, order, outline, reach) {
+            return Ok(reach);
+        }
+    }
+    Err(refusal(w, order, outline))
+}
+
+// The answer that refuses.
+impl From<Refusal> for OutlineAnswer {
+    ghost from_gives = { λ r a. a ≡ refused_outline r };
+
+    fn from(r: Refusal) -> OutlineAnswer {
+        OutlineAnswer {
+            number: r.number,
+            place: r.place,
+            count: 0,
+            passes: [0; 4],
+        }
     }
 }
 
@@ -98,15 +112,14 @@ fn refused_by(r: Refusal) -> OutlineAnswer
 fn given(need: usize, passes: [u8; 4], room: usize) -> OutlineAnswer
     ensures { (xs : List ℤ) → need ≡ length xs → result ≡ answered_by refused_outline (gave_outline passes) xs room }
 {
-    let short = grid::room_refusal(need, room);
-    if short.number != 0 {
-        return refused_by(short);
-    }
-    OutlineAnswer {
-        number: 0,
-        place: 0,
-        count: need,
-        passes,
+    match grid::test_room(need, room) {
+        Err(short) => OutlineAnswer::from(short),
+        Ok(()) => OutlineAnswer {
+            number: 0,
+            place: 0,
+            count: need,
+            passes,
+        },
     }
 }
 
@@ -144,7 +157,27 @@ fn cut_in(
     Counts { numbers, passes }
 }
 
-// The same with a memory of its own; fewer corners need a smaller one, which is sooner cleared.
+// The same with a memory of its own, of so many numbers.
+fn cut_in_memory<const ROOM: usize>(
+    numbers: &[i32; 4],
+    cuts: &[bool; 4],
+    order: u32,
+    outline: &[i32],
+    out: &mut [i32],
+) -> Counts
+    requires window_on_table { WindowOnTable (window_of numbers.now) }
+    requires order_bound { order ≤ 23 }
+    requires outline_on_table { OutlineOnTable outline.now }
+    requires cutting { Cutting (window_of numbers.now) outline.now cuts.now }
+    requires room_bound { ROOM ≤ 272 }
+    requires outline_in_bounds { 2 * length outline.now + 16 ≤ ROOM }
+    ensures { GaveCounted (window_of numbers.now) order outline.now result out.old out.new }
+{
+    let mut memory = [0i32; ROOM];
+    cut_in(numbers, cuts, order, outline, &mut memory, out)
+}
+
+// The same with the memory that the outline needs: fewer corners need a smaller one, which is sooner cleared.
 fn cut_by_passes(
     numbers: &[i32; 4],
     cuts: &[bool; 4],
@@ -159,15 +192,12 @@ fn cut_by_passes(
     ensures { GaveCounted (window_of numbers.now) order outline.now result out.old out.new }
 {
     if outline.len() <= 24 {
-        let mut few = [0i32; 64];
-        return cut_in(numbers, cuts, order, outline, &mut few, out);
+        return cut_in_memory::<64>(numbers, cuts, order, outline, out);
     }
     if outline.len() <= 56 {
-        let mut some = [0i32; 128];
-        return cut_in(numbers, cuts, order, outline, &mut some, out);
+        return cut_in_memory::<128>(numbers, cuts, order, outline, out);
     }
-    let mut most = [0i32; 272];
-    cut_in(numbers, cuts, order, outline, &mut most, out)
+    cut_in_memory::<272>(numbers, cuts, order, outline, out)
 }
 
 // The answer for an outline in which nothing is refused. The plain cases come first: they need no pass. The passes are given the sides' numbers, and
@@ -204,11 +234,8 @@ fn clipped(w: Window, order: u32, outline: &[i32], reach: Window, out: &mut [i32
 pub fn clip_outline(w: Window, order: u32, outline: &[i32], out: &mut [i32]) -> OutlineAnswer
     ensures { Outline w order outline.now result out.old out.new }
 {
-    if convex::right_count(MOST_CORNERS, outline.len()) {
-        let reach = reach::reach_of(outline);
-        if takes(w, order, outline, reach) {
-            return clipped(w, order, outline, reach, out);
-        }
+    match test_call(w, order, outline) {
+        Ok(reach) => clipped(w, order, outline, reach, out),
+        Err(refusal) => OutlineAnswer::from(refusal),
     }
-    refused_by(refusal(w, order, outline))
 }
