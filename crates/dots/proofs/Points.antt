@@ -1,5 +1,4 @@
 -- Points put one after another.
-use mathlib.Core.Path.{◌≡◌, subst}
 use Prim.Native.Nat.{ℕ, ◌+◌}
 use mathlib.Core.List.{List}
 use native.Mathlib.Numerals.{add-one}
@@ -13,6 +12,3 @@ module _ (l : ℕ) (zs xs : List ℤ) {before after : List ℕ} {at end : ℕ} w
       → Put before next at to (point_paths l zs xs (k + 1))
   unfolding point_paths
   points_on k p q = rw add-one (put_then p q)
-
-  pub points_end : {k n : ℕ} → k ≡ n → Put before after at end (point_paths l zs xs k) → Put before after at end (point_paths l zs xs n)
-  points_end e p = subst (λ (m : ℕ). Put before after at end (point_paths l zs xs m)) e p

@@ -9,10 +9,7 @@ ghost use Rattle.dots.specs.Dots.{spread, marked, point_path, point_paths, point
 fn number_at(xs: &[i32], i: usize) -> i32
     ensures { result ≡ get_or xs.now i (pos 0) }
 {
-    if i < xs.len() {
-        return xs[i];
-    }
-    0
+    xs.get(i).copied().unwrap_or(0)
 }
 
 // How far the ends of a stroke are apart, along both axes together: the four numbers from i on.
@@ -74,10 +71,8 @@ fn put_points(
     ensures upper_bound { result ≤ at + 49 * kept }
 {
     let mut end = at;
-    let mut k = 0;
-    while k < kept {
+    for k in 0..kept {
         end = put_point(page, end, strokes, rows, k, least);
-        k += 1;
     }
     end
 }

@@ -1,5 +1,4 @@
 -- Numbers put one after another.
-use mathlib.Core.Path.{◌≡◌, subst}
 use Prim.Native.Nat.{ℕ, ◌+◌}
 use mathlib.Core.List.{List}
 use native.Mathlib.Numerals.{add-one}
@@ -14,6 +13,3 @@ module _ (v : Window) (zs : List ℤ) {before after : List ℕ} {at end : ℕ} w
       → Put before next at to (label_texts v zs (k + 1))
   unfolding label_texts
   texts_on k p q = rw add-one (put_then p q)
-
-  pub texts_end : {k n : ℕ} → k ≡ n → Put before after at end (label_texts v zs k) → Put before after at end (label_texts v zs n)
-  texts_end e p = subst (λ (m : ℕ). Put before after at end (label_texts v zs m)) e p

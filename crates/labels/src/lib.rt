@@ -64,10 +64,8 @@ fn put_texts(page: &mut [u8], at: usize, v: Window, strokes: &[i32], count: usiz
     ensures upper_bound { result ≤ at + 132 * count }
 {
     let mut end = at;
-    let mut k = 0;
-    while k < count {
+    for k in 0..count {
         end = put_label(page, end, v, strokes, k);
-        k += 1;
     }
     end
 }

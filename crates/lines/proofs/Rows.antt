@@ -46,6 +46,10 @@ pub record Rows (xs : List ℤ) (before after : List ℕ) (at end n : ℕ) : Typ
 pub rows_start : (xs : List ℤ) (page : List ℕ) {at : ℕ} → at ≤ length page → Rows xs page page at at 0
 rows_start xs page h = record { text = []; put = put_nothing page h; left = refl; short = omega arith }
 
+-- how many are done may be written in another way
+pub rows_to : {xs : List ℤ} {before after : List ℕ} {at end n m : ℕ} → n ≡ m → Rows xs before after at end n → Rows xs before after at end m
+rows_to {xs} {before} {after} {at} {end} e r = subst (λ (k : ℕ). Rows xs before after at end k) e r
+
 module _ (xs : List ℤ) {before after : List ℕ} {at end n : ℕ} (r : Rows xs before after at end n) where
   pub rows_on : {next : List ℕ} {to : ℕ} → n + 5 ≤ length xs → Put after next end to (row_at xs n) → to ≤ end + 60 → Rows xs before next at to (n + 5)
   rows_on h p s =

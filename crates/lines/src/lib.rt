@@ -43,10 +43,8 @@ fn put_rows(page: &mut [u8], at: usize, rows: &[i32]) -> usize
     ensures upper_bound { result ≤ at + 12 * length rows.now }
 {
     let mut end = at;
-    let mut i = 0;
-    while i + 5 <= rows.len() {
-        end = put_row(page, end, rows, i);
-        i += 5;
+    for k in 0..rows.len() / 5 {
+        end = put_row(page, end, rows, k * 5);
     }
     end
 }

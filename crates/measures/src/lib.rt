@@ -5,6 +5,9 @@ ghost use Rattle.std.specs.Prelude.{[], ◌∷◌, ◌+◌, ◌<◌, ◌≤◌, 
 ghost use Rattle.text.specs.Pages.{Put};
 ghost use Rattle.measures.specs.Measures.{thousandths, decimals, millimetres};
 
+// How many decimals a number of 32nds has at the most: 32 divides 100,000.
+const MOST_DECIMALS: usize = 5;
+
 // Puts n thousandths, and one byte after them.
 pub fn put_thousandths(page: &mut [u8], at: usize, n: u64, last: u8) -> usize
     requires { at + 82 ≤ length page.old }
@@ -26,15 +29,12 @@ fn put_decimals(page: &mut [u8], at: usize, part: u64) -> usize
 {
     let mut end = at;
     let mut left = part;
-    // After five digits nothing is left: 32 divides 100,000.
-    let mut more = 5u64;
-    while more > 0 {
+    for _ in 0..MOST_DECIMALS {
         if left == 0 {
             return end;
         }
         end = text::put_natural(page, end, left * 10 / 32);
         left = left * 10 % 32;
-        more -= 1;
     }
     end
 }

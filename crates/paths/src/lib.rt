@@ -42,10 +42,8 @@ pub fn put_strokes(page: &mut [u8], at: usize, xs: &[i32], step: usize, count: u
     ensures upper_bound { result ≤ at + 49 * count }
 {
     let mut end = at;
-    let mut k = 0;
-    while k < count {
+    for k in 0..count {
         end = put_stroke(page, end, xs, k * step + (step - 4));
-        k += 1;
     }
     end
 }

@@ -23,11 +23,8 @@ pub fn reach(w: Window, points: &[i32]) -> Window
     ensures { result ≡ reach w points.now (length points.now / 2) }
 {
     let mut r = w;
-    let count = points.len() / 2;
-    let mut k = 0;
-    while k < count {
+    for k in 0..points.len() / 2 {
         r = around(r, points[2 * k], points[2 * k + 1]);
-        k += 1;
     }
     r
 }
@@ -60,10 +57,5 @@ pub fn extent(r: Window) -> u64
     ensures upper_bound { result ≤ 4294967296 }
     ensures lower_bound { width r ≤ result }
 {
-    let wide = width(r);
-    let high = height(r);
-    if wide < high {
-        return high;
-    }
-    wide
+    width(r).max(height(r))
 }
