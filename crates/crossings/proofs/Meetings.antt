@@ -26,7 +26,7 @@ use Rattle.convex.specs.Corners.{grid_point}
 use Rattle.memory.specs.Memory.{largest_number}
 use Rattle.crossings.specs.Tags.{stroke_from, line_of, side_stroke}
 use Rattle.grid.specs.Sides.{Side, left, right, bottom, top, number_of}
-use Rattle.limits.specs.Limits.{LimitOnTable, limit_line}
+use Rattle.limits.specs.Limits.{line_by, limit_line}
 use Rattle.crossings.specs.Meetings.{NotAlong, Meets}
 use Rattle.limits.specs.declared.Limit.{Limit}
 use Rattle.crossings.proofs.SideStrokes.{Opposite, right_opposite, top_opposite}
@@ -126,7 +126,7 @@ bottom_meets c ax ay bx by {p} m =
 pub upright_meets : (l : Limit) {e : Stroke} {p : Point} → l.axis ≡ 0 → Meets (left_side l.c) e p → Meets (limit_line l) e p
 upright_meets l {e} {p} z m = go l.low l.axis z
   where
-    go : (low : Bool) (k : ℕ) → k ≡ 0 → Meets (limit_line (record { low = low; axis = k; c = l.c })) e p
+    go : (low : Bool) (k : ℕ) → k ≡ 0 → Meets (line_by low k l.c) e p
     go true zero z = m
     go false zero z = opposite (right_opposite l.c) m
     go low (suc k) z = absurd (omega arith)
@@ -138,7 +138,7 @@ level_meets l e {p} n m = go l.low l.axis n
     met : Meets (bottom_side l.c) e (exchanged p)
     met = bottom_meets l.c e.x1 e.y1 e.x2 e.y2 m
 
-    go : (low : Bool) (k : ℕ) → (k ≡ 0 → ⊥) → Meets (limit_line (record { low = low; axis = k; c = l.c })) e (exchanged p)
+    go : (low : Bool) (k : ℕ) → (k ≡ 0 → ⊥) → Meets (line_by low k l.c) e (exchanged p)
     go low zero n = absurd (n refl)
     go true (suc k) n = met
     go false (suc k) n = opposite (top_opposite l.c) met
@@ -168,20 +168,20 @@ module _ (c n : ℤ) (hc : Within farthest c) (hn : Within farthest n) where
       record { on_side = on_upright; on_stroke = λ k. absurd (k along); small = λ k. absurd (k along) }
 
 -- ---- a limit's line, met by that of a window's side
-module _ (w : Window) (l : Limit) (t : WindowOnTable w) (k : LimitOnTable l) where
+module _ (w : Window) (l : Limit) (t : WindowOnTable w) where
   pub side_meets_upright : (s : Side) → l.axis ≡ 0 → Meets (limit_line l) (side_stroke w s) (grid_point l.c (number_of w s))
   unfolding side_stroke
-  side_meets_upright left z = upright_meets l z (runs_along l.c w.left k.number t.left)
-  side_meets_upright right z = upright_meets l z (runs_along l.c w.right k.number t.right)
-  side_meets_upright bottom z = upright_meets l z (level_meets_upright l.c w.bottom k.number t.bottom)
-  side_meets_upright top z = upright_meets l z (level_meets_upright l.c w.top k.number t.top)
+  side_meets_upright left z = upright_meets l z (runs_along l.c w.left l.on_table t.left)
+  side_meets_upright right z = upright_meets l z (runs_along l.c w.right l.on_table t.right)
+  side_meets_upright bottom z = upright_meets l z (level_meets_upright l.c w.bottom l.on_table t.bottom)
+  side_meets_upright top z = upright_meets l z (level_meets_upright l.c w.top l.on_table t.top)
 
   pub side_meets_level : (s : Side) → (l.axis ≡ 0 → ⊥) → Meets (limit_line l) (side_stroke w s) (grid_point (number_of w s) l.c)
   unfolding side_stroke
-  side_meets_level left n = level_meets l (stroke_from w.left (pos 0) w.left (pos 1)) n (level_meets_upright l.c w.left k.number t.left)
-  side_meets_level right n = level_meets l (stroke_from w.right (pos 0) w.right (pos 1)) n (level_meets_upright l.c w.right k.number t.right)
-  side_meets_level bottom n = level_meets l (stroke_from (pos 0) w.bottom (pos 1) w.bottom) n (runs_along l.c w.bottom k.number t.bottom)
-  side_meets_level top n = level_meets l (stroke_from (pos 0) w.top (pos 1) w.top) n (runs_along l.c w.top k.number t.top)
+  side_meets_level left n = level_meets l (stroke_from w.left (pos 0) w.left (pos 1)) n (level_meets_upright l.c w.left l.on_table t.left)
+  side_meets_level right n = level_meets l (stroke_from w.right (pos 0) w.right (pos 1)) n (level_meets_upright l.c w.right l.on_table t.right)
+  side_meets_level bottom n = level_meets l (stroke_from (pos 0) w.bottom (pos 1) w.bottom) n (runs_along l.c w.bottom l.on_table t.bottom)
+  side_meets_level top n = level_meets l (stroke_from (pos 0) w.top (pos 1) w.top) n (runs_along l.c w.top l.on_table t.top)
 
 -- ---- a stroke whose line has points on both sides of h does not run along h: else h would be h(a)·W on it, a being its start
 module _ (h : Line) (e : Stroke) where

@@ -10,7 +10,7 @@ ghost use Rattle.grid.specs.Table.{farthest, WindowOnTable, StrokeOnTable};
 ghost use Rattle.rings.specs.Windows.{«left_side»};
 ghost use Rattle.memory.specs.Memory.{point_of};
 ghost use Rattle.limits.specs.Sides.{window_of};
-ghost use Rattle.limits.specs.Limits.{LimitOnTable, limit_line};
+ghost use Rattle.limits.specs.Limits.{limit_line};
 ghost use Rattle.crossings.specs.Outlines.{OutlineOnTable};
 ghost use Rattle.crossings.specs.Tags.{stroke_from, edge_of, side_stroke, side_tag, Named};
 ghost use Rattle.crossings.specs.Meetings.{Meets, Meeting};
@@ -60,7 +60,6 @@ fn meet(c: i32, ax: i32, ay: i32, bx: i32, by: i32) -> Corner
 // Where the outline's edge from its corner k meets a limit's line. A limit on y is one on x with x and y exchanged.
 pub fn edge_crossing(l: Limit, outline: &[i32], k: usize) -> Corner
     requires outline_on_table { OutlineOnTable outline.now }
-    requires limit_on_table { LimitOnTable l }
     requires k_in_bounds { k < length outline.now / 2 }
     ensures { Meets (limit_line l) (edge_of outline.now k) (point_of result) }
 {
@@ -80,7 +79,6 @@ pub fn edge_crossing(l: Limit, outline: &[i32], k: usize) -> Corner
 // Where the line of the window's side s meets a limit's: their two numbers are its x and y.
 fn side_crossing(numbers: &[i32; 4], l: Limit, s: usize) -> Corner
     requires window_on_table { WindowOnTable (window_of numbers.now) }
-    requires limit_on_table { LimitOnTable l }
     requires s_bound { s < 4 }
     ensures { Meets (limit_line l) (side_stroke (window_of numbers.now) (side_at s)) (point_of result) }
 {
@@ -96,7 +94,6 @@ fn side_crossing(numbers: &[i32; 4], l: Limit, s: usize) -> Corner
 pub fn crossing(numbers: &[i32; 4], l: Limit, outline: &[i32], tag: i32) -> Corner
     requires window_on_table { WindowOnTable (window_of numbers.now) }
     requires outline_on_table { OutlineOnTable outline.now }
-    requires limit_on_table { LimitOnTable l }
     requires named { Named (window_of numbers.now) outline.now tag }
     ensures { Meeting (window_of numbers.now) outline.now (limit_line l) tag (point_of result) }
 {

@@ -7,7 +7,7 @@ ghost use Rattle.grid.specs.Sides.{side_at};
 ghost use Rattle.rings.specs.Points.{Out};
 ghost use Rattle.memory.specs.Memory.{point_in};
 ghost use Rattle.memory.specs.Tagged.{Brought, loaded_of};
-ghost use Rattle.limits.specs.Limits.{LimitOnTable, limit_line, RunTo};
+ghost use Rattle.limits.specs.Limits.{limit_line, RunTo};
 ghost use Rattle.crossings.specs.Outlines.{OutlineOnTable};
 ghost use Rattle.crossings.specs.Tags.{edge_of};
 ghost use Rattle.crossings.specs.Meetings.{Meets};
@@ -38,7 +38,6 @@ fn load(outline: &[i32], from: usize, to: usize, m: &mut [i32], at: usize)
 // the next one, lies on the limit. What comes after it has the place answered.
 fn enter(l: Limit, outline: &[i32], k: usize, m: &mut [i32], at: usize, there: bool) -> usize
     requires outline_on_table { OutlineOnTable outline.now }
-    requires limit_on_table { LimitOnTable l }
     requires k_in_bounds { k < length outline.now / 2 }
     requires at_in_bounds { 4 * at + 4 ≤ length m.old }
     ensures { EnteredOwn outline.now (limit_line l) there k m.old at m.new result }
@@ -62,7 +61,7 @@ fn leave(
     here: bool,
 ) -> usize
     requires outline_on_table { OutlineOnTable outline.now }
-    requires side_bound { (side < 4) × LimitOnTable l }
+    requires side_bound { side < 4 }
     requires i_in_bounds { 4 * i + 8 ≤ length m.old }
     requires k_in_bounds { k < length outline.now / 2 }
     ensures { Went (Meets (limit_line l) (edge_of outline.now k)) (side_at side) here m.old i m.new result }
@@ -82,7 +81,7 @@ fn leave(
 // A pass over an outline of which the corners before a lie inside and a outside: these, the crossings, and what comes after the run outside.
 fn cut_out(side: usize, outline: &[i32], l: Limit, m: &mut [i32], a: usize) -> Places
     requires outline_on_table { OutlineOnTable outline.now }
-    requires side_bound { (side < 4) × LimitOnTable l }
+    requires side_bound { side < 4 }
     requires outline_in_bounds { 2 * length outline.now + 4 ≤ length m.old }
     requires a_nonzero { (0 < a) × (a < length outline.now / 2) × RunTo (limit_line l) (loaded_of outline.now) false 0 (length outline.now / 2) a }
     ensures { FirstPassed (limit_line l) outline.now (side_at side) m.new result }
@@ -104,7 +103,7 @@ fn cut_out(side: usize, outline: &[i32], l: Limit, m: &mut [i32], a: usize) -> P
 // A pass over an outline of which the first corner lies outside: the run inside, between the crossings.
 fn keep_run(side: usize, outline: &[i32], l: Limit, m: &mut [i32]) -> Places
     requires outline_on_table { OutlineOnTable outline.now }
-    requires side_bound { (side < 4) × LimitOnTable l }
+    requires side_bound { side < 4 }
     requires outline_in_bounds { 2 * length outline.now + 4 ≤ length m.old }
     requires out { Out (limit_line l) (point_in (loaded_of outline.now) 0) }
     ensures { FirstPassed (limit_line l) outline.now (side_at side) m.new result }
@@ -126,7 +125,7 @@ fn keep_run(side: usize, outline: &[i32], l: Limit, m: &mut [i32]) -> Places
 // What a side leaves of the outline, brought into a memory.
 pub fn pass(side: usize, outline: &[i32], l: Limit, m: &mut [i32]) -> Places
     requires outline_on_table { OutlineOnTable outline.now }
-    requires side_bound { (side < 4) × LimitOnTable l }
+    requires side_bound { side < 4 }
     requires outline_in_bounds { 2 * length outline.now + 4 ≤ length m.old }
     ensures { FirstPassed (limit_line l) outline.now (side_at side) m.new result }
 {

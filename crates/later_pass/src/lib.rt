@@ -8,7 +8,7 @@ ghost use Rattle.rings.specs.Points.{Out};
 ghost use Rattle.memory.specs.Memory.{point_in, places};
 ghost use Rattle.memory.specs.Tagged.{tag_in, Brought};
 ghost use Rattle.limits.specs.Sides.{window_of, side_line};
-ghost use Rattle.limits.specs.Limits.{LimitOnTable, limit_line, RunTo};
+ghost use Rattle.limits.specs.Limits.{limit_line, RunTo};
 ghost use Rattle.crossings.specs.Outlines.{OutlineOnTable};
 ghost use Rattle.crossings.specs.Tags.{Named};
 ghost use Rattle.remains.specs.Remains.{Held, Passed};
@@ -29,7 +29,6 @@ fn enter(
 ) -> usize
     requires window_on_table { WindowOnTable (window_of numbers.now) }
     requires outline_on_table { OutlineOnTable outline.now }
-    requires limit_on_table { LimitOnTable l }
     requires o_in_bounds { 4 * o + 4 ≤ length m.old }
     requires named { Named (window_of numbers.now) outline.now (tag_in m.old o) }
     ensures { Entered (window_of numbers.now) outline.now (limit_line l) there m.old o m.new result }
@@ -54,7 +53,6 @@ fn leave(
     here: bool,
 ) -> usize
     requires job { Job (window_of numbers.now) outline.now side }
-    requires limit_on_table { LimitOnTable l }
     requires i_in_bounds { 4 * i + 8 ≤ length m.old }
     requires named { Named (window_of numbers.now) outline.now (tag_in m.old i) }
     ensures { Exited (window_of numbers.now) outline.now (limit_line l) (side_at side) here m.old i m.new result }
@@ -100,7 +98,7 @@ fn cut_out(
     to: usize,
 ) -> Places
     requires job { Job (window_of numbers.now) outline.now side }
-    requires l_value { (limit_line l ≡ side_line (window_of numbers.now) (side_at side)) × LimitOnTable l }
+    requires l_value { limit_line l ≡ side_line (window_of numbers.now) (side_at side) }
     requires to_in_bounds { 4 * to + 4 ≤ length m.old }
     requires held { Held (window_of numbers.now) outline.now m.old (places from to) }
     requires from_lt_a { (from < a) × (a < to) × RunTo (limit_line l) m.old false from to a }
@@ -130,7 +128,7 @@ fn keep_run(
     to: usize,
 ) -> Places
     requires job { Job (window_of numbers.now) outline.now side }
-    requires l_value { (limit_line l ≡ side_line (window_of numbers.now) (side_at side)) × LimitOnTable l }
+    requires l_value { limit_line l ≡ side_line (window_of numbers.now) (side_at side) }
     requires to_in_bounds { 4 * to + 4 ≤ length m.old }
     requires held { Held (window_of numbers.now) outline.now m.old (places from to) }
     requires from_lt_to { (from < to) × Out (limit_line l) (point_in m.old from) }
@@ -161,7 +159,7 @@ pub fn pass(
     p: Places,
 ) -> Places
     requires job { Job (window_of numbers.now) outline.now side }
-    requires l_value { (limit_line l ≡ side_line (window_of numbers.now) (side_at side)) × LimitOnTable l }
+    requires l_value { limit_line l ≡ side_line (window_of numbers.now) (side_at side) }
     requires to_in_bounds { 4 * p.to + 4 ≤ length m.old }
     requires held { Held (window_of numbers.now) outline.now m.old p }
     ensures { Passed (window_of numbers.now) outline.now (side_at side) m.old p m.new result }

@@ -28,9 +28,9 @@ use Rattle.rings.specs.Points.{Point, value, In, Out, On}
 use Rattle.convex.specs.Corners.{grid_point}
 use Rattle.memory.specs.Memory.{point_in}
 use Rattle.memory.specs.Tagged.{tag_in, loaded_from, loaded_of}
-use Rattle.limits.specs.Limits.{LimitOnTable, line_by, limit_line, LiesSo, RunTo, FirstPlace}
+use Rattle.limits.specs.Limits.{line_by, limit_line, LiesSo, RunTo, FirstPlace}
 use Rattle.limits.specs.declared.Limit.{Limit}
-use Rattle.limits.proofs.Limits.{limit_value}
+use Rattle.limits.proofs.Limits.{value_by}
 use Rattle.limits.proofs.Runs.{run_to_first}
 
 -- the first n corners of the outline zs stand in the memory m, each tagged with its own edge
@@ -94,13 +94,13 @@ module _ (zs : List ℤ) {a k : ℕ} (small : a < 2) (there : k < length zs / 2)
 
   low_value : (c : ℤ) → x -ℤ c ≡ value (line_by true a c) p
   low_value c =
-      ring (x ∷ c ∷ []) (x0 ⊖ x1) (x0 ⊖ x1 ⊗ con (pos 1)) tt ∙ sym (λ i. is_number i -ℤ c *ℤ is_1 i) ∙ limit_value (record { low = true; axis = a; c = c })
-      (loaded_of zs) k true refl small
+      ring (x ∷ c ∷ []) (x0 ⊖ x1) (x0 ⊖ x1 ⊗ con (pos 1)) tt ∙ sym (λ i. is_number i -ℤ c *ℤ is_1 i) ∙ value_by true a c
+      (loaded_of zs) k small
 
   high_value : (c : ℤ) → c -ℤ x ≡ value (line_by false a c) p
   high_value c =
-      ring (x ∷ c ∷ []) (x1 ⊖ x0) (x1 ⊗ con (pos 1) ⊖ x0) tt ∙ sym (λ i. c *ℤ is_1 i -ℤ is_number i) ∙ limit_value (record { low = false; axis = a; c = c })
-      (loaded_of zs) k false refl small
+      ring (x ∷ c ∷ []) (x1 ⊖ x0) (x1 ⊗ con (pos 1) ⊖ x0) tt ∙ sym (λ i. c *ℤ is_1 i -ℤ is_number i) ∙ value_by false a c
+      (loaded_of zs) k small
 
   below_low : (c : ℤ) → x <ℤ c → Out (line_by true a c) p
   below_low c h = omega (zarith, low_value c, sub_is x c)
@@ -165,13 +165,13 @@ other_side false false e = absurd (tt_ff e)
 abbrev pub own_number : Limit → List ℤ → ℕ → ℤ
 own_number l zs i = get_or zs (2 * i + l.axis) (pos 0)
 
-module _ {l : Limit} (zs : List ℤ) {from to r : ℕ} {tells : ℕ → Bool → Type 0} {n : ℤ} (out : Bool) (on : LimitOnTable l) (h : to ≤ length zs / 2)
+module _ (l : Limit) (zs : List ℤ) {from to r : ℕ} {tells : ℕ → Bool → Type 0} {n : ℤ} (out : Bool) (h : to ≤ length zs / 2)
     (e : n ≡ least_of l.low l.c) (p : FirstPlace tells from to r) where
   lies : (i : ℕ) → i < to → own_number l zs i <ℤ n → LiesSo l.low (limit_line l) (point_in (loaded_of zs) i)
-  lies i b k = below_least zs {k = i} on.axis (omega arith) l.c l.low (subst (λ (n : ℤ). own_number l zs i <ℤ n) e k)
+  lies i b k = below_least zs {k = i} l.axis_bound (omega arith) l.c l.low (subst (λ (n : ℤ). own_number l zs i <ℤ n) e k)
 
   lies_not : (i : ℕ) → i < to → n ≤ℤ own_number l zs i → LiesSo (not l.low) (limit_line l) (point_in (loaded_of zs) i)
-  lies_not i b k = above_least zs {k = i} on.axis (omega arith) l.c l.low (subst (λ (n : ℤ). n ≤ℤ own_number l zs i) e k)
+  lies_not i b k = above_least zs {k = i} l.axis_bound (omega arith) l.c l.low (subst (λ (n : ℤ). n ≤ℤ own_number l zs i) e k)
 
   pub run_below : beq l.low out ≡ true → ((i : ℕ) (f : Bool) → from ≤ i → i < to → tells i f → le_z n (own_number l zs i) ≡ f) → RunTo (limit_line l) (loaded_of zs) out from to r
   run_below s told =

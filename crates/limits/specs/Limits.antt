@@ -1,5 +1,4 @@
 -- A side as a limit on x or on y, and a run of corners inside it or outside it.
---   LimitOnTable l        the axis and the number of the limit l are a side's
 --   line_by low a c        the line in which X, or Y where the axis a is 1, is at least c times W where low, else at most
 --   limit_line l           the line of the limit l
 --   SmallIn m i k         the corners in the memory m from the place i up to the place k are small
@@ -7,16 +6,10 @@
 --   RunTo h m out from to r   of the corners in the memory m those from one place on, up to the place r, lie so; the one at r does not, unless r is the place to
 --   FirstPlace tells from to r  r is the first place from one on, up to another, of which the test tells true, or else that other one
 use Rattle.std.specs.Prelude.{Bool, true, false, not, List, ℕ, zero, suc, ◌<◌, ◌≤◌, ℤ}
-use Rattle.whole.specs.Within.{Within}
-use Rattle.grid.specs.Table.{farthest}
 use Rattle.rings.specs.Points.{Point, Line, In, Out}
 use Rattle.rings.specs.Windows.{left_side, right_side, bottom_side, top_side}
 use Rattle.memory.specs.Memory.{point_in, Small}
 use Rattle.limits.specs.declared.Limit.{Limit}
-
-pub record LimitOnTable (l : Limit) : Type 0 where
-  pub axis : l.axis < 2
-  pub number : Within farthest l.c
 
 abbrev pub line_by : Bool → ℕ → ℤ → Line
 line_by true zero c = left_side c

@@ -4,14 +4,14 @@ ghost use Rattle.whole.specs.Choice.{Decides};
 ghost use Rattle.rings.specs.Points.{On};
 ghost use Rattle.memory.specs.Memory.{point_in};
 ghost use Rattle.memory.specs.Tagged.{loaded_of};
-ghost use Rattle.limits.specs.Limits.{LimitOnTable, limit_line, RunTo};
+ghost use Rattle.limits.specs.Limits.{limit_line, RunTo};
 
-use crate::{Limit, first_place};
+use crate::Limit;
+use crate::ring::first_place;
 
 // Whether the corner k lies on the limit.
 pub fn lies_on(l: Limit, outline: &[i32], k: usize) -> bool
-    requires limit_on_table { LimitOnTable l }
-    requires k_in_bounds { k < length outline.now / 2 }
+    requires { k < length outline.now / 2 }
     ensures { Decides result (On (limit_line l) (point_in (loaded_of outline.now) k)) }
 {
     outline[2 * k + l.axis] == l.c
@@ -19,7 +19,6 @@ pub fn lies_on(l: Limit, outline: &[i32], k: usize) -> bool
 
 // The end of the run of corners from one on that lie outside a limit, or of those that do not. Whole numbers above c are those not below c + 1.
 pub fn end_of_run(l: Limit, outline: &[i32], from: usize, to: usize, outside: bool) -> usize
-    requires limit_on_table { LimitOnTable l }
     requires from_le_to { from ≤ to }
     requires to_in_bounds { to ≤ length outline.now / 2 }
     ensures { RunTo (limit_line l) (loaded_of outline.now) outside from to result }

@@ -19,7 +19,7 @@ use Rattle.rings.specs.Points.{Point, Line, In, Out, On}
 use Rattle.memory.specs.Memory.{point_in, places}
 use Rattle.limits.specs.Sides.{side_line}
 use Rattle.memory.specs.Tagged.{loaded_of, Tagged, corner_in}
-use Rattle.limits.specs.Limits.{LimitOnTable, limit_line}
+use Rattle.limits.specs.Limits.{limit_line}
 use Rattle.remains.specs.Remains.{Held}
 use Rattle.limits.proofs.Runs.{run_with}
 use Rattle.limits.proofs.Owned.{loaded_of_lem}
@@ -103,13 +103,13 @@ add-end-of-run : tie.Need-overflow_add-a
 add-end-of-run c = search rules
 
 end-of-run-requires : tie.Need-end_of_run-b-requires
-end-of-run-requires c κs = (c.requires.1.0.1, (omega (arith, before_end c), omega arith))
+end-of-run-requires c κs = (omega (arith, before_end c), omega arith)
 
 sub-lies-on : tie.Need-overflow_sub-a
 sub-lies-on c = omega (arith, some c.before)
 
 lies-on-requires : tie.Need-lies_on-here-requires
-lies-on-requires c κs = let s = c.before in (s.requires.1.0.1, omega (arith, some s, before_end s))
+lies-on-requires c κs = let s = c.before in omega (arith, some s, before_end s)
 
 after-requires : tie.Need-after-requires
 after-requires c κs = search rules
@@ -118,7 +118,7 @@ lies-on-requires-2 : tie.Need-lies_on-there-requires
 lies-on-requires-2 c κs =
     let e = c.before.before in
     let s = start e in
-    subst (λ (k : ℕ). LimitOnTable s.args.l × (k < n s)) (sym c.after.ensures) (s.requires.1.0.1, (next_of_ring e).0)
+    subst (λ (k : ℕ). k < n s) (sym c.after.ensures) (next_of_ring e).0
 
 load-requires : tie.Need-load-requires
 load-requires c κs = let s = start c.before.before.before.before in (few s, ((omega arith, omega (arith, before_end s)), omega (arith, before_end s, fits s)))
@@ -208,7 +208,7 @@ enter-requires c κs =
     let l = c.before.before in
     let s = s₂ l in
     let f = found (loaded l) in
-    (s.requires.0, (s.requires.1.0.1, (omega (arith, after_a f, to_end f), enter_fits l)))
+    (s.requires.0, (omega (arith, after_a f, to_end f), enter_fits l))
 
 module _ (c : tie.After-enter-second) where
   abbrev gone_out : tie.After-leave-first

@@ -72,7 +72,7 @@ module _ (c : tie.After-end_of_run-s) where
   all_out = run_with true start.requires.1.1.1 c.end_of_run-s.ensures
 
 end-of-run-requires : tie.Need-end_of_run-s-requires
-end-of-run-requires c κs = (c.requires.1.0.1, (omega (arith, some c), omega arith))
+end-of-run-requires c κs = (omega (arith, some c), omega arith)
 
 returns : tie.Need-returns-then-s-n
 returns c w q =
@@ -95,7 +95,7 @@ add-end-of-run : tie.Need-overflow_add-s
 add-end-of-run c = omega (arith, before_end c, few (start (first c)))
 
 end-of-run-requires-2 : tie.Need-end_of_run-e-requires
-end-of-run-requires-2 c κs = ((start (first c)).requires.1.0.1, (omega (arith, before_end c), omega arith))
+end-of-run-requires-2 c κs = (omega (arith, before_end c), omega arith)
 
 module _ (c : tie.After-end_of_run-e) where
   abbrev some_in : tie.Else-s-n
@@ -123,13 +123,13 @@ module _ (c : tie.After-end_of_run-e) where
   out_again = c.end_of_run-e.ensures.ends
 
 lies-on-requires : tie.Need-lies_on-there-requires
-lies-on-requires c κs = ((s₁ c).requires.1.0.1, before_end (some_in c))
+lies-on-requires c κs = before_end (some_in c)
 
 sub-lies-on : tie.Need-overflow_sub-e
 sub-lies-on c = omega (arith, after_f c.before)
 
 lies-on-requires-2 : tie.Need-lies_on-here-requires
-lies-on-requires-2 c κs = let k = c.before in ((s₁ k).requires.1.0.1, omega (arith, after_f k, to_end k))
+lies-on-requires-2 c κs = let k = c.before in omega (arith, after_f k, to_end k)
 
 sub-enter : tie.Need-overflow_sub-s
 sub-enter c = after_first (first (some_in c.before.before))
@@ -138,7 +138,7 @@ enter-requires : tie.Need-enter-start-requires
 enter-requires c κs =
     let k = c.before.before.before in
     let s = s₁ k in
-    (s.requires.0, (s.requires.1.0.1, (omega (arith, before_end (some_in k)), omega (arith, fits s))))
+    (s.requires.0, (omega (arith, before_end (some_in k)), omega (arith, fits s)))
 
 -- ---- the memories
 module _ (c : tie.After-enter-start) where

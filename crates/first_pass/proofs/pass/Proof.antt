@@ -18,7 +18,7 @@ use Rattle.first_pass.proofs.pass.Statement.{statement}
 use Rattle.first_pass.proofs.pass.Tie as tie
 
 end-of-run-requires : tie.Need-end_of_run-a-requires
-end-of-run-requires c κs = (c.requires.1.0.1, (omega arith, omega arith))
+end-of-run-requires c κs = (omega arith, omega arith)
 
 load-requires : tie.Need-load-requires
 load-requires c κs = let s = c.before.before.before in (s.requires.0.corners.few, ((omega arith, omega arith), omega (arith, s.requires.1.1)))

@@ -19,7 +19,7 @@ use Rattle.memory.specs.Memory.{point_in, Small, places}
 use Rattle.limits.specs.Sides.{window_of}
 use Rattle.memory.specs.Tagged.{tag_in, Tagged, corner_in, Brought}
 use Rattle.crossings.specs.Tags.{Named}
-use Rattle.limits.specs.Limits.{LimitOnTable, limit_line}
+use Rattle.limits.specs.Limits.{limit_line}
 use Rattle.remains.specs.Remains.{Held}
 use Rattle.limits.proofs.Runs.{run_with}
 use Rattle.remains.proofs.Held.{small_in, named_in}
@@ -91,7 +91,7 @@ add-end-of-run c = search rules
 
 end-of-run-requires : tie.Need-end_of_run-b-requires
 end-of-run-requires c κs =
-    (c.requires.1.0.1, (omega (arith, before_to c), (omega (arith, fits c), λ j l k. small_in (held c) j (omega (arith, after_from c)) k)))
+    (omega (arith, before_to c), (omega (arith, fits c), λ j l k. small_in (held c) j (omega (arith, after_from c)) k))
 
 sub-lies-on : tie.Need-overflow_sub-a
 sub-lies-on c = omega (arith, after_from c.before)
@@ -99,7 +99,7 @@ sub-lies-on c = omega (arith, after_from c.before)
 lies-on-requires : tie.Need-lies_on-here-requires
 lies-on-requires c κs =
     let s = c.before in
-    (s.requires.1.0.1, (omega (arith, fits s, before_to s), small_in (held s) (s.args.a - 1) (omega (arith, after_from s)) (omega (arith, before_to s))))
+    (omega (arith, fits s, before_to s), small_in (held s) (s.args.a - 1) (omega (arith, after_from s)) (omega (arith, before_to s)))
 
 after-requires : tie.Need-after-requires
 after-requires c κs = search rules
@@ -109,8 +109,8 @@ lies-on-requires-2 c κs =
     let e = c.before.before in
     let s = start e in
     let n = next_of_ring e in
-    subst (λ (k : ℕ). LimitOnTable s.args.l × ((4 * k + 4 ≤ length (m s)) × Small (point_in (m s) k))) (sym c.after.ensures)
-    (s.requires.1.0.1, (omega (arith, fits s, n.1), small_in (held s) (next e) n.0 n.1))
+    subst (λ (k : ℕ). (4 * k + 4 ≤ length (m s)) × Small (point_in (m s) k)) (sym c.after.ensures)
+    (omega (arith, fits s, n.1), small_in (held s) (next e) n.0 n.1)
 
 sub-make-room : tie.Need-overflow_sub-b
 sub-make-room c = omega (arith, after_a c.before.before.before.before)
@@ -177,7 +177,7 @@ add-enter : tie.Need-overflow_add-b
 add-enter c = let r = c.before.before in omega (arith, o_fits r, (s₁ r).well_formed)
 
 enter-requires : tie.Need-enter-second-requires
-enter-requires c κs = let r = c.before.before in ((s₁ r).requires.0.window, ((s₁ r).requires.0.outline, ((s₁ r).requires.1.0.1, (o_fits r, last_named r))))
+enter-requires c κs = let r = c.before.before in ((s₁ r).requires.0.window, ((s₁ r).requires.0.outline, (o_fits r, last_named r)))
 
 module _ (c : tie.After-enter-second) where
   abbrev room : tie.After-make_room-k
@@ -191,7 +191,7 @@ module _ (c : tie.After-enter-second) where
 
   came : Come (window_of (s₁ room).args.numbers.now) (s₁ room).args.outline.now (side_at (s₁ room).args.side) (m₁ room) (o room)
       (point_in (m (s₁ room)) (next (found room))) m₂ c.enter-second.result
-  came = come (s₁ room).requires.1.0.0 (o_fits room) (on_there room) (next_of_ring (found room)).2 c.enter-second.ensures
+  came = come (s₁ room).requires.1.0 (o_fits room) (on_there room) (next_of_ring (found room)).2 c.enter-second.ensures
 
   -- the last corner inside is as it was
   last_in : corner_in m₂ ((s₁ room).args.a - 1) ≡ corner_in (m (s₁ room)) ((s₁ room).args.a - 1)
@@ -209,12 +209,9 @@ leave-requires c κs =
     let s = s₁ (room e) in (
       s.requires.0,
       (
-        s.requires.1.0.1,
-        (
-          omega (arith, size₂ e, fits s, before_to s),
-          subst (λ (c : Tagged). Named (window_of s.args.numbers.now) s.args.outline.now c.tag) (sym (last_in e))
-              (named_in (held s) (s.args.a - 1) (omega (arith, after_from s)) (omega (arith, before_to s))),
-        ),
+        omega (arith, size₂ e, fits s, before_to s),
+        subst (λ (c : Tagged). Named (window_of s.args.numbers.now) s.args.outline.now c.tag) (sym (last_in e))
+            (named_in (held s) (s.args.a - 1) (omega (arith, after_from s)) (omega (arith, before_to s))),
       ),
     )
 
@@ -234,7 +231,7 @@ module _ (c : tie.After-leave-first) where
   went : Gone (window_of s₂.args.numbers.now) s₂.args.outline.now (side_at s₂.args.side) (m₂ entered) (s₂.args.a - 1) m₃ c.leave-first.result
   went =
       let p = ap (λ (c : Tagged). c.point) (last_in entered) in
-      gone s₂.requires.1.0.0 (omega (arith, size₂ entered, fits s₂, before_to s₂))
+      gone s₂.requires.1.0 (omega (arith, size₂ entered, fits s₂, before_to s₂))
       (subst (λ (q : Point). Decides (here (room entered)).lies_on-here.result (On (h s₂) q)) (sym p) (on_here (room entered)))
       (subst (In (h s₂)) (sym p) (first_in s₂ (s₂.args.a - 1) (omega (arith, after_from s₂)) (omega (arith, after_from s₂)))) c.leave-first.ensures
 
@@ -281,7 +278,7 @@ returns c =
     let r = room e in
     let f = found r in
     let s = s₂ l in
-    cut_out (window_of s.args.numbers.now) (side_at s.args.side) s.requires.0.outline s.requires.1.0.0 (m s) (after_from s) (after_a f) (to_end f)
+    cut_out (window_of s.args.numbers.now) (side_at s.args.side) s.requires.0.outline s.requires.1.0 (m s) (after_from s) (after_a f) (to_end f)
     (held s) (first_in s) (all_out f) (back_in f) (m₁ r) (m₂ e) (m₃ l) c.move_down.new.m (k r) e.enter-second.result l.leave-first.result
     r.make_room-k.ensures.0.1 (up r) (came e) (went l) c.move_down.ensures
 

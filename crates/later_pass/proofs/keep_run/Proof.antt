@@ -66,7 +66,7 @@ add-end-of-run c = search rules
 
 end-of-run-requires : tie.Need-end_of_run-s-requires
 end-of-run-requires c κs =
-    (c.requires.1.0.1, (omega (arith, some c), (omega (arith, fits c), λ j l k. small_in (held c) j (omega arith) k)))
+    (omega (arith, some c), (omega (arith, fits c), λ j l k. small_in (held c) j (omega arith) k))
 
 same_length : tie.Need-shape_of-m-then-s-to
 same_length c = search rules
@@ -75,7 +75,7 @@ returns : tie.Need-returns-then-s-to
 returns c =
     let e = c.before in
     let s = start e in
-    leaves_none s.requires.1.0.0 (omega (arith, some s)) (held s) (m s) (λ i l k. all_out e i l (omega (arith, c.if-s-to.true)))
+    leaves_none s.requires.1.0 (omega (arith, some s)) (held s) (m s) (λ i l k. all_out e i l (omega (arith, c.if-s-to.true)))
 
 -- ---- the run inside, up to e
 module _ (c : tie.Else-s-to) where
@@ -119,13 +119,13 @@ add-end-of-run-2 c = omega (arith, before_to c, fits (s₀ c), (s₀ c).well_for
 end-of-run-requires-2 : tie.Need-end_of_run-e-requires
 end-of-run-requires-2 c κs =
     let s = s₀ c in
-    (s.requires.1.0.1, (omega (arith, before_to c), (omega (arith, fits s), λ j l k. small_in (held s) j (omega (arith, after_from (first c))) k)))
+    (omega (arith, before_to c), (omega (arith, fits s), λ j l k. small_in (held s) j (omega (arith, after_from (first c))) k))
 
 lies-on-requires : tie.Need-lies_on-there-requires
 lies-on-requires c κs =
     let o = out c in
     let s = s₀ o in
-    (s.requires.1.0.1, (omega (arith, fits s, before_to o), small_in (held s) (f (first o)) (omega (arith, after_from (first o))) (before_to o)))
+    (omega (arith, fits s, before_to o), small_in (held s) (f (first o)) (omega (arith, after_from (first o))) (before_to o))
 
 sub-lies-on : tie.Need-overflow_sub-e
 sub-lies-on c = omega (arith, after_f c.before)
@@ -134,12 +134,9 @@ lies-on-requires-2 : tie.Need-lies_on-here-requires
 lies-on-requires-2 c κs =
     let r = c.before in
     let s = s₁ r in (
-      s.requires.1.0.1,
-      (
-        omega (arith, fits s, after_f r, e_to r),
-        small_in (held s) (e r - 1) (omega (arith, after_from (first (out r)), after_f r))
-            (omega (arith, after_f r, e_to r)),
-      ),
+      omega (arith, fits s, after_f r, e_to r),
+      small_in (held s) (e r - 1) (omega (arith, after_from (first (out r)), after_f r))
+          (omega (arith, after_f r, e_to r)),
     )
 
 module _ (c : tie.After-lies_on-here) where
@@ -164,7 +161,7 @@ enter-requires c κs =
     let s = s₁ r in
     let l = after_from (first (out r)) in
     let t = before_to (out r) in
-    (s.requires.0.window, (s.requires.0.outline, (s.requires.1.0.1, (omega (arith, fits s), named_in (held s) (f (first (out r)) - 1) (omega arith) (omega arith)))))
+    (s.requires.0.window, (s.requires.0.outline, (omega (arith, fits s), named_in (held s) (f (first (out r)) - 1) (omega arith) (omega arith))))
 
 module _ (c : tie.After-enter-start) where
   abbrev values : tie.After-lies_on-here
@@ -184,7 +181,7 @@ module _ (c : tie.After-enter-start) where
   came =
       let l = after_from (first (out r)) in
       let t = before_to (out r) in
-      come (s₁ r).requires.1.0.0 (omega (arith, fits (s₁ r))) (on_there values) (f_in (out r)) c.enter-start.ensures
+      come (s₁ r).requires.1.0 (omega (arith, fits (s₁ r))) (on_there values) (f_in (out r)) c.enter-start.ensures
 
   -- the last corner inside is as it was
   last_in : corner_in m₁ (e r - 1) ≡ corner_in (m (s₁ r)) (e r - 1)
@@ -202,12 +199,9 @@ leave-requires c κs =
     let k = e_to (r i) in (
       s.requires.0,
       (
-        s.requires.1.0.1,
-        (
-          omega (arith, size₁ i, fits s),
-          subst (λ (c : Tagged). Named (window_of s.args.numbers.now) s.args.outline.now c.tag) (sym (last_in i))
-              (named_in (held s) (e (r i) - 1) (omega arith) (omega arith)),
-        ),
+        omega (arith, size₁ i, fits s),
+        subst (λ (c : Tagged). Named (window_of s.args.numbers.now) s.args.outline.now c.tag) (sym (last_in i))
+            (named_in (held s) (e (r i) - 1) (omega arith) (omega arith)),
       ),
     )
 
@@ -224,9 +218,9 @@ returns-2 c =
     let k = e_to (r i) in
     let went : Gone (window_of s.args.numbers.now) s.args.outline.now (side_at s.args.side) (m₁ i) (e (r i) - 1)
     c.leave-end.new.m c.leave-end.result =
-    gone s.requires.1.0.0 (omega (arith, size₁ i, fits s)) (subst (λ (q : Point). Decides (values i).lies_on-here.result (On (h s) q)) (sym p)
+    gone s.requires.1.0 (omega (arith, size₁ i, fits s)) (subst (λ (q : Point). Decides (values i).lies_on-here.result (On (h s) q)) (sym p)
     (on_here (values i))) (subst (In (h s)) (sym p) (all_in (r i) (e (r i) - 1) (omega arith) (omega arith))) c.leave-end.ensures in
-    keep_run (window_of s.args.numbers.now) (side_at s.args.side) s.requires.0.outline s.requires.1.0.0 (m s) (after_from x) (after_f (r i))
+    keep_run (window_of s.args.numbers.now) (side_at s.args.side) s.requires.0.outline s.requires.1.0 (m s) (after_from x) (after_f (r i))
     (e_to (r i)) (held s) (all_out x) (all_in (r i)) (back_out (r i)) (m₁ i) c.leave-end.new.m i.enter-start.result
     c.leave-end.result (came i) went
 

@@ -19,7 +19,7 @@ some : (s : tie.Start) → s.args.p.from < s.args.p.to
 some s = omega (arith, s.requires.1.1.1.ring.three, ring_length s.args.m.now s.args.p.from (s.args.p.to - s.args.p.from))
 
 end-of-run-requires : tie.Need-end_of_run-a-requires
-end-of-run-requires c κs = (c.requires.1.0.1, (omega (arith, some c), (omega (arith, c.requires.1.1.0), small_in c.requires.1.1.1)))
+end-of-run-requires c κs = (omega (arith, some c), (omega (arith, c.requires.1.1.0), small_in c.requires.1.1.1))
 
 same_length : tie.Need-shape_of-m-then-a-to
 same_length c = search rules
@@ -27,7 +27,7 @@ same_length c = search rules
 returns : tie.Need-returns-then-a-to
 returns c =
     let s = c.before.before in
-    leaves_all s.requires.1.0.0 (omega (arith, some s)) s.requires.1.1.1 (λ i a b. c.end_of_run-a.ensures.run i a (omega (arith, c.if-a-to.true)))
+    leaves_all s.requires.1.0 (omega (arith, some s)) s.requires.1.1.1 (λ i a b. c.end_of_run-a.ensures.run i a (omega (arith, c.if-a-to.true)))
 
 -- some corner lies outside
 module _ (c : tie.Else-a-to) where

@@ -10,12 +10,12 @@ use Rattle.passes.proofs.run.Goals as goal
 pub overflow_sub-left : goal.overflow_sub-left
 overflow_sub-left c =
     let w = window_of c.args.numbers.now in
-    (c.pass-p.ensures w (c.limit_of.ensures.result_value w (search (rules, number_at)))).order
+    (c.pass-p.ensures w (c.limit_of.ensures w (search (rules, number_at)))).order
 
 pub overflow_cast-counts-2 : goal.overflow_cast-counts-2
 overflow_cast-counts-2 c =
     let w = window_of c.args.numbers.now in
-    let p = c.pass-p.ensures w (c.limit_of.ensures.result_value w (search (rules, number_at))) in
+    let p = c.pass-p.ensures w (c.limit_of.ensures w (search (rules, number_at))) in
     omega (arith, p.end, c.requires.outline_on_table.corners.few)
 
 pub returns-then-left-lt3 : goal.returns-then-left-lt3
@@ -25,7 +25,7 @@ returns-then-left-lt3 c =
     let r = c.requires in
     let first = c.first_cutting-k in
     let side = side_is a.order r.order_bound first.result (omega (arith, first.ensures.place)) (ap (λ (xs : List ℕ). get_or xs first.result 0) c.sides_of.ensures.value) in
-    let p = c.pass-p.ensures w (c.limit_of.ensures.result_value w (search (rules, number_at))) in
+    let p = c.pass-p.ensures w (c.limit_of.ensures w (search (rules, number_at))) in
     subst (Ran w a.order a.outline.now c.pass-p.new.m) (sym c.nothing.ensures)
     (without_area (first_gone a.cuts.now r.outline_on_table r.order_bound first.ensures.place r.cutting first.ensures.by_index side p c.if-left-lt3.true))
 
@@ -36,5 +36,5 @@ go_on-requires-clause-underway c =
     let r = c.requires in
     let first = c.first_cutting-k in
     let side = side_is a.order r.order_bound first.result (omega (arith, first.ensures.place)) (ap (λ (xs : List ℕ). get_or xs first.result 0) c.sides_of.ensures.value) in
-    let p = c.pass-p.ensures w (c.limit_of.ensures.result_value w (search (rules, number_at))) in
+    let p = c.pass-p.ensures w (c.limit_of.ensures w (search (rules, number_at))) in
     first_more a.cuts.now r.outline_on_table r.order_bound first.ensures.place r.cutting first.ensures.by_index side p c.if-left-lt3.false
