@@ -1,52 +1,18 @@
--- What was read into an output are the numbers of the text, and eight of them are a window and a stroke.
+-- Eight numbers are a window and a stroke; and a count among numbers.
 use mathlib.Core.Path.{◌≡◌, refl, sym, ap, ◌∙◌}
-use mathlib.Core.Bool.{true, false}
 use mathlib.Core.List.{List, [], ◌∷◌, ◌++◌}
-use mathlib.Core.Option.{some}
-use Prim.Native.Nat.{ℕ, ◌+◌, ◌<◌, ◌^◌}
+use Rattle.std.specs.Prelude.{None, Some}
+use Prim.Native.Nat.{ℕ, ◌<◌, ◌^◌}
 use native.Mathlib.Omega.{arith}
-use lib.Dec.{eqb}
 use lib.IntN.{ℤ, pos}
-use lib.ListN.{length, take, drop}
+use lib.ListN.{length, take}
 use lib.Seq.{take_all, length-take-le}
 use lib.Signed.{mag}
 use mir.Syntax.{w32}
 use mir.Val.{to_z, of_z}
 use mir.Facts.{to_z-of_z, to_z_pos}
-use borrow.Author.Tests.{eqb-true, eqb-false}
 use Rattle.grid.specs.Table.{sides, ends, stroke_at}
-use Rattle.grid.specs.declared.Stroke.{Stroke}
-use Rattle.grid.specs.declared.Window.{Window}
-use Rattle.text.specs.Runs.{run, is_not}
-use Rattle.words.specs.Words.{Into}
-use Rattle.words.specs.declared.Read.{Read}
-use Rattle.arguments.specs.Arguments.{numbers_in, first_end, Numbers, first_window, PairIs, ReadPair}
-
-pub not_read : {text : List ℕ} {out : List ℤ} {r : Read} → Into (numbers_in text) out r → r.whole ≡ false →
-    Numbers text out 0
-not_read h e = record {
-  within = omega arith;
-  front = λ l. absurd (omega arith);
-  all = λ zs k l. absurd (omega (arith, h.without e zs k));
-}
-
-pub read : {text : List ℕ} {out : List ℤ} {r : Read} → Into (numbers_in text) out r → r.whole ≡ true →
-    Numbers text out r.count
-read h e = record {
-  within = h.within;
-  front = λ l. h.whole e;
-  all = λ zs k l. let t = h.whole e in cc;
-}
-
--- ---- the first argument
-
-pub none_there : (text : List ℕ) → length text ≡ 0 → 0 ≡ first_end text
-none_there [] h = refl
-none_there (b ∷ text) h = absurd (omega arith)
-
-pub first_there : (text : List ℕ) → (length text ≡ 0 → ⊥) → 1 + run (is_not 32) (drop 1 text) ≡ first_end text
-first_there [] h = absurd (h refl)
-first_there (b ∷ text) h = refl
+use Rattle.arguments.specs.Arguments.{Numbers, first_window, PairIs, ReadPair}
 
 -- ---- a count that stands among the numbers is compared by its bits
 
@@ -70,14 +36,14 @@ eight (a ∷ b ∷ c ∷ d ∷ e ∷ f ∷ g ∷ []) h = absurd (omega arith)
 eight (a ∷ b ∷ c ∷ d ∷ e ∷ f ∷ g ∷ h ∷ []) k = refl
 eight (a ∷ b ∷ c ∷ d ∷ e ∷ f ∷ g ∷ h ∷ i ∷ zs) k = absurd (omega arith)
 
-module _ {text : List ℕ} {out : List ℤ} (n : ℕ) (read : Numbers text out n) (eight_places : length out ≡ 8) where
-  is_pair : n ≡ 8 → PairIs text (first_window out) (stroke_at out 4)
-  is_pair e = read.front (omega arith) ∙ ap some (take_all n out (omega arith) ∙ eight out eight_places)
+module _ (text : List ℕ) (out : List ℤ) (eight_places : length out ≡ 8) where
+  pub is_pair : (n : ℕ) → Numbers text out (Some n) → n ≡ 8 → PairIs text (first_window out) (stroke_at out 4)
+  is_pair n read e = read.1 ∙ ap Some (take_all n out (omega arith) ∙ eight out eight_places)
 
-  is_none : (n ≡ 8 → ⊥) → (w : Window) (s : Stroke) → PairIs text w s → ⊥
-  is_none ne w s h =
-      let t : 8 ≡ length (take n out) = ap length (read.all _ h (omega arith)) in
-      ne (omega (arith, length-take-le n out read.within))
+  pub other_count : (n : ℕ) → Numbers text out (Some n) → (n ≡ 8 → ⊥) → ReadPair text None
+  other_count n read ne w s h =
+      let same : take n out ≡ sides w ++ ends s = let e = sym read.1 ∙ h in cc in
+      ne (omega (arith, ap length same, length-take-le n out read.0))
 
-  pub pair_read : ReadPair text (record { whole = eqb n 8; window = first_window out; stroke = stroke_at out 4 })
-  pair_read = record { pair = λ t. is_pair (eqb-true n 8 t); no_pair = λ f. is_none (eqb-false n 8 f) }
+  pub no_numbers : Numbers text out None → ReadPair text None
+  no_numbers read w s h = absurd (omega (arith, read _ h))

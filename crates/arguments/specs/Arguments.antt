@@ -1,28 +1,24 @@
 -- What the arguments of a line are: the numbers of the text after its word.
 --   numbers_in text       the numbers that the text's words are, where each is one that an i32 holds
---   Numbers text out n   the text's numbers are the first n of out; n is 0 where the text is something else, or has
---                        more than out has places for
+--   Numbers text out r   the text's numbers are the first of out, and r is how many; r is `None` where the text is something
+--                        else, or has more than out has places for
 --   first_end text        where the first argument ends, at the next space; 0 where there is none
 --   first_word text       the first argument, without the byte before it;  behind_first text: the text behind it
 --   first_window zs       the window of the first four numbers of a list
 --   PairIs text w s      the text's numbers are the four of the window w and the four of the stroke s
---   ReadPair text p      p is the window and the stroke of the text, or says that it is no such text
-use Rattle.std.specs.Prelude.{◌≡◌, true, false, List, [], ◌∷◌, ◌++◌, ℕ, ◌+◌, ◌≤◌, ◌<◌, ℤ, pos, length, take, drop, get_or}
-use Rattle.std.proofs.Math.Option.{Option, some}
+--   ReadPair text r      r is the window and the stroke of the text; `None` where it is no such text
+use Rattle.std.specs.Prelude.{◌≡◌, List, [], ◌∷◌, ◌++◌, ℕ, ◌+◌, ℤ, pos, take, drop, get_or, Option, Some, MatchOption}
 use Rattle.grid.specs.Table.{sides, ends}
 use Rattle.grid.specs.declared.Stroke.{Stroke}
 use Rattle.grid.specs.declared.Window.{Window}
 use Rattle.text.specs.Runs.{run, is_not}
-use Rattle.words.specs.Words.{arguments, integers}
-use Rattle.arguments.specs.declared.Pair.{Pair}
+use Rattle.words.specs.Words.{arguments, integers, Into}
 
 abbrev pub numbers_in : List ℕ → Option (List ℤ)
 numbers_in text = integers (arguments text)
 
-pub record Numbers (text : List ℕ) (out : List ℤ) (n : ℕ) : Type 0 where
-  pub within : n ≤ length out
-  pub front : 0 < n → numbers_in text ≡ some (take n out)
-  pub all : (zs : List ℤ) → numbers_in text ≡ some zs → length zs ≤ length out → zs ≡ take n out
+abbrev pub Numbers : List ℕ → List ℤ → Option ℕ → Type 0
+Numbers text out r = Into (numbers_in text) out r
 
 abbrev pub first_end : List ℕ → ℕ
 first_end [] = 0
@@ -43,8 +39,7 @@ first_window zs = record {
 }
 
 abbrev pub PairIs : List ℕ → Window → Stroke → Type 0
-PairIs text w s = numbers_in text ≡ some (sides w ++ ends s)
+PairIs text w s = numbers_in text ≡ Some (sides w ++ ends s)
 
-pub record ReadPair (text : List ℕ) (p : Pair) : Type 0 where
-  pub pair : p.whole ≡ true → PairIs text p.window p.stroke
-  pub no_pair : p.whole ≡ false → (w : Window) (s : Stroke) → PairIs text w s → ⊥
+abbrev pub ReadPair : List ℕ → Option (Window × Stroke) → Type 0
+ReadPair text r = MatchOption r ((w : Window) (s : Stroke) → PairIs text w s → ⊥) (λ p. PairIs text p.0 p.1)

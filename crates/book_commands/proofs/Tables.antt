@@ -1,8 +1,8 @@
 -- A line with a table: its first argument counts the table's numbers, and those that are left stand behind it.
 -- The call works on the table where it was read to, so that it is said from there.
-use mathlib.Core.Path.{◌≡◌, refl, ap, ◌∙◌}
+use mathlib.Core.Path.{◌≡◌, refl, sym, subst, ap, ◌∙◌}
 use mathlib.Core.List.{List, [], ◌∷◌, ◌++◌}
-use mathlib.Core.Option.{some}
+use Rattle.std.specs.Prelude.{Option, None, Some}
 use Prim.Native.Nat.{ℕ, suc, ◌+◌, ◌-◌, ◌≤◌, ◌<◌}
 use native.Mathlib.Omega.{arith}
 use lib.IntN.{ℤ, pos}
@@ -11,8 +11,8 @@ use lib.Seq.{take-add, take_at, drop-cons, length-take-le}
 use Rattle.grid.specs.Table.{sides}
 use Rattle.words.specs.Words.{numeral, unsigned}
 use Rattle.arguments.specs.Arguments.{behind_first, first_word, first_window, Numbers}
-use Rattle.lending.specs.Lent.{most_room, as_room}
-use Rattle.lending.proofs.Lists.{asks_room, part_length}
+use Rattle.lending.specs.Lent.{most_room, AsksRoom}
+use Rattle.lending.proofs.Lists.{no_room, part_length}
 use Rattle.replies.specs.Replies.{Fields, said, Says, Tells}
 use Rattle.replies.specs.declared.Reply.{Reply}
 use Rattle.replies.proofs.Lines.{with_lent}
@@ -20,34 +20,40 @@ use Rattle.book_commands.specs.Lines.{most_table, AsksTable, ReadTable, AsksEnte
 
 -- ---- the table is read
 
-pub no_table : {behind : ℕ} {text : List ℕ} {out : List ℤ} →
-    ((table more : List ℤ) → length more ≡ behind → AsksTable text table more → ⊥) →
-    ReadTable behind text out (most_table + 1)
-no_table h = record { table = λ l. absurd (omega arith); no_table = λ l. h }
+pub no_count : (text : List ℕ) → unsigned most_room (numeral (first_word text)) ≡ None → (table more : List ℤ) → AsksTable text table more → ⊥
+no_count text e table more a = no_room text e (length table) a.count
 
-module _ (text : List ℕ) {m : ℕ} (count : m ≡ as_room (unsigned most_room (numeral (first_word text)))) where
+module _ (text : List ℕ) (m : ℕ) (count : AsksRoom text m) where
+  same_count : (table more : List ℤ) → AsksTable text table more → length table ≡ m
+  same_count table more a = let e = sym a.count ∙ count in cc
+
   pub too_long : most_table < m → (table more : List ℤ) → AsksTable text table more → ⊥
-  too_long h table more a = omega (arith, count ∙ ap as_room a.count, a.few)
+  too_long h table more a = omega (arith, same_count table more a, a.few)
 
-  module _ {out : List ℤ} {n behind : ℕ} (read : Numbers (behind_first text) out n) where
-    pub other_count : most_table + behind ≤ length out → (n ≡ m + behind → ⊥) → (table more : List ℤ) →
+  module _ (out : List ℤ) (behind : ℕ) where
+    pub no_numbers : Numbers (behind_first text) out None → most_table + behind ≤ length out → (table more : List ℤ) →
         length more ≡ behind → AsksTable text table more → ⊥
-    other_count room ne table more e a =
-        let both = length-append table more in
-        let all = ap length (read.all _ a.numbers (omega (arith, both, a.few))) in
-        ne (omega (arith, length-take-le n out read.within, both, all, count ∙ ap as_room a.count))
+    no_numbers read room table more e a = omega (arith, read _ a.numbers, length-append table more, a.few)
 
-    pub table_read : m ≤ most_table → 0 < behind → n ≡ m + behind → ReadTable behind text out m
-    table_read h some-behind e =
-        let long : length (take m out) ≡ m = length-take-le m out (omega (arith, read.within)) in
+    pub other_count : (n : ℕ) → Numbers (behind_first text) out (Some n) → (n ≡ m + behind → ⊥) → (table more : List ℤ) →
+        length more ≡ behind → AsksTable text table more → ⊥
+    other_count n read ne table more e a =
+        let same : table ++ more ≡ take n out = let k = sym a.numbers ∙ read.1 in cc in
+        ne (omega (arith, length-take-le n out read.0, length-append table more, ap length same, same_count table more a))
+
+    pub table_read : (n : ℕ) → Numbers (behind_first text) out (Some n) → m ≤ most_table → n ≡ m + behind →
+        AsksTable text (take m out) (take behind (drop m out))
+    table_read n read h e =
+        let long : length (take m out) ≡ m = length-take-le m out (omega (arith, read.0)) in
         record {
-          table = λ l. record {
-            count = rw long (asks_room text count (omega arith));
-            numbers = read.front (omega arith) ∙ ap some (ap (λ k. take k out) e ∙ take-add m behind out);
-            few = omega arith;
-          };
-          no_table = λ l. absurd (omega arith);
+          count = rw long count;
+          numbers = read.1 ∙ ap Some (ap (λ k. take k out) e ∙ take-add m behind out);
+          few = omega arith;
         }
+
+-- the table of the text that was read is that behind the first argument
+pub table_behind : (text behind : List ℕ) (out : List ℤ) (r : Option ℕ) → behind ≡ behind_first text → ReadTable 1 behind out r → ReadTable 1 (behind_first text) out r
+table_behind text behind out r e h = subst (λ (t : List ℕ). ReadTable 1 t out r) e h
 
 -- ---- what stands behind it
 
@@ -63,18 +69,18 @@ first_of out m h =
     let next : suc m ≡ m + 1 = omega arith in
     drop-cons out m (pos 0) h ∙ ap (λ k. get_or out m (pos 0) ∷ drop k out) next
 
-module _ {text : List ℕ} {out : List ℤ} {m : ℕ} where
-  pub asks_enter : ReadTable 5 text out m → m ≤ most_table → m + 5 ≤ length out →
+module _ (text : List ℕ) (out : List ℤ) (m : ℕ) where
+  pub asks_enter : ReadTable 5 text out (Some m) → m + 5 ≤ length out →
       AsksEnter text (record { table = take m out; renter = get_or out m (pos 0); window = first_window (drop (m + 1) out) })
-  asks_enter read h room =
-      rw (first_of out m (omega arith), four (drop (m + 1) out) (simp length-drop (omega arith))) at (read.table h)
+  asks_enter read room =
+      rw (first_of out m (omega arith), four (drop (m + 1) out) (simp length-drop (omega arith))) at read
 
-  pub asks_release : ReadTable 2 text out m → m ≤ most_table → m + 2 ≤ length out →
+  pub asks_release : ReadTable 2 text out (Some m) → m + 2 ≤ length out →
       AsksRelease text (record { table = take m out; renter = get_or out m (pos 0); slot = get_or out (m + 1) (pos 0) })
-  asks_release read h room = rw (first_of out m (omega arith), first_of out (m + 1) (omega arith)) at (read.table h)
+  asks_release read room = rw (first_of out m (omega arith), first_of out (m + 1) (omega arith)) at read
 
-  pub asks_renter : ReadTable 1 text out m → m ≤ most_table → m + 1 ≤ length out → AsksTable text (take m out) (get_or out m (pos 0) ∷ [])
-  asks_renter read h room = rw (first_of out m (omega arith)) at (read.table h)
+  pub asks_renter : ReadTable 1 text out (Some m) → m + 1 ≤ length out → AsksTable text (take m out) (get_or out m (pos 0) ∷ [])
+  asks_renter read room = rw (first_of out m (omega arith)) at read
 
 -- ---- the reply says the table after the call
 

@@ -3,16 +3,15 @@
 --   most_table            the most numbers of a table
 --   AsksTable text table more    the text is M, the M numbers of the table, and then the numbers more; M is at most
 --                        `most_table`
---   ReadTable behind text out m  the text is such a table of m numbers with `behind` numbers more, and all but M stand
---                        at the front of out; m is above `most_table` where the text is something else
+--   ReadTable behind text out r  the text is such a table of r numbers with `behind` numbers more, and all but M stand
+--                        at the front of out; r is `None` where the text is something else
 --   EnterArguments       what enter asks of: a table, a renter and a window;  ReleaseArguments, release: a table, a renter
 --                        and a slot;  StripsArguments, strips: a room, a table and a renter
 --   AsksEnter text x     the text is M t1 .. tM R l b r t of these;  AsksRelease text x: M t1 .. tM R SLOT;
 --                        AsksStrips text x: ROOM M t1 .. tM R
 --   EnterLine, ReleaseLine, StripsLine text after r   r is the reply to the text after the word, with `after` in the
 --                        output
-use Rattle.std.specs.Prelude.{◌≡◌, List, [], ◌∷◌, ◌++◌, ℕ, ◌≤◌, ◌<◌, ℤ, length, take, drop}
-use Rattle.std.proofs.Math.Option.{some}
+use Rattle.std.specs.Prelude.{◌≡◌, List, [], ◌∷◌, ◌++◌, ℕ, ◌≤◌, ℤ, Option, Some, MatchOption, length, take, drop}
 use Rattle.grid.specs.Table.{sides}
 use Rattle.grid.specs.declared.Window.{Window}
 use Rattle.arguments.specs.Arguments.{numbers_in, behind_first}
@@ -39,12 +38,13 @@ most_table = 20000
 
 pub record AsksTable (text : List ℕ) (table more : List ℤ) : Type 0 where
   pub count : AsksRoom text (length table)
-  pub numbers : numbers_in (behind_first text) ≡ some (table ++ more)
+  pub numbers : numbers_in (behind_first text) ≡ Some (table ++ more)
   pub few : length table ≤ most_table
 
-pub record ReadTable (behind : ℕ) (text : List ℕ) (out : List ℤ) (m : ℕ) : Type 0 where
-  pub table : m ≤ most_table → AsksTable text (take m out) (take behind (drop m out))
-  pub no_table : most_table < m → (table more : List ℤ) → length more ≡ behind → AsksTable text table more → ⊥
+abbrev pub ReadTable : ℕ → List ℕ → List ℤ → Option ℕ → Type 0
+ReadTable behind text out r =
+    MatchOption r ((table more : List ℤ) → length more ≡ behind → AsksTable text table more → ⊥)
+    (λ m. AsksTable text (take m out) (take behind (drop m out)))
 
 -- ---- the lines
 
@@ -74,18 +74,18 @@ pub record AsksStrips (text : List ℕ) (x : StripsArguments) : Type 0 where
   pub table : AsksTable (behind_first text) x.table (x.renter ∷ [])
 
 -- these calls work on the table in the output, which is said behind the answer's fields
-abbrev pub EnterLine : List ℕ → List ℤ → Reply → Type 0
+abbrev pub EnterLine : List ℕ → List ℤ → Option Reply → Type 0
 EnterLine text after =
     Replies (AsksEnter text)
     (λ x. let m = length x.table in Tells (λ a. BookStrip x.renter x.window a x.table (take m after)) booking_fields m)
 
-abbrev pub ReleaseLine : List ℕ → List ℤ → Reply → Type 0
+abbrev pub ReleaseLine : List ℕ → List ℤ → Option Reply → Type 0
 ReleaseLine text after =
     Replies (AsksRelease text)
     (λ x. let m = length x.table in Tells (λ a. ReleaseSlot x.renter x.slot a x.table (take m after)) release_fields m)
 
 -- this one only looks at the table; its output holds the listing
-abbrev pub StripsLine : List ℕ → List ℤ → Reply → Type 0
+abbrev pub StripsLine : List ℕ → List ℤ → Option Reply → Type 0
 StripsLine text after =
     Replies (AsksStrips text)
     (λ x. Tells (λ a. Lends (ListStrips x.renter x.table a) (take x.room after)) answer_fields x.room)

@@ -1,40 +1,39 @@
 // The commands of the strip book: enter, release and strips. Of the first two the table is read into the lent output, where the call then works on
-// it; strips writes its listing there, and reads the table elsewhere.
+// it; strips writes its listing there, and reads the table elsewhere. There is no reply where the line is no call.
 #![tactic(auto)]
 
-ghost use Rattle.std.specs.Prelude.{◌+◌, ◌≤◌, ◌<◌, length};
+ghost use Rattle.std.specs.Prelude.{◌+◌, ◌≤◌, ◌<◌, length, IfSome};
 ghost use Rattle.replies.specs.Replies.{answer_fields, Tells};
 ghost use Rattle.lending.specs.Lent.{Lends};
 ghost use Rattle.strip_book.specs.Books.{BookStrip, ReleaseSlot};
 ghost use Rattle.own_strips.specs.OwnStrips.{ListStrips};
 ghost use Rattle.book_commands.specs.Lines.{booking_fields, release_fields, ReadTable, EnterLine, ReleaseLine, StripsLine};
 
-use arguments::{ENTER, RELEASE, STRIPS};
 use grid::Window;
-use lending::MOST_ROOM;
 use replies::Reply;
 
 // The most numbers of a table.
 const MOST_TABLE: usize = 20000;
 
-// Reads M, a table of M numbers, and `behind` numbers more; all but M are put at the front of lent. It says M, or more than the most where the text
-// is something else. M is read as a room is, since enter and release lend the table.
-fn read_table(rest: &[u8], behind: usize, lent: &mut [i32]) -> usize
+// Reads M, a table of M numbers, and `behind` numbers more; all but M are put at the front of lent. It says M; none where the text is something
+// else. M is read as a room is, since enter and release lend the table.
+fn read_table(rest: &[u8], behind: usize, lent: &mut [i32]) -> Option<usize>
     requires behind_nonzero { 0 < behind }
     requires behind_bound { behind ≤ 5 }
     requires behind_in_bounds { 20000 + behind ≤ length lent.old }
-    ensures { ReadTable behind rest.now lent.new result }
+    ensures table_bound { IfSome result (λ m. m ≤ 20000) }
+    ensures table { ReadTable behind rest.now lent.new result }
 {
-    let first = arguments::first_end(rest);
-    let m = lending::read_room(&rest[0..first]);
+    let (first, text) = arguments::split_first(rest)?;
+    let m = lending::read_room(first)?;
     if MOST_TABLE < m {
-        return MOST_TABLE + 1;
+        return None;
     }
-    let read = arguments::read_numbers(&rest[first..], lent);
-    if read != m + behind {
-        return MOST_TABLE + 1;
+    let count = arguments::read_numbers(text, lent)?;
+    if count != m + behind {
+        return None;
     }
-    m
+    Some(m)
 }
 
 // N P SLOT of a strip, booked in a table
@@ -67,64 +66,42 @@ fn list(table: &[i32], renter: i32, lent: &mut [i32]) -> Reply
 }
 
 // enter M t1 .. tM R l b r t: N P SLOT t1 .. tM, M at most 20,000
-fn enter(rest: &[u8], lent: &mut [i32]) -> Reply
+pub fn enter(rest: &[u8], lent: &mut [i32]) -> Option<Reply>
     requires { 40960 ≤ length lent.old }
-    ensures count_bound { result.count ≤ 16 }
+    ensures count_bound { IfSome result (λ r. r.count ≤ 16) }
     ensures enter_line { EnterLine rest.now lent.new result }
 {
-    let m = read_table(rest, 5, lent);
-    if MOST_TABLE < m {
-        return replies::unknown();
-    }
+    let m = read_table(rest, 5, lent)?;
     let renter = lent[m];
     let w = arguments::first_window(&lent[m + 1..]);
-    book(&mut lent[0..m], renter, w).lent(m)
+    let reply = book(&mut lent[0..m], renter, w);
+    Some(reply.lent(m))
 }
 
 // release M t1 .. tM R SLOT: N P t1 .. tM, M at most 20,000
-fn release(rest: &[u8], lent: &mut [i32]) -> Reply
+pub fn release(rest: &[u8], lent: &mut [i32]) -> Option<Reply>
     requires { 40960 ≤ length lent.old }
-    ensures count_bound { result.count ≤ 16 }
+    ensures count_bound { IfSome result (λ r. r.count ≤ 16) }
     ensures release_line { ReleaseLine rest.now lent.new result }
 {
-    let m = read_table(rest, 2, lent);
-    if MOST_TABLE < m {
-        return replies::unknown();
-    }
+    let m = read_table(rest, 2, lent)?;
     let renter = lent[m];
     let slot = lent[m + 1];
-    free(&mut lent[0..m], renter, slot).lent(m)
+    let reply = free(&mut lent[0..m], renter, slot);
+    Some(reply.lent(m))
 }
 
 // strips ROOM M t1 .. tM R: N P W o1 .. oROOM, M at most 20,000
-fn strips(rest: &[u8], lent: &mut [i32]) -> Reply
+pub fn strips(rest: &[u8], lent: &mut [i32]) -> Option<Reply>
     requires { 40960 ≤ length lent.old }
-    ensures count_bound { result.count ≤ 16 }
+    ensures count_bound { IfSome result (λ r. r.count ≤ 16) }
     ensures strips_line { StripsLine rest.now lent.new result }
 {
-    let first = arguments::first_end(rest);
-    let room = lending::read_room(&rest[0..first]);
-    if MOST_ROOM < room {
-        return replies::unknown();
-    }
+    let (first, behind) = arguments::split_first(rest)?;
+    let room = lending::read_room(first)?;
     let mut numbers = [0i32; 20001];
-    let m = read_table(&rest[first..], 1, &mut numbers);
-    if MOST_TABLE < m {
-        return replies::unknown();
-    }
+    let m = read_table(behind, 1, &mut numbers)?;
     let renter = numbers[m];
-    list(&numbers[0..m], renter, &mut lent[0..room]).lent(room)
-}
-
-// The reply to a command of this family, by its word and the text after it.
-pub fn reply(word: u64, rest: &[u8], lent: &mut [i32]) -> Reply
-    requires { 40960 ≤ length lent.old }
-    ensures { result.count ≤ 16 }
-{
-    match word {
-        ENTER => enter(rest, lent),
-        RELEASE => release(rest, lent),
-        STRIPS => strips(rest, lent),
-        _ => replies::unknown(),
-    }
+    let reply = list(&numbers[0..m], renter, &mut lent[0..room]);
+    Some(reply.lent(room))
 }

@@ -4,7 +4,7 @@
 use input::{Chunk, Line};
 use output::Page;
 
-// Answers every line. A proved loop has to end, so it counts its lines, to a number that no run reaches.
+// Answers every line. A proved loop has to end, so it has a last line, which no run reaches.
 fn run(
     rt: &HostRuntime,
     chunk: &mut Chunk,
@@ -13,15 +13,13 @@ fn run(
     page: &mut Page,
 ) {
     let mut talk = exchange::start();
-    let mut reply = replies::unknown();
-    let mut number: u64 = 0;
-    while number < 0x4000_0000_0000_0000 {
-        talk = exchange::turn(rt, chunk, line, lent, page, talk, number, reply);
-        if !talk.source.whole {
+    for number in 1..0x4000_0000_0000_0000u64 {
+        talk = exchange::next_line(rt, chunk, line, page, talk);
+        let Some(have) = talk.source.whole() else {
             break;
-        }
-        reply = commands::reply(line, talk.source.have, lent);
-        number += 1;
+        };
+        let reply = commands::reply(&line[..have], lent);
+        talk = exchange::answer(rt, page, &line[..have], lent, talk, number, reply);
     }
 }
 

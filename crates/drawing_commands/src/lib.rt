@@ -1,13 +1,12 @@
-// The commands of a drawing: draw.
+// The commands of a drawing: draw. There is no reply where the line is no call.
 #![tactic(auto)]
 
-ghost use Rattle.std.specs.Prelude.{◌≤◌, length};
+ghost use Rattle.std.specs.Prelude.{◌≤◌, length, IfSome};
 ghost use Rattle.replies.specs.Replies.{Tells};
 ghost use Rattle.lending.specs.Lent.{Lends};
 ghost use Rattle.drawing.specs.Drawings.{ReadDrawing};
 ghost use Rattle.drawing_commands.specs.Lines.{drawing_fields, DrawLine};
 
-use lending::MOST_ROOM;
 use replies::Reply;
 
 // N P l b r t C of a drawing file, its strokes put into a lent output
@@ -18,38 +17,29 @@ fn read(file: &[u8], lent: &mut [i32]) -> Reply
 {
     lending::prepare(lent);
     let a = drawing::read_drawing(file, lent);
-    let window = a.window;
     replies::begin(a.number, a.place)
-        .window(window)
+        .window(a.window)
         .natural(a.count as u64)
 }
 
 // The same of a line: its file is read into bytes.
-fn drawn(rest: &[u8], bytes: &mut [u8], lent: &mut [i32]) -> Reply
+fn drawn(rest: &[u8], bytes: &mut [u8], lent: &mut [i32]) -> Option<Reply>
     requires { 40960 ≤ length lent.old }
-    ensures count_bound { result.count ≤ 16 }
+    ensures count_bound { IfSome result (λ r. r.count ≤ 16) }
     ensures draw_line { DrawLine (length bytes.old) rest.now lent.new result }
 {
-    let first = arguments::first_end(rest);
-    let room = lending::read_room(&rest[0..first]);
-    if MOST_ROOM < room {
-        return replies::unknown();
-    }
-    if first == rest.len() {
-        return replies::unknown();
-    }
-    let file = words::read_bytes(&rest[first + 1..], bytes);
-    if !file.whole {
-        return replies::unknown();
-    }
-    let n = file.count;
-    read(&bytes[0..n], &mut lent[0..room]).lent(room)
+    let (first, behind) = arguments::split_first(rest)?;
+    let room = lending::read_room(first)?;
+    let (_space, word) = behind.split_first()?;
+    let count = words::read_bytes(word, bytes)?;
+    let reply = read(&bytes[0..count], &mut lent[0..room]);
+    Some(reply.lent(room))
 }
 
 // draw ROOM HEX: N P l b r t C o1 .. oROOM, HEX at most 70,000 bytes
-pub fn draw(rest: &[u8], lent: &mut [i32]) -> Reply
+pub fn draw(rest: &[u8], lent: &mut [i32]) -> Option<Reply>
     requires { 40960 ≤ length lent.old }
-    ensures count_bound { result.count ≤ 16 }
+    ensures count_bound { IfSome result (λ r. r.count ≤ 16) }
     ensures draw_line { DrawLine 70000 rest.now lent.new result }
 {
     // A byte takes two digits, and to clear 70,000 places for a few takes longer than all else.

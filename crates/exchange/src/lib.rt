@@ -1,7 +1,7 @@
 // The exchange of lines and replies: whatever is whole is answered before the desk waits for more, and a read or write that fails ends it.
 #![tactic(auto)]
 
-ghost use Rattle.std.specs.Prelude.{◌≤◌, length};
+ghost use Rattle.std.specs.Prelude.{◌≤◌, IfSome};
 ghost use Rattle.exchange.specs.Talks.{InBounds};
 
 use input::{Chunk, Line, Source};
@@ -10,7 +10,7 @@ use replies::Reply;
 
 // How far the exchange has come: the reading, how much of the page holds replies that are not written out yet, and how many lines standard error
 // was told of.
-#[derive(Drop)]
+#[derive(Clone, Copy)]
 pub struct Talk {
     pub source: Source,
     pub used: usize,
@@ -41,18 +41,23 @@ fn over() -> Talk
 }
 
 // Goes on to the next whole line; there is none any more where the input has ended, or a read or write failed. What the page holds is written out
-// before a read. A proved loop has to end, so it counts its turns, to a number that no run reaches.
-fn next_line(rt: &HostRuntime, chunk: &mut Chunk, line: &mut Line, page: &Page, talk: Talk) -> Talk
+// before a read. A proved loop has to end, so it has a last turn, which no run reaches.
+pub fn next_line(
+    rt: &HostRuntime,
+    chunk: &mut Chunk,
+    line: &mut Line,
+    page: &Page,
+    talk: Talk,
+) -> Talk
     requires { InBounds talk }
     ensures { InBounds result }
 {
     let mut source = talk.source;
     let told = talk.told;
     let mut used = talk.used;
-    let mut turns: u64 = 0;
-    while turns < 0x4000_0000_0000_0000 {
+    for _turn in 0..0x4000_0000_0000_0000u64 {
         source = input::take_line(chunk, line, source);
-        if source.whole {
+        if source.whole().is_some() {
             return Talk { source, used, told };
         }
         if !output::write_out(rt, page, used) {
@@ -60,76 +65,46 @@ fn next_line(rt: &HostRuntime, chunk: &mut Chunk, line: &mut Line, page: &Page, 
         }
         used = 0;
         source = input::read_on(rt, chunk, source);
-        if source.whole || !source.open {
+        if source.whole().is_some() || !source.open {
             return Talk { source, used, told };
         }
-        turns += 1;
     }
     over()
 }
 
 // Puts the reply to a line on the page. The page is written out where it is past its mark, and before something is told of the line, so that at a
 // terminal the answer stands before its reason.
-fn answer(
+pub fn answer(
     rt: &HostRuntime,
     page: &mut Page,
     line: &[u8],
     lent: &[i32; 40960],
     talk: Talk,
     number: u64,
-    reply: Reply,
+    reply: Option<Reply>,
 ) -> Talk
     requires in_bounds { InBounds talk }
-    requires have_in_bounds { talk.source.have ≤ length line.now }
-    requires count_bound { reply.count ≤ 16 }
+    requires count_bound { IfSome reply (λ r. r.count ≤ 16) }
     ensures { InBounds result }
 {
     let source = talk.source;
     let told = talk.told;
-    let have = source.have;
     let used = output::put_reply(page, talk.used, reply, lent);
-    let due = telling::due(&line[0..have], reply, told);
-    if !due {
-        if used <= MARK {
-            return Talk { source, used, told };
-        }
+    let due = telling::due(line, reply, told);
+    if !due && used <= MARK {
+        return Talk { source, used, told };
     }
     if !output::write_out(rt, page, used) {
         return over();
     }
-    if !due {
-        return Talk {
-            source,
-            used: 0,
-            told,
-        };
-    }
-    let told = telling::tell(rt, &line[0..have], number, reply, told);
+    let told = if due {
+        telling::tell(rt, line, number, reply, told)
+    } else {
+        told
+    };
     Talk {
         source,
         used: 0,
         told,
     }
-}
-
-// One turn of the exchange: the reply to line `number`, if there was one already, and then the next line.
-pub fn turn(
-    rt: &HostRuntime,
-    chunk: &mut Chunk,
-    line: &mut Line,
-    lent: &[i32; 40960],
-    page: &mut Page,
-    talk: Talk,
-    number: u64,
-    reply: Reply,
-) -> Talk
-    requires in_bounds { InBounds talk }
-    requires count_bound { reply.count ≤ 16 }
-    ensures { InBounds result }
-{
-    if number == 0 {
-        return next_line(rt, chunk, line, page, talk);
-    }
-    let after = answer(rt, page, line, lent, talk, number, reply);
-    next_line(rt, chunk, line, page, after)
 }

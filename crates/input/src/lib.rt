@@ -1,8 +1,8 @@
 // The input's lines, one after another; the last may lack its newline.
 #![tactic(auto)]
 
-ghost use Rattle.std.specs.Prelude.{◌≤◌, length};
-ghost use Rattle.input.specs.Sources.{InReach};
+ghost use Rattle.std.specs.Prelude.{◌≡◌, ◌≤◌, length, MatchOption};
+ghost use Rattle.input.specs.Sources.{long, IsWhole, InReach};
 
 // What is read at a time.
 pub type Chunk = [u8; 65536];
@@ -10,14 +10,20 @@ pub type Chunk = [u8; 65536];
 // A line without its newline: a byte more than the longest that is taken, so that a longer one is known.
 pub type Line = [u8; 400001];
 
-// How far the reading has come: the chunk's bytes that are not taken yet go from `from` to `to`, the line has `have` bytes, `whole` says whether they
-// are all of it, and `open` whether the input may go on.
-#[derive(Drop)]
+// So many bytes of a line have come: a part of it, or all.
+#[derive(Clone, Copy)]
+pub enum Come {
+    Part(usize),
+    Whole(usize),
+}
+
+// How far the reading has come: the chunk's bytes that are not taken yet go from `from` to `to`, and of the line so many bytes have come. Whether the
+// input may go on is a flag of its own: the last line is whole when it has ended.
+#[derive(Clone, Copy)]
 pub struct Source {
     pub from: usize,
     pub to: usize,
-    pub have: usize,
-    pub whole: bool,
+    pub come: Come,
     pub open: bool,
 }
 
@@ -27,8 +33,7 @@ pub fn start() -> Source
     Source {
         from: 0,
         to: 0,
-        have: 0,
-        whole: false,
+        come: Come::Part(0),
         open: true,
     }
 }
@@ -40,34 +45,33 @@ pub fn closed() -> Source
     Source {
         from: 0,
         to: 0,
-        have: 0,
-        whole: false,
+        come: Come::Part(0),
         open: false,
     }
 }
 
-// Where the line ends that has come as far as `from`, or the end of the chunk.
-fn line_end(chunk: &[u8], from: usize, to: usize) -> usize
-    requires from_le_to { from ≤ to }
-    requires to_in_bounds { to ≤ length chunk.now }
-    ensures lower_bound { from ≤ result }
-    ensures upper_bound { result ≤ to }
-{
-    text::find(&chunk[0..to], from, b'\n')
+impl Source {
+    // How long the line is, if it is whole.
+    pub fn whole(&self) -> Option<usize>
+        ensures { MatchOption result (IsWhole self.now.come → ⊥) (λ n. IsWhole self.now.come × (n ≡ long self.now.come)) }
+    {
+        match self.come {
+            Come::Part(_) => None,
+            Come::Whole(have) => Some(have),
+        }
+    }
 }
 
 // Puts a part of the chunk behind the line so far. A line that is too long fills its place, and the rest of it is dropped.
-fn take(line: &mut [u8], have: usize, chunk: &[u8], from: usize, to: usize) -> usize
-    requires have_in_bounds { have ≤ length line.old }
-    requires from_le_to { from ≤ to }
-    requires to_in_bounds { to ≤ length chunk.now }
+fn take(line: &mut [u8], have: usize, part: &[u8]) -> usize
+    requires { have ≤ length line.old }
     ensures { result ≤ length line.old }
 {
     let left = line.len() - have;
-    if left < to - from {
-        return text::put(line, have, &chunk[from..from + left]);
+    if left < part.len() {
+        return text::put(line, have, &part[..left]);
     }
-    text::put(line, have, &chunk[from..to])
+    text::put(line, have, part)
 }
 
 // Takes what the chunk has of the next line, or of the line that is not whole yet.
@@ -76,28 +80,22 @@ pub fn take_line(chunk: &Chunk, line: &mut Line, source: Source) -> Source
     ensures { InReach result }
 {
     let to = source.to;
-    let open = source.open;
-    let mut have = source.have;
-    if source.whole {
-        have = 0;
-    }
-    let stop = line_end(chunk, source.from, to);
-    have = take(line, have, chunk, source.from, stop);
-    if stop < to {
-        return Source {
-            from: stop + 1,
-            to,
-            have,
-            whole: true,
-            open,
-        };
-    }
+    let have = match source.come {
+        Come::Part(have) => have,
+        Come::Whole(_) => 0,
+    };
+    let stop = text::find(&chunk[..to], source.from, b'\n');
+    let have = take(line, have, &chunk[source.from..stop]);
+    let (from, come) = if stop < to {
+        (stop + 1, Come::Whole(have))
+    } else {
+        (to, Come::Part(have))
+    };
     Source {
-        from: to,
+        from,
         to,
-        have,
-        whole: false,
-        open,
+        come,
+        open: source.open,
     }
 }
 
@@ -110,39 +108,37 @@ pub fn read_on(rt: &HostRuntime, chunk: &mut Chunk, source: Source) -> Source
     if !source.open {
         return closed();
     }
-    let taken = streams::read_some(rt, chunk);
-    if taken.failed {
+    let Some(to) = streams::read_some(rt, chunk) else {
         return closed();
-    }
-    let have = source.have;
-    let to = taken.count;
+    };
+    let come = match source.come {
+        Come::Part(have) if to == 0 && have != 0 => Come::Whole(have),
+        come => come,
+    };
     Source {
         from: 0,
         to,
-        have,
-        whole: to == 0 && have != 0,
+        come,
         open: to != 0,
     }
 }
 
-// Goes on to the next whole line; there is none any more where the input has ended or a read failed. A proved loop has to end, so it counts its turns,
-// to a number that no run reaches.
+// Goes on to the next whole line; there is none any more where the input has ended or a read failed. A proved loop has to end, so it has a last turn,
+// which no run reaches.
 pub fn next_line(rt: &HostRuntime, chunk: &mut Chunk, line: &mut Line, source: Source) -> Source
     requires { InReach source }
     ensures { InReach result }
 {
     let mut source = source;
-    let mut turns: u64 = 0;
-    while turns < 0x4000_0000_0000_0000 {
+    for _turn in 0..0x4000_0000_0000_0000u64 {
         source = take_line(chunk, line, source);
-        if source.whole {
+        if source.whole().is_some() {
             return source;
         }
         source = read_on(rt, chunk, source);
-        if source.whole || !source.open {
+        if source.whole().is_some() || !source.open {
             return source;
         }
-        turns += 1;
     }
     closed()
 }

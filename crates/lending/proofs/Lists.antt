@@ -1,8 +1,8 @@
 -- A line with a list: its room is the first argument, and of its numbers the first four are the window, the fifth
 -- counts the rest.
-use mathlib.Core.Path.{◌≡◌, refl, sym, ap, ◌∙◌}
+use mathlib.Core.Path.{◌≡◌, refl, sym, subst, ap, ◌∙◌}
 use mathlib.Core.List.{List, [], ◌∷◌, ◌++◌}
-use mathlib.Core.Option.{some}
+use Rattle.std.specs.Prelude.{Option, None, Some}
 use Prim.Native.Nat.{ℕ, suc, ◌+◌, ◌-◌, ◌≤◌, ◌<◌}
 use native.Mathlib.Omega.{arith}
 use lib.IntN.{ℤ, pos}
@@ -11,11 +11,8 @@ use lib.Seq.{take_all, take_at, length-take-le, get_or-take}
 use Rattle.grid.specs.Table.{sides}
 use Rattle.words.specs.Digits.{word_value}
 use Rattle.words.specs.Words.{numeral, has_minus, unsigned}
-use Rattle.words.specs.declared.Natural.{Natural}
-use Rattle.words.proofs.Numerals.{unsigned_is}
-use Rattle.arguments.specs.Arguments.{first_end, behind_first, first_word, first_window, Numbers}
-use Rattle.lending.specs.Lent.{most_room, Lends, as_room, AsksRoom, ListArguments, AsksList, ReadList}
-use Rattle.lending.specs.declared.Listed.{Listed}
+use Rattle.arguments.specs.Arguments.{behind_first, first_word, first_window, Numbers}
+use Rattle.lending.specs.Lent.{most_room, Lends, AsksRoom, ListArguments, AsksList}
 
 -- all of a text from a place on
 pub rest_of : {A : Type 0} (k : ℕ) (xs : List A) → take (length xs - k) (drop k xs) ≡ drop k xs
@@ -23,31 +20,14 @@ rest_of k xs = take_all (length xs - k) (drop k xs) (simp length-drop (omega ari
 
 -- ---- the room
 
-pub no_word : (most : ℕ) (text : List ℕ) → length text ≡ 0 → Natural.Bad ≡ unsigned most (numeral (drop 1 text))
+-- where there is no argument, there is no room
+pub no_word : (most : ℕ) (text : List ℕ) → text ≡ [] → unsigned most (numeral (first_word text)) ≡ None
 unfolding unsigned numeral has_minus word_value
 no_word most [] e = refl
-no_word most (b ∷ text) e = absurd (omega arith)
+no_word most (b ∷ text) e = absurd (let l = ap length e in omega arith)
 
-is_room : (o : Natural) → as_room o ≤ most_room → o ≡ Natural.Is (as_room o)
-is_room Natural.Bad h = absurd (omega arith)
-is_room (Natural.Is n) h = refl
-
--- the room that was read is that of the first argument
-pub room_read : (text : List ℕ) {first room : ℕ} → first ≡ first_end text → room ≡ as_room
-    (unsigned most_room (numeral (drop 1 (take (first - 0) text)))) →
-    room ≡ as_room (unsigned most_room (numeral (first_word text)))
-room_read text {first} e h =
-    let end : first - 0 ≡ first_end text = omega arith in
-    h ∙ ap (λ k. as_room (unsigned most_room (numeral (drop 1 (take k text))))) end
-
-module _ (text : List ℕ) {room : ℕ} (read : room ≡ as_room (unsigned most_room (numeral (first_word text)))) where
-  pub asks_room : room ≤ most_room → AsksRoom text room
-  asks_room h = is_room _ (omega arith) ∙ ap Natural.Is (sym read)
-
-  pub no_room : most_room < room → {n : ℕ} → AsksRoom text n → ⊥
-  no_room h {n} a =
-      let most : n ≤ most_room = unsigned_is most_room n (numeral (first_word text)) (sym a) in
-      omega (arith, read ∙ ap as_room a)
+pub no_room : (text : List ℕ) → unsigned most_room (numeral (first_word text)) ≡ None → (n : ℕ) → AsksRoom text n → ⊥
+no_room text e n a = let z : ◌≡◌ {A = ℕ} 0 1 = cc in omega arith
 
 -- ---- the list
 
@@ -61,18 +41,22 @@ cut m (a ∷ b ∷ c ∷ []) h = absurd (omega arith)
 cut m (a ∷ b ∷ c ∷ d ∷ []) h = absurd (omega arith)
 cut m (a ∷ b ∷ c ∷ d ∷ e ∷ zs) h = let five : m + 5 ≡ suc (suc (suc (suc (suc m)))) = omega arith in rw five refl
 
-pub no_list : {text : List ℕ} {out : List ℤ} {r : Listed} →
-    ((x : ListArguments) → AsksList (length out) text x → ⊥) → r.end ≡ 0 → ReadList text out r
-no_list h e = record { list = λ l. absurd (omega arith); no_list = λ l. h }
+-- the numbers of the text that was read are those behind the first argument
+pub behind_numbers : (text behind : List ℕ) (out : List ℤ) (r : Option ℕ) → behind ≡ behind_first text → Numbers behind out r → Numbers (behind_first text) out r
+behind_numbers text behind out r e h = subst (λ (t : List ℕ). Numbers t out r) e h
 
-module _ {text : List ℕ} {out : List ℤ} (n : ℕ) (read : Numbers (behind_first text) out n) where
+module _ (text : List ℕ) (out : List ℤ) where
+  pub no_numbers : Numbers (behind_first text) out None → (x : ListArguments) → AsksList (length out) text x → ⊥
+  no_numbers read x a = absurd (omega (arith, a.few, read _ a.numbers, length-append (sides x.window) (pos (length x.list) ∷ x.list)))
+
+module _ (text : List ℕ) (out : List ℤ) (n : ℕ) (read : Numbers (behind_first text) out (Some n)) where
   whole : (x : ListArguments) (a : AsksList (length out) text x) → sides x.window ++
       (pos (length x.list) ∷ x.list) ≡ take n out
-  whole x a = read.all _ a.numbers (simp length-append (omega (arith, a.few)))
+  whole x a = let e = sym a.numbers ∙ read.1 in cc
 
   long : (x : ListArguments) (a : AsksList (length out) text x) → length x.list + 5 ≡ n
   long x a = let all = ap length (whole x a) in omega
-      (arith, length-take-le n out read.within, simp length-append at all)
+      (arith, length-take-le n out read.0, simp length-append at all)
 
   pub too_few : n < 5 → (x : ListArguments) → AsksList (length out) text x → ⊥
   too_few h x a = omega (arith, long x a)
@@ -89,13 +73,13 @@ module _ {text : List ℕ} {out : List ℤ} (n : ℕ) (read : Numbers (behind_fi
       let m : ℕ = n - 5 in
       let same : n ≡ m + 5 = omega arith in
       let count : length (take m (drop 5 out)) ≡ m = length-take-le m (drop 5 out)
-      (simp length-drop (omega (arith, read.within))) in
+      (simp length-drop (omega (arith, read.0))) in
       record {
         room = asked;
-        numbers = read.front (omega arith) ∙ ap some
-            (ap (λ k. take k out) same ∙ cut m out (omega (arith, read.within))
+        numbers = read.1 ∙ ap Some
+            (ap (λ k. take k out) same ∙ cut m out (omega (arith, read.0))
             ∙ ap (λ z. sides (first_window out) ++ (z ∷ take m (drop 5 out))) (e ∙ ap pos (sym count)));
-        few = omega (arith, read.within);
+        few = omega (arith, read.0);
       }
 
 -- ---- a part of the output is lent

@@ -2,18 +2,15 @@
 --   most_room           the most numbers of a lent output
 --   Prepared xs        number i of xs is 7,000,000 + i
 --   Lends Call after   a call leaves `after` in an output that was prepared before it
---   as_room n           the room that a number is; more than the most, where it is none
 --   AsksRoom text n    the first argument is the room n
 --   ListArguments      what a line with a list asks of: a room, a window, and a list of numbers
 --   AsksList most text x   the text is ROOM l b r t M and M numbers, of x, and M + 5 is at most `most`
---   ReadList text out r    r is what the text with a list was read as, with all but the room in out, or says that it
---                          is no such text
-use Rattle.std.specs.Prelude.{◌≡◌, List, ◌∷◌, ◌++◌, ℕ, ◌+◌, ◌-◌, ◌≤◌, ◌<◌, ℤ, pos, length, take, drop, get_or}
-use Rattle.std.proofs.Math.Option.{some}
+--   ReadList text out r    r is what the text with a list was read as, with all but the room in out; `None` where it is
+--                          no such text
+use Rattle.std.specs.Prelude.{◌≡◌, List, ◌∷◌, ◌++◌, ℕ, ◌+◌, ◌-◌, ◌≤◌, ◌<◌, ℤ, pos, length, take, drop, get_or, Option, Some, MatchOption}
 use Rattle.grid.specs.Table.{sides}
 use Rattle.grid.specs.declared.Window.{Window}
 use Rattle.words.specs.Words.{numeral, unsigned}
-use Rattle.words.specs.declared.Natural.{Natural}
 use Rattle.arguments.specs.Arguments.{numbers_in, first_word, behind_first, first_window}
 use Rattle.lending.specs.declared.Listed.{Listed}
 
@@ -31,12 +28,8 @@ pub record Lends (Call : List ℤ → List ℤ → Type 0) (after : List ℤ) : 
 
 -- ---- what is read
 
-abbrev pub as_room : Natural → ℕ
-as_room Natural.Bad = most_room + 1
-as_room (Natural.Is n) = n
-
 abbrev pub AsksRoom : List ℕ → ℕ → Type 0
-AsksRoom text n = unsigned most_room (numeral (first_word text)) ≡ Natural.Is n
+AsksRoom text n = unsigned most_room (numeral (first_word text)) ≡ Some n
 
 pub record ListArguments : Type 0 where
   pub room : ℕ
@@ -45,10 +38,10 @@ pub record ListArguments : Type 0 where
 
 pub record AsksList (most : ℕ) (text : List ℕ) (x : ListArguments) : Type 0 where
   pub room : AsksRoom text x.room
-  pub numbers : numbers_in (behind_first text) ≡ some (sides x.window ++ (pos (length x.list) ∷ x.list))
+  pub numbers : numbers_in (behind_first text) ≡ Some (sides x.window ++ (pos (length x.list) ∷ x.list))
   pub few : length x.list + 5 ≤ most
 
-pub record ReadList (text : List ℕ) (out : List ℤ) (r : Listed) : Type 0 where
-  pub list : 5 ≤ r.end → AsksList (length out) text
-      (record { room = r.room; window = first_window out; list = take (r.end - 5) (drop 5 out) })
-  pub no_list : r.end < 5 → (x : ListArguments) → AsksList (length out) text x → ⊥
+abbrev pub ReadList : List ℕ → List ℤ → Option Listed → Type 0
+ReadList text out r =
+    MatchOption r ((x : ListArguments) → AsksList (length out) text x → ⊥)
+    (λ l. AsksList (length out) text (record { room = l.room; window = first_window out; list = take (l.end - 5) (drop 5 out) }))

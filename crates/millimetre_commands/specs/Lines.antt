@@ -5,7 +5,7 @@
 --   AsksPoint text p, AsksWindow text w   the text is the numbers of the point, or of the window
 --   AsksBack text g  the text is the grid number g after one byte, which is the space that ends the word
 --   Mm2, Mm4, BackLine text r   r is the reply to the text after the word
-use Rattle.std.specs.Prelude.{◌≡◌, List, [], ◌∷◌, ◌++◌, ℕ, eqb, ℤ, Float, take, drop, get_or}
+use Rattle.std.specs.Prelude.{◌≡◌, List, [], ◌∷◌, ◌++◌, ℕ, eqb, ℤ, Float, Option, None, Some, take, drop, get_or}
 use Rattle.std.specs.Float.{binary32}
 use Rattle.std.specs.Float.Ieee.{to_bits}
 use Rattle.whole.specs.Choice.{when◌then◌else◌}
@@ -16,8 +16,6 @@ use Rattle.intake.specs.declared.PointMm.{PointMm}
 use Rattle.intake.specs.declared.WindowAnswer.{WindowAnswer}
 use Rattle.intake.specs.declared.WindowMm.{WindowMm}
 use Rattle.words.specs.Words.{single, as_integer, numeral}
-use Rattle.words.specs.declared.Integer.TheVariants as Integer
-use Rattle.words.specs.declared.Single.{Single}
 use Rattle.replies.specs.Replies.{Fields, none, ◌and◌, number, plain, float, with_window, Tells, Replies}
 use Rattle.replies.specs.declared.Reply.{Reply}
 
@@ -34,12 +32,12 @@ back_fields a = none and plain a.number and plain a.place and float (to_bits bin
 
 -- ---- the lines
 
-abbrev pub single_at : List ℕ → Single
-single_at text = when eqb (get_or text 0 0) 32 then single (take 8 (drop 1 text)) else Single.Bad
+abbrev pub single_at : List ℕ → Option Float
+single_at text = when eqb (get_or text 0 0) 32 then single (take 8 (drop 1 text)) else None
 
 pub data Singles : List ℕ → List Float → Type 0 where
   empty : Singles [] []
-  one : (w : List ℕ) {text : List ℕ} {x : Float} {xs : List Float} → single w ≡ Single.Is x → Singles text xs →
+  one : (w : List ℕ) {text : List ℕ} {x : Float} {xs : List Float} → single w ≡ Some x → Singles text xs →
       Singles (32 ∷ w ++ text) (x ∷ xs)
 
 abbrev pub AsksPoint : List ℕ → PointMm → Type 0
@@ -49,13 +47,13 @@ abbrev pub AsksWindow : List ℕ → WindowMm → Type 0
 AsksWindow text w = Singles text (w.left ∷ w.bottom ∷ w.right ∷ w.top ∷ [])
 
 abbrev pub AsksBack : List ℕ → ℤ → Type 0
-AsksBack text g = as_integer (numeral (drop 1 text)) ≡ Integer.Is g
+AsksBack text g = as_integer (numeral (drop 1 text)) ≡ Some g
 
-abbrev pub Mm2 : List ℕ → Reply → Type 0
+abbrev pub Mm2 : List ℕ → Option Reply → Type 0
 Mm2 text = Replies (AsksPoint text) (λ p. Tells (PointToGrid p) point_fields 0)
 
-abbrev pub Mm4 : List ℕ → Reply → Type 0
+abbrev pub Mm4 : List ℕ → Option Reply → Type 0
 Mm4 text = Replies (AsksWindow text) (λ w. Tells (WindowToGrid w) window_fields 0)
 
-abbrev pub BackLine : List ℕ → Reply → Type 0
+abbrev pub BackLine : List ℕ → Option Reply → Type 0
 BackLine text = Replies (AsksBack text) (λ g. Tells (ToMillimetres g) back_fields 0)

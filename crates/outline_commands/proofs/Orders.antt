@@ -1,31 +1,17 @@
 -- The side order is the first argument, and the list stands behind it.
-use mathlib.Core.Path.{◌≡◌, ap, ◌∙◌}
+use mathlib.Core.Path.{◌≡◌, subst}
 use mathlib.Core.List.{List}
-use Prim.Native.Nat.{ℕ, ◌-◌}
+use Prim.Native.Nat.{ℕ}
 use native.Mathlib.Omega.{arith}
-use lib.ListN.{length, take, drop}
+use lib.IntN.{ℤ}
+use Rattle.std.specs.Prelude.{Option, None, Some}
 use Rattle.words.specs.Words.{numeral, unsigned}
-use Rattle.words.specs.declared.Natural.{Natural}
-use Rattle.arguments.specs.Arguments.{first_end, first_word, behind_first}
-use Rattle.lending.proofs.Lists.{rest_of}
-use Rattle.outline_commands.specs.Lines.{as_order}
-use Rattle.outline_commands.specs.declared.Order.{Order}
+use Rattle.arguments.specs.Arguments.{first_word, behind_first}
+use Rattle.lending.specs.Lent.{ReadList}
+use Rattle.lending.specs.declared.Listed.{Listed}
 
-pub order_read : (text : List ℕ) {first : ℕ} {o : Order} → first ≡ first_end text →
-    o ≡ as_order (unsigned 0xffff_ffff (numeral (drop 1 (take (first - 0) text)))) →
-    o ≡ as_order (unsigned 0xffff_ffff (numeral (first_word text)))
-order_read text {first} e h =
-    let end : first - 0 ≡ first_end text = omega arith in
-    h ∙ ap (λ k. as_order (unsigned 0xffff_ffff (numeral (drop 1 (take k text))))) end
+pub no_order : (text : List ℕ) (n : ℕ) → unsigned 0xffff_ffff (numeral (first_word text)) ≡ None → unsigned 0xffff_ffff (numeral (first_word text)) ≡ Some n → ⊥
+no_order text n e h = let z : ◌≡◌ {A = ℕ} 0 1 = cc in omega arith
 
-pub is_order : (o : Natural) {n : ℕ} → Order.Is n ≡ as_order o → o ≡ Natural.Is n
-is_order Natural.Bad h = let z : ◌≡◌ {A = ℕ} 0 1 = cc in absurd (omega arith)
-is_order (Natural.Is m) h = cc
-
-pub no_order : (o : Natural) {n : ℕ} → Order.Bad ≡ as_order o → o ≡ Natural.Is n → ⊥
-no_order Natural.Bad h e = let z : ◌≡◌ {A = ℕ} 0 1 = cc in omega arith
-no_order (Natural.Is m) h e = let z : ◌≡◌ {A = ℕ} 0 1 = cc in omega arith
-
-pub behind : (text : List ℕ) {first : ℕ} → first ≡ first_end text → take (length text - first)
-    (drop first text) ≡ behind_first text
-behind text {first} e = rest_of first text ∙ ap (λ k. drop k text) e
+pub list_behind : (text behind : List ℕ) (out : List ℤ) (r : Option Listed) → behind ≡ behind_first text → ReadList behind out r → ReadList (behind_first text) out r
+list_behind text behind out r e h = subst (λ (t : List ℕ). ReadList t out r) e h

@@ -1,34 +1,21 @@
-// The commands of an outline: outline.
+// The commands of an outline: outline. There is no reply where the line is no call.
 #![tactic(auto)]
 
-ghost use Rattle.std.specs.Prelude.{◌≡◌, ◌≤◌, length, drop};
+ghost use Rattle.std.specs.Prelude.{◌≡◌, ◌≤◌, length, IfSome};
 ghost use Rattle.words.specs.Words.{numeral, unsigned};
 ghost use Rattle.replies.specs.Replies.{Tells};
 ghost use Rattle.lending.specs.Lent.{Lends};
 ghost use Rattle.outlines.specs.Outlines.{Outline};
-ghost use Rattle.outline_commands.specs.Lines.{outline_fields, as_order, OutlineLine};
+ghost use Rattle.outline_commands.specs.Lines.{outline_fields, OutlineLine};
 
 use grid::Window;
 use replies::Reply;
-use words::Natural;
 
-// The side order that an argument is.
-#[derive(Drop)]
-enum Order {
-    Bad,
-    Is(u32),
-}
-
-fn read_order(argument: &[u8]) -> Order
-    ensures { result ≡ as_order (unsigned 0xffff_ffff (numeral (drop 1 argument.now))) }
+// The side order that a word is.
+fn read_order(word: &[u8]) -> Option<u32>
+    ensures { result ≡ unsigned 0xffff_ffff (numeral word.now) }
 {
-    if argument.len() == 0 {
-        return Order::Bad;
-    }
-    match words::read_unsigned(&argument[1..], 0xffff_ffff) {
-        Natural::Is(n) => Order::Is(n as u32),
-        Natural::Bad => Order::Bad,
-    }
+    Some(words::read_unsigned(word, 0xffff_ffff)? as u32)
 }
 
 // N P W of an outline, clipped into a lent output
@@ -43,22 +30,16 @@ fn clip(w: Window, order: u32, outline: &[i32], lent: &mut [i32]) -> Reply
 }
 
 // outline ORDER ROOM l b r t M c1 .. cM: N P W o1 .. oROOM, M at most 256
-pub fn outline(rest: &[u8], lent: &mut [i32]) -> Reply
+pub fn outline(rest: &[u8], lent: &mut [i32]) -> Option<Reply>
     requires { 40960 ≤ length lent.old }
-    ensures count_bound { result.count ≤ 16 }
+    ensures count_bound { IfSome result (λ r. r.count ≤ 16) }
     ensures outline_line { OutlineLine rest.now lent.new result }
 {
-    let first = arguments::first_end(rest);
-    let Order::Is(order) = read_order(&rest[0..first]) else {
-        return replies::unknown();
-    };
+    let (first, behind) = arguments::split_first(rest)?;
+    let order = read_order(first)?;
     let mut numbers = [0i32; 261];
-    let list = lending::read_list(&rest[first..], &mut numbers);
-    let room = list.room;
-    let end = list.end;
-    if end < 5 {
-        return replies::unknown();
-    }
+    let list = lending::read_list(behind, &mut numbers)?;
     let w = arguments::first_window(&numbers);
-    clip(w, order, &numbers[5..end], &mut lent[0..room]).lent(room)
+    let reply = clip(w, order, &numbers[5..list.end], &mut lent[0..list.room]);
+    Some(reply.lent(list.room))
 }

@@ -9,42 +9,25 @@ use lib.ListN.{length, get_or, set, drop, drop_of_length-le}
 use lib.Seq.{drop-cons}
 use Rattle.text.specs.Pages.{Put, ascii, integer}
 use Rattle.text.proofs.Puts.{put_nothing, put_byte, put_then}
-use Rattle.output.specs.Written.{field_text, fields_text, lent_text, lent_line}
+use Rattle.output.specs.Written.{field_text, parted_text, fields_text, lent_text, lent_line}
+use Rattle.replies.specs.declared.Field.{Field}
+use Rattle.replies.specs.declared.Field.TheVariants.{Plain}
 
 pub put_behind : {before after word : List ℕ} {at end : ℕ} (b : ℕ) → at < length before → Put (set before at b) after (at + 1) end word
     → Put before after at end (b ∷ word)
 put_behind {before} b h p = put_then (put_byte b h (put_nothing before (omega arith))) p
 
-pub one_more : (n : ℕ) (forms sizes : List ℕ) → 1 ≤ n
-    → fields_text (n + 1) forms sizes ≡ fields_text n forms sizes ++ 32 ∷ field_text (get_or forms n 0) (get_or sizes n 0)
+-- one field more is put behind the others
+pub fields_on : {before after page : List ℕ} {at end to : ℕ} (n : ℕ) (fs : List Field) → Put before after at end (fields_text n fs)
+    → Put after page end to (parted_text n (get_or fs n (Plain 0))) → Put before page at to (fields_text (n + 1) fs)
 unfolding fields_text
-one_more zero forms sizes h = absurd (omega arith)
-one_more (suc n) forms sizes h = rw add-one
+fields_on n fs p q = rw add-one (put_then p q)
 
--- behind the first field n - 1 more are put
-pub record More (forms sizes before after : List ℕ) (at end n : ℕ) : Type 0 where
-  pub text : List ℕ
-  pub put : Put before after at end text
-  pub whole : fields_text 1 forms sizes ++ text ≡ fields_text n forms sizes
-  pub short : end + 22 ≤ at + 22 * n
-
-pub more_start : (forms sizes page : List ℕ) {at : ℕ} → at ≤ length page → More forms sizes page page at at 1
-more_start forms sizes page h = record { text = []; put = put_nothing page h; whole = append-nil _; short = omega arith }
-
-pub more_on : {forms sizes before after page : List ℕ} {at end to n : ℕ} → More forms sizes before after at end n → 1 ≤ n → end < length after
-    → Put (set after end 32) page (end + 1) to (field_text (get_or forms n 0) (get_or sizes n 0)) → to ≤ end + 22
-    → More forms sizes before page at to (n + 1)
-more_on {forms} {sizes} {n = n} m h l p s =
-    let word : List ℕ = 32 ∷ field_text (get_or forms n 0) (get_or sizes n 0) in
-    record {
-      text = m.text ++ word;
-      put = put_then m.put (put_behind 32 l p);
-      whole =
-          sym (append_assoc (fields_text 1 forms sizes) m.text word)
-          ∙ ap (λ (x : List ℕ). x ++ word) m.whole
-          ∙ sym (one_more n forms sizes h);
-      short = omega (arith, m.short);
-    }
+-- a field that is not the first has a space before it
+pub parted_behind : (i : ℕ) (f : Field) → (i ≡ 0 → ⊥) → parted_text i f ≡ 32 ∷ field_text f
+unfolding parted_text
+parted_behind zero f h = absurd (h refl)
+parted_behind (suc i) f h = refl
 
 pub record Rows (zs : List ℤ) (before after : List ℕ) (at end n : ℕ) : Type 0 where
   pub text : List ℕ

@@ -1,11 +1,11 @@
 // What the desk writes: its replies are put on a page, each on a line.
 #![tactic(auto)]
 
-ghost use Rattle.std.specs.Prelude.{[], ◌∷◌, ◌+◌, ◌*◌, ◌≤◌, length};
+ghost use Rattle.std.specs.Prelude.{[], ◌∷◌, ◌+◌, ◌*◌, ◌≤◌, length, IfSome};
 ghost use Rattle.text.specs.Pages.{Put, integer};
-ghost use Rattle.output.specs.Written.{bits_text, field_text, fields_text, lent_text, lent_line, reply_line};
+ghost use Rattle.output.specs.Written.{bits_text, field_text, parted_text, fields_text, lent_line, reply_line};
 
-use replies::{BITS, MINUS, Reply};
+use replies::{Field, Reply};
 
 // Up to here the page is filled before it is written out.
 pub const MARK: usize = 65536;
@@ -21,45 +21,55 @@ pub fn write_out(rt: &HostRuntime, page: &[u8], used: usize) -> bool
 }
 
 // Puts the eight hexadecimal digits of an f32's bits.
-fn put_bits(page: &mut [u8], at: usize, bits: u64) -> usize
+fn put_bits(page: &mut [u8], at: usize, bits: u32) -> usize
     requires { at + 8 ≤ length page.old }
     ensures put { Put page.old page.new at result (bits_text bits) }
     ensures upper_bound { result ≤ at + 8 }
 {
     let mut digits = [0u8; 16];
-    let count = io::hex(bits % 0x1_0000_0000, 8, &mut digits);
+    let count = io::hex(bits as u64, 8, &mut digits);
     text::put(page, at, &digits[..count])
 }
 
 // Puts a field.
-fn put_field(page: &mut [u8], at: usize, form: u8, size: u64) -> usize
+fn put_field(page: &mut [u8], at: usize, field: Field) -> usize
     requires { at + 21 ≤ length page.old }
-    ensures put { Put page.old page.new at result (field_text form size) }
+    ensures put { Put page.old page.new at result (field_text field) }
     ensures upper_bound { result ≤ at + 21 }
 {
-    match form {
-        MINUS => {
+    match field {
+        Field::Plain(size) => text::put_natural(page, at, size),
+        Field::Minus(size) => {
             page[at] = b'-';
             text::put_natural(page, at + 1, size)
         }
-        BITS => put_bits(page, at, size),
-        _ => text::put_natural(page, at, size),
+        Field::Bits(bits) => put_bits(page, at, bits),
     }
 }
 
+// Puts field i of a reply, with a space before it unless it is the first.
+fn put_parted(page: &mut [u8], at: usize, i: usize, field: Field) -> usize
+    requires { at + 22 ≤ length page.old }
+    ensures put { Put page.old page.new at result (parted_text i field) }
+    ensures upper_bound { result ≤ at + 22 }
+{
+    if i == 0 {
+        return put_field(page, at, field);
+    }
+    page[at] = b' ';
+    put_field(page, at + 1, field)
+}
+
 // Puts the fields of a reply, parted by spaces.
-fn put_fields(page: &mut [u8], at: usize, reply: Reply) -> usize
-    requires le_count { (1 ≤ reply.count) × (reply.count ≤ 16) }
+fn put_fields(page: &mut [u8], at: usize, fields: &[Field]) -> usize
+    requires fields_bound { length fields.now ≤ 16 }
     requires at_in_bounds { at + 352 ≤ length page.old }
-    ensures put { Put page.old page.new at result (fields_text reply.count reply.forms reply.sizes) }
+    ensures put { Put page.old page.new at result (fields_text (length fields.now) fields.now) }
     ensures upper_bound { result ≤ at + 352 }
 {
-    let mut end = put_field(page, at, reply.forms[0], reply.sizes[0]);
-    let mut i = 1;
-    while i < reply.count {
-        page[end] = b' ';
-        end = put_field(page, end + 1, reply.forms[i], reply.sizes[i]);
-        i += 1;
+    let mut end = at;
+    for (i, field) in fields.iter().enumerate() {
+        end = put_parted(page, end, i, *field);
     }
     end
 }
@@ -80,26 +90,24 @@ fn put_integers(page: &mut [u8], at: usize, numbers: &[i32]) -> usize
     ensures { Put page.old page.new at result (lent_line numbers.now) }
 {
     let mut end = at;
-    let mut i = 0;
-    while i < numbers.len() {
-        end = put_integer(page, end, numbers[i]);
-        i += 1;
+    for number in numbers {
+        end = put_integer(page, end, *number);
     }
     page[end] = b'\n';
     end + 1
 }
 
-// Puts a reply: its fields, and behind them as much of the lent output as it says.
-pub fn put_reply(page: &mut [u8], at: usize, reply: Reply, lent: &[i32]) -> usize
-    requires count_bound { reply.count ≤ 16 }
+// Puts a reply: its fields, and behind them as much of the lent output as it says. Where a line is no call, a question mark is put.
+pub fn put_reply(page: &mut [u8], at: usize, reply: Option<Reply>, lent: &[i32]) -> usize
+    requires count_bound { IfSome reply (λ r. r.count ≤ 16) }
     requires lent_in_bounds { at + 12 * length lent.now + 375 ≤ length page.old }
     ensures { Put page.old page.new at result (reply_line reply lent.now) }
 {
-    if reply.count == 0 {
+    let Some(reply) = reply else {
         return text::put(page, at, b"?\n");
-    }
+    };
     let room = reply.room;
-    let end = put_fields(page, at, reply);
+    let end = put_fields(page, at, &reply.fields[..reply.count]);
     if lent.len() < room {
         return put_integers(page, end, lent);
     }

@@ -1,10 +1,7 @@
 // Why a line is no call. It is asked of such lines only, which are few, so it reads them anew.
 #![tactic(auto)]
 
-use arguments::{
-    BACK, BATCH, CB, CS, DRAW, ENTER, LB, LONGEST, MM2, MM4, OUTLINE, RELEASE, STRIPS, TOUCHES, XP,
-};
-use words::{Integer, Natural, Single};
+use arguments::{Command, LONGEST};
 
 // What an argument has to be: a number that an i32 holds, a number up to a limit, an f32 as eight hexadecimal digits, or the bytes of a file.
 #[derive(Clone, Copy)]
@@ -16,7 +13,7 @@ pub enum Kind {
 }
 
 // An argument is named by its place, the first after the word by 1.
-#[derive(Drop)]
+#[derive(Clone, Copy)]
 pub enum Reason {
     Long,
     // A tab or a carriage return stands in it.
@@ -28,54 +25,60 @@ pub enum Reason {
     Wrong(usize, Kind),
 }
 
-// What a command takes: so many arguments, and where one of them is the count of a list, the list behind them. That one stands at the place `counts`,
-// and is at most `most`.
-#[derive(Drop)]
+// What a command takes: so many arguments, and where one of them is the count of a list, the list behind them.
+#[derive(Clone, Copy)]
 struct Wants {
     least: usize,
-    counts: usize,
+    list: Option<List>,
+}
+
+// A list, whose count stands at a place, and is at most `most`.
+#[derive(Clone, Copy)]
+struct List {
+    place: usize,
     most: u32,
 }
 
-fn taking(least: usize, counts: usize, most: u32) -> Wants {
+fn taking(least: usize) -> Wants {
+    Wants { least, list: None }
+}
+
+fn with_list(least: usize, place: usize, most: u32) -> Wants {
     Wants {
         least,
-        counts,
-        most,
+        list: Some(List { place, most }),
     }
 }
 
-// What the command of a word takes; nothing where there is no such command.
-fn wanted(word: u64) -> Wants {
-    match word {
-        BACK => taking(1, 0, 0),
-        MM2 | DRAW => taking(2, 0, 0),
-        MM4 => taking(4, 0, 0),
-        LB | CS | XP => taking(8, 0, 0),
-        CB => taking(5, 1, 64),
-        BATCH | TOUCHES => taking(6, 6, 20000),
-        OUTLINE => taking(7, 7, 256),
-        ENTER => taking(6, 1, 20000),
-        RELEASE => taking(3, 1, 20000),
-        STRIPS => taking(3, 2, 20000),
-        _ => taking(0, 0, 0),
+fn wanted(command: Command) -> Wants {
+    match command {
+        Command::Back => taking(1),
+        Command::Mm2 | Command::Draw => taking(2),
+        Command::Mm4 => taking(4),
+        Command::Lb | Command::Cs | Command::Xp => taking(8),
+        Command::Cb => with_list(5, 1, 64),
+        Command::Batch | Command::Touches => with_list(6, 6, 20000),
+        Command::Outline => with_list(7, 7, 256),
+        Command::Enter => with_list(6, 1, 20000),
+        Command::Release => with_list(3, 1, 20000),
+        Command::Strips => with_list(3, 2, 20000),
     }
 }
 
 // What the argument at a place has to be.
-fn kind_at(word: u64, place: usize) -> Kind {
-    match word {
-        MM2 | MM4 => Kind::Float,
-        OUTLINE => match place {
+fn kind_at(command: Command, place: usize) -> Kind {
+    match command {
+        Command::Mm2 | Command::Mm4 => Kind::Float,
+        Command::Outline => match place {
             1 => Kind::UpTo(0xffff_ffff),
             2 => Kind::UpTo(40960),
             _ => Kind::Whole,
         },
-        BATCH | TOUCHES | STRIPS => match place {
+        Command::Batch | Command::Touches | Command::Strips => match place {
             1 => Kind::UpTo(40960),
             _ => Kind::Whole,
         },
-        DRAW => match place {
+        Command::Draw => match place {
             1 => Kind::UpTo(40960),
             _ => Kind::Bytes,
         },
@@ -86,79 +89,55 @@ fn kind_at(word: u64, place: usize) -> Kind {
 // Whether an argument is what it has to be. Of bytes it is not asked: they come last, so that they are wrong where nothing else is.
 fn is(argument: &[u8], kind: Kind) -> bool {
     match kind {
-        Kind::Whole => match words::read_integer(argument) {
-            Integer::Is(_) => true,
-            Integer::Bad => false,
-        },
-        Kind::UpTo(most) => match words::read_unsigned(argument, most as u64) {
-            Natural::Is(_) => true,
-            Natural::Bad => false,
-        },
-        Kind::Float => match words::read_single(argument) {
-            Single::Is(_) => true,
-            Single::Bad => false,
-        },
+        Kind::Whole => words::read_integer(argument).is_some(),
+        Kind::UpTo(most) => words::read_unsigned(argument, most as u64).is_some(),
+        Kind::Float => words::read_single(argument).is_some(),
         Kind::Bytes => false,
     }
 }
 
-// How many arguments there are, each with a space before it; or the place of the first that is empty.
-#[derive(Drop)]
-struct Tally {
-    count: usize,
-    blank: bool,
-}
-
-fn count(rest: &[u8]) -> Tally {
-    let mut count = 0;
-    let mut at = 0;
-    while at < rest.len() {
-        let end = text::find(rest, at + 1, b' ');
-        count += 1;
-        if end == at + 1 {
-            return Tally { count, blank: true };
+// How many arguments there are, each with a space before it; or that one is empty.
+fn count(rest: &[u8]) -> Result<usize, Reason> {
+    let mut left = rest;
+    let mut place: usize = 0;
+    while let Some((argument, behind)) = arguments::split_first(left) {
+        place += 1;
+        if argument.is_empty() {
+            return Err(Reason::Blank(place));
         }
-        at = end;
+        left = behind;
     }
-    Tally {
-        count,
-        blank: false,
-    }
+    Ok(place)
 }
 
 // The number that the argument at a place is, if it is at most most.
-fn number_at(rest: &[u8], place: usize, most: u32) -> Natural {
-    let mut at = 0;
-    let mut here: usize = 0;
-    while at < rest.len() {
-        let end = text::find(rest, at + 1, b' ');
-        here += 1;
-        if here == place {
-            return words::read_unsigned(&rest[at + 1..end], most as u64);
-        }
-        at = end;
+fn number_at(rest: &[u8], place: usize, most: u32) -> Option<u64> {
+    let mut left = rest;
+    for _before in 1..place {
+        let (_argument, behind) = arguments::split_first(left)?;
+        left = behind;
     }
-    Natural::Bad
+    let (argument, _behind) = arguments::split_first(left)?;
+    words::read_unsigned(argument, most as u64)
 }
 
 // The first argument that is not what it has to be. A line that is no call has one, so that the loop does not come to its end.
-fn first_wrong(rest: &[u8], word: u64) -> Reason {
-    let mut at = 0;
+fn first_wrong(rest: &[u8], command: Command) -> Reason {
+    let mut left = rest;
     let mut place: usize = 0;
-    while at < rest.len() {
-        let end = text::find(rest, at + 1, b' ');
+    while let Some((argument, behind)) = arguments::split_first(left) {
         place += 1;
-        let kind = kind_at(word, place);
-        if !is(&rest[at + 1..end], kind) {
+        let kind = kind_at(command, place);
+        if !is(argument, kind) {
             return Reason::Wrong(place, kind);
         }
-        at = end;
+        left = behind;
     }
     Reason::Word
 }
 
 // By how many arguments come behind those that a command always takes, and how many should; where that is right, by the arguments.
-fn by_list(rest: &[u8], word: u64, come: usize, should: u64) -> Reason {
+fn by_list(rest: &[u8], command: Command, come: usize, should: u64) -> Reason {
     let come = come as u64;
     if come < should {
         return Reason::Few;
@@ -166,24 +145,25 @@ fn by_list(rest: &[u8], word: u64, come: usize, should: u64) -> Reason {
     if should < come {
         return Reason::Many;
     }
-    first_wrong(rest, word)
+    first_wrong(rest, command)
 }
 
-fn by_arguments(rest: &[u8], word: u64, wants: Wants) -> Reason {
-    let counted = count(rest);
-    if counted.blank {
-        return Reason::Blank(counted.count);
-    }
-    if counted.count < wants.least {
+fn by_arguments(rest: &[u8], command: Command) -> Reason {
+    let wants = wanted(command);
+    let count = match count(rest) {
+        Ok(count) => count,
+        Err(reason) => return reason,
+    };
+    if count < wants.least {
         return Reason::Few;
     }
-    let come = counted.count - wants.least;
-    if wants.counts == 0 {
-        return by_list(rest, word, come, 0);
-    }
-    match number_at(rest, wants.counts, wants.most) {
-        Natural::Is(n) => by_list(rest, word, come, n),
-        Natural::Bad => Reason::Wrong(wants.counts, Kind::UpTo(wants.most)),
+    let come = count - wants.least;
+    let Some(list) = wants.list else {
+        return by_list(rest, command, come, 0);
+    };
+    match number_at(rest, list.place, list.most) {
+        Some(n) => by_list(rest, command, come, n),
+        None => Reason::Wrong(list.place, Kind::UpTo(list.most)),
     }
 }
 
@@ -192,14 +172,12 @@ pub fn why(line: &[u8]) -> Reason {
     if LONGEST < line.len() {
         return Reason::Long;
     }
-    if text::has(line, b'\t') || text::has(line, b'\r') {
+    if line.contains(&b'\t') || line.contains(&b'\r') {
         return Reason::Unseen;
     }
     let end = text::find(line, 0, b' ');
-    let word = arguments::word_number(&line[0..end]);
-    let wants = wanted(word);
-    if wants.least == 0 {
-        return Reason::Word;
+    match arguments::command_of(&line[0..end]) {
+        Some(command) => by_arguments(&line[end..], command),
+        None => Reason::Word,
     }
-    by_arguments(&line[end..], word, wants)
 }

@@ -15,29 +15,28 @@ use mir.Val.{hbits, to_z, of_z, bool_byte}
 use Rattle.whole.proofs.Comparisons.{back}
 use Rattle.whole.proofs.Order.{zarith}
 use Rattle.replies.specs.Replies.{number, plain, flag, ◌and◌, field_of, first_fields, said, Fields, Field, Says}
+use Rattle.replies.specs.declared.Field as Written
+use Rattle.replies.specs.declared.Field.TheVariants.{Plain, Minus}
 use Rattle.replies.specs.declared.Reply.{Reply}
 
-earlier : (k : ℕ) (fs ns : List ℕ) (n f s : ℕ) → k ≤ n → first_fields k (set fs n f) (set ns n s) ≡ first_fields k fs ns
+earlier : (k : ℕ) (fs : List Written.Field) (n : ℕ) (f : Written.Field) → k ≤ n → first_fields k (set fs n f) ≡ first_fields k fs
 unfolding first_fields
-earlier zero fs ns n f s h = refl
-earlier (suc k) fs ns n f s h =
-    let e : first_fields k (set fs n f) (set ns n s) ≡ first_fields k fs ns = earlier k fs ns n f s (omega arith) in
-    let a : get_or (set fs n f) k 0 ≡ get_or fs k 0 = get_or-set_other fs n k f 0 (λ e. omega arith) in
-    let b : get_or (set ns n s) k 0 ≡ get_or ns k 0 = get_or-set_other ns n k s 0 (λ e. omega arith) in
-    rw (e, a, b)
+earlier zero fs n f h = refl
+earlier (suc k) fs n f h =
+    let e : first_fields k (set fs n f) ≡ first_fields k fs = earlier k fs n f (omega arith) in
+    let a : get_or (set fs n f) k (Plain 0) ≡ get_or fs k (Plain 0) = get_or-set_other fs n k f (Plain 0) (λ e. omega arith) in
+    rw (e, a)
 
-pub one_more : (n : ℕ) (fs ns : List ℕ) (f s : ℕ) → n < length fs → n < length ns →
-    first_fields (n + 1) (set fs n f) (set ns n s) ≡ first_fields n fs ns and field_of f s
+pub one_more : (n : ℕ) (fs : List Written.Field) (f : Written.Field) → n < length fs → first_fields (n + 1) (set fs n f) ≡ first_fields n fs and field_of f
 unfolding first_fields
-one_more n fs ns f s hf hn =
-    rw (add-one, earlier n fs ns n f s (omega arith), get_or-set_same fs n f 0 hf, get_or-set_same ns n s 0 hn)
+one_more n fs f h = rw (add-one, earlier n fs n f (omega arith), get_or-set_same fs n f (Plain 0) h)
 
-pub below_0 : (z : ℤ) → z <ℤ pos 0 → field_of 1 (nat_abs z) ≡ number z
+pub below_0 : (z : ℤ) → z <ℤ pos 0 → field_of (Minus (nat_abs z)) ≡ number z
 unfolding field_of
 below_0 (pos n) h = absurd (omega zarith)
 below_0 (negsuc n) h = refl
 
-pub from_0 : (z : ℤ) → pos 0 ≤ℤ z → field_of 0 (nat_abs z) ≡ number z
+pub from_0 : (z : ℤ) → pos 0 ≤ℤ z → field_of (Plain (nat_abs z)) ≡ number z
 unfolding field_of
 from_0 (pos n) h = refl
 from_0 (negsuc n) h = absurd (omega zarith)

@@ -4,18 +4,20 @@
 --   Fields                     fields in their order: none, or some and one more
 --   with_window fs w            fs and the four numbers of a window
 --   answer_fields a             N P W of a call that gives numbers
---   field_of form size          the field that a form and a size are: 1 is a minus, 2 are bits, all else is plain
---   first_fields n forms sizes  the first n fields of these forms and sizes
+--   field_of f                  the field that is written as f
+--   first_fields n fs           the first n fields of those that are written as fs
 --   said r                     what the reply r says: its fields
 --   Says r n fs room           the reply r says fs, which are n fields, and behind them come so many numbers of the
 --                              lent output
 --   Tells Right fields room r  the same of a call's answer: of one that is right, the reply says the fields
 --   Replies Asks Answers r     r is the reply to a line: what it asks for is answered, and where it asks for nothing,
---                              nothing is said
-use Rattle.std.specs.Prelude.{◌≡◌, ℕ, zero, suc, Bool, List, eqb, ℤ, pos, neg_ℤ, get_or}
+--                              there is none
+use Rattle.std.specs.Prelude.{◌≡◌, ℕ, zero, suc, Bool, List, Option, None, Some, ℤ, pos, neg_ℤ, get_or}
 use Rattle.grid.specs.declared.Answer.{Answer}
 use Rattle.grid.specs.declared.Window.{Window}
 use Rattle.whole.specs.Choice.{when◌then◌else◌}
+use Rattle.replies.specs.declared.Field as Written
+use Rattle.replies.specs.declared.Field.TheVariants.{Plain, Minus, Bits}
 use Rattle.replies.specs.declared.Reply.{Reply}
 
 pub data Field : Type 0 where
@@ -39,15 +41,17 @@ with_window fs w = fs and number w.left and number w.bottom and number w.right a
 abbrev pub answer_fields : Answer → Fields
 answer_fields a = none and plain a.number and plain a.place and plain a.count
 
-unfoldable pub field_of : ℕ → ℕ → Field
-field_of form size = when eqb form 1 then number (neg_ℤ (pos size)) else when eqb form 2 then float size else plain size
+unfoldable pub field_of : Written.Field → Field
+field_of (Plain n) = plain n
+field_of (Minus n) = number (neg_ℤ (pos n))
+field_of (Bits n) = float n
 
-unfoldable pub first_fields : ℕ → List ℕ → List ℕ → Fields
-first_fields zero forms sizes = none
-first_fields (suc n) forms sizes = first_fields n forms sizes and field_of (get_or forms n 0) (get_or sizes n 0)
+unfoldable pub first_fields : ℕ → List Written.Field → Fields
+first_fields zero fs = none
+first_fields (suc n) fs = first_fields n fs and field_of (get_or fs n (Plain 0))
 
 unfoldable pub said : Reply → Fields
-said r = first_fields r.count r.forms r.sizes
+said r = first_fields r.count r.fields
 
 pub record Says (r : Reply) (n : ℕ) (fs : Fields) (room : ℕ) : Type 0 where
   pub count : r.count ≡ n
@@ -62,6 +66,6 @@ pub record Tells {A : Type 0} (Right : A → Type 0) (fields : A → Fields) (ro
   pub says : said r ≡ fields answer
   pub behind : r.room ≡ room
 
-pub data Replies {X : Type 0} (Asks : X → Type 0) (Answers : X → Reply → Type 0) (r : Reply) : Type 0 where
-  to_call : (x : X) → Asks x → Answers x r → Replies Asks Answers r
-  to_none : ((x : X) → Asks x → ⊥) → said r ≡ none → Replies Asks Answers r
+pub data Replies {X : Type 0} (Asks : X → Type 0) (Answers : X → Reply → Type 0) : Option Reply → Type 0 where
+  to_call : {r : Reply} (x : X) → Asks x → Answers x r → Replies Asks Answers (Some r)
+  to_none : ((x : X) → Asks x → ⊥) → Replies Asks Answers None

@@ -6,52 +6,47 @@ ghost use Rattle.replies.specs.Replies.{none, ◌and◌, number, float, plain, w
 
 use grid::Window;
 
-// How a field is written: a number, a number with a minus, or the eight hexadecimal digits of an f32's bits.
-pub const PLAIN: u8 = 0;
+// A field, as it is written: a number, a number with a minus, or the eight hexadecimal digits of an f32's bits.
+#[derive(Clone, Copy)]
+pub enum Field {
+    Plain(u64),
+    Minus(u64),
+    Bits(u32),
+}
 
-pub const MINUS: u8 = 1;
-
-pub const BITS: u8 = 2;
-
-// Its first `count` fields, each with its form and its size; behind them come the first `room` numbers of the output that was lent.
-// A reply of no fields is the answer to a line that is no call.
+// Its first `count` fields; behind them come the first `room` numbers of the output that was lent.
 #[derive(Clone, Copy)]
 pub struct Reply {
     pub count: usize,
-    pub forms: [u8; 16],
-    pub sizes: [u64; 16],
+    pub fields: [Field; 16],
     pub room: usize,
-}
-
-// The reply to a line that is no call.
-pub fn unknown() -> Reply
-    ensures { Says result 0 none 0 }
-{
-    Reply {
-        count: 0,
-        forms: [0; 16],
-        sizes: [0; 16],
-        room: 0,
-    }
 }
 
 // How every answer begins: with the refusal's number and place.
 pub fn begin(number: u8, place: usize) -> Reply
     ensures { Says result 2 (none and plain number and plain place) 0 }
 {
-    unknown().natural(number as u64).natural(place as u64)
+    empty().natural(number as u64).natural(place as u64)
+}
+
+fn empty() -> Reply
+    ensures { Says result 0 none 0 }
+{
+    Reply {
+        count: 0,
+        fields: [Field::Plain(0); 16],
+        room: 0,
+    }
 }
 
 impl Reply {
     // One field more. A reply has places for sixteen, so a command that says more is refused.
-    fn field(mut self, form: u8, size: u64) -> Self
+    fn field(mut self, field: Field) -> Self
         requires { self.count < 16 }
-        ensures { Says result (self.count + 1) (said self and field_of form size) self.room }
+        ensures { Says result (self.count + 1) (said self and field_of field) self.room }
     {
-        let n = self.count;
-        self.forms[n] = form;
-        self.sizes[n] = size;
-        self.count = n + 1;
+        self.fields[self.count] = field;
+        self.count += 1;
         self
     }
 
@@ -59,7 +54,7 @@ impl Reply {
         requires { self.count < 16 }
         ensures { Says result (self.count + 1) (said self and plain n) self.room }
     {
-        self.field(PLAIN, n)
+        self.field(Field::Plain(n))
     }
 
     pub fn wide(self, z: i64) -> Self
@@ -67,10 +62,11 @@ impl Reply {
         ensures { Says result (self.count + 1) (said self and number z) self.room }
     {
         let size = whole::size(z);
-        if z < 0 {
-            return self.field(MINUS, size);
-        }
-        self.field(PLAIN, size)
+        self.field(if z < 0 {
+            Field::Minus(size)
+        } else {
+            Field::Plain(size)
+        })
     }
 
     pub fn integer(self, z: i32) -> Self
@@ -84,7 +80,7 @@ impl Reply {
         requires { self.count < 16 }
         ensures { Says result (self.count + 1) (said self and float bits) self.room }
     {
-        self.field(BITS, bits as u64)
+        self.field(Field::Bits(bits))
     }
 
     pub fn window(self, w: Window) -> Self

@@ -11,8 +11,7 @@
 --   AsksCorners text c the text is M c1 .. cM x1 y1 x2 y2 of these, M at most 64
 --   Lb, Cs, Xp, Cb text r   r is the reply to the text after the word. Both lb and xp are stated by `Clipping`: they
 --                      differ only in the engine that they call
-use Rattle.std.specs.Prelude.{◌≡◌, Bool, List, ◌∷◌, ◌++◌, ℕ, ◌≤◌, ℤ, pos, length}
-use Rattle.std.proofs.Math.Option.{some}
+use Rattle.std.specs.Prelude.{◌≡◌, Bool, List, ◌∷◌, ◌++◌, ℕ, ◌≤◌, ℤ, pos, Option, Some, length}
 use Rattle.fraction.specs.declared.Fraction.{Fraction}
 use Rattle.grid.specs.Table.{ends}
 use Rattle.grid.specs.declared.Stroke.{Stroke}
@@ -65,17 +64,17 @@ abbrev pub AsksPair : List ℕ → PairArguments → Type 0
 AsksPair text p = PairIs text p.window p.stroke
 
 pub record AsksCorners (text : List ℕ) (c : CornerArguments) : Type 0 where
-  pub numbers : numbers_in text ≡ some (pos (length c.corners) ∷ c.corners ++ ends c.stroke)
+  pub numbers : numbers_in text ≡ Some (pos (length c.corners) ∷ c.corners ++ ends c.stroke)
   pub few : length c.corners ≤ 64
 
-abbrev pub Lb : List ℕ → Reply → Type 0
+abbrev pub Lb : List ℕ → Option Reply → Type 0
 Lb text = Replies (AsksPair text) (λ p. Tells (Clipping p.window p.stroke) stroke_fields 0)
 
-abbrev pub Cs : List ℕ → Reply → Type 0
+abbrev pub Cs : List ℕ → Option Reply → Type 0
 Cs text = Replies (AsksPair text) (λ p. Tells (CohenSutherland p.window p.stroke) counted_fields 0)
 
-abbrev pub Xp : List ℕ → Reply → Type 0
+abbrev pub Xp : List ℕ → Option Reply → Type 0
 Xp = Lb
 
-abbrev pub Cb : List ℕ → Reply → Type 0
+abbrev pub Cb : List ℕ → Option Reply → Type 0
 Cb text = Replies (AsksCorners text) (λ c. Tells (CyrusBeck c.corners c.stroke) corner_fields 0)

@@ -1,11 +1,10 @@
-// The commands of one stroke: lb, cs, xp and cb.
+// The commands of one stroke: lb, cs, xp and cb. There is no reply where the line is no call.
 #![tactic(auto)]
 
-ghost use Rattle.std.specs.Prelude.{◌+◌, ◌≤◌};
+ghost use Rattle.std.specs.Prelude.{◌+◌, ◌≤◌, IfSome};
 ghost use Rattle.replies.specs.Replies.{said, Says};
 ghost use Rattle.stroke_commands.specs.Lines.{with_part, with_sides, part_fields, stroke_fields, Lb, Cs, Xp, Cb};
 
-use arguments::{CB, CS, LB, XP};
 use fraction::Fraction;
 use replies::Reply;
 use strokes::StrokeAnswer;
@@ -35,10 +34,7 @@ fn sides(reply: Reply, side0: u8, side1: u8) -> Reply
 fn answered(a: StrokeAnswer) -> Reply
     ensures { Says result 11 (part_fields a) 0 }
 {
-    let t0 = a.t0;
-    let t1 = a.t1;
-    let reply = part(replies::begin(a.number, a.place), a.kept, t0, t1);
-    reply
+    part(replies::begin(a.number, a.place), a.kept, a.t0, a.t1)
         .integer(a.ax)
         .integer(a.ay)
         .integer(a.bx)
@@ -53,75 +49,49 @@ fn clipped(a: StrokeAnswer) -> Reply
 }
 
 // lb l b r t x1 y1 x2 y2: N P K n0 d0 n1 d1 ax ay bx by Z0 Z1
-fn lb(rest: &[u8]) -> Reply
-    ensures count_bound { result.count ≤ 16 }
+pub fn lb(rest: &[u8]) -> Option<Reply>
+    ensures count_bound { IfSome result (λ r. r.count ≤ 16) }
     ensures lb { Lb rest.now result }
 {
-    let pair = arguments::read_pair(rest);
-    if !pair.whole {
-        return replies::unknown();
-    }
-    clipped(strokes::liang_barsky(pair.window, pair.stroke))
+    let (window, stroke) = arguments::read_pair(rest)?;
+    Some(clipped(strokes::liang_barsky(window, stroke)))
 }
 
 // cs l b r t x1 y1 x2 y2: N P K n0 d0 n1 d1 ax ay bx by S Z0 Z1
-fn cs(rest: &[u8]) -> Reply
-    ensures count_bound { result.count ≤ 16 }
+pub fn cs(rest: &[u8]) -> Option<Reply>
+    ensures count_bound { IfSome result (λ r. r.count ≤ 16) }
     ensures cs { Cs rest.now result }
 {
-    let pair = arguments::read_pair(rest);
-    if !pair.whole {
-        return replies::unknown();
-    }
-    let counted = codes::cohen_sutherland(pair.window, pair.stroke);
+    let (window, stroke) = arguments::read_pair(rest)?;
+    let counted = codes::cohen_sutherland(window, stroke);
     let a = counted.answer;
     let reply = answered(a).natural(counted.shortenings as u64);
-    sides(reply, a.side0, a.side1)
+    Some(sides(reply, a.side0, a.side1))
 }
 
 // xp l b r t x1 y1 x2 y2: N P K n0 d0 n1 d1 ax ay bx by Z0 Z1
-fn xp(rest: &[u8]) -> Reply
-    ensures count_bound { result.count ≤ 16 }
+// The two lines of lb with another engine: to take the engine as a parameter would be longer.
+pub fn xp(rest: &[u8]) -> Option<Reply>
+    ensures count_bound { IfSome result (λ r. r.count ≤ 16) }
     ensures xp { Xp rest.now result }
 {
-    let pair = arguments::read_pair(rest);
-    if !pair.whole {
-        return replies::unknown();
-    }
-    clipped(cross_product::cross_product(pair.window, pair.stroke))
+    let (window, stroke) = arguments::read_pair(rest)?;
+    Some(clipped(cross_product::cross_product(window, stroke)))
 }
 
 // cb M c1 .. cM x1 y1 x2 y2: N P K n0 d0 n1 d1 Z0 Z1, M at most 64
-fn cb(rest: &[u8]) -> Reply
-    ensures count_bound { result.count ≤ 16 }
+pub fn cb(rest: &[u8]) -> Option<Reply>
+    ensures count_bound { IfSome result (λ r. r.count ≤ 16) }
     ensures cb { Cb rest.now result }
 {
     let mut numbers = [0i32; 69];
-    let n = arguments::read_numbers(rest, &mut numbers);
-    if n < 5 {
-        return replies::unknown();
+    let n = arguments::read_numbers(rest, &mut numbers)?;
+    if n < 5 || numbers[0] != (n - 5) as i32 {
+        return None;
     }
     let end = n - 4;
-    if numbers[0] != (end - 1) as i32 {
-        return replies::unknown();
-    }
     let stroke = grid::stroke_at(&numbers, end);
     let a = corners::cyrus_beck(&numbers[1..end], stroke);
-    let t0 = a.t0;
-    let t1 = a.t1;
-    let reply = part(replies::begin(a.number, a.place), a.kept, t0, t1);
-    sides(reply, a.side0, a.side1)
-}
-
-// The reply to a command of this family, by its word and the text after it.
-pub fn reply(word: u64, rest: &[u8]) -> Reply
-    ensures { result.count ≤ 16 }
-{
-    match word {
-        LB => lb(rest),
-        CS => cs(rest),
-        XP => xp(rest),
-        CB => cb(rest),
-        _ => replies::unknown(),
-    }
+    let reply = part(replies::begin(a.number, a.place), a.kept, a.t0, a.t1);
+    Some(sides(reply, a.side0, a.side1))
 }

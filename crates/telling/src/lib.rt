@@ -1,9 +1,8 @@
 // What standard error says: why a line is refused or no call, for the first ten such lines; and the lines there are, for who asks.
 #![tactic(auto)]
 
-use arguments::HELP;
 use reasons::{Kind, Reason};
-use replies::Reply;
+use replies::{Field, Reply};
 
 // So many lines are told.
 const MOST: u64 = 10;
@@ -75,28 +74,39 @@ fn tell_reason(rt: &HostRuntime, reason: Reason) {
 }
 
 // Tells a refusal; its number is below 256.
-fn tell_refusal(rt: &HostRuntime, number: u64, place: u64) {
+fn tell_refusal(rt: &HostRuntime, refusal: (u64, u64)) {
+    let (number, place) = refusal;
     let mut page = [0u8; 160];
     let end = refusals::put_line(&mut page, 0, (number % 256) as u8, place as usize);
     streams::tell(rt, &page[0..end]);
 }
 
+// The number and the place of the refusal that a reply says, if it says one.
+fn refusal_of(reply: Reply) -> Option<(u64, u64)> {
+    match (reply.fields[0], reply.fields[1]) {
+        (Field::Plain(number), Field::Plain(place)) if number != 0 => Some((number, place)),
+        _ => None,
+    }
+}
+
+// Whether a line asks for the lines there are.
+fn is_help(line: &[u8]) -> bool {
+    line == b"help".as_slice()
+}
+
 // Whether something is to be told of a line, when `told` lines are told already.
-pub fn due(line: &[u8], reply: Reply, told: u64) -> bool {
-    if reply.count != 0 {
-        if reply.sizes[0] == 0 {
+pub fn due(line: &[u8], reply: Option<Reply>, told: u64) -> bool {
+    if let Some(reply) = reply {
+        if refusal_of(reply).is_none() {
             return false;
         }
     }
-    if told <= MOST {
-        return true;
-    }
-    arguments::word_number(line) == HELP
+    told <= MOST || is_help(line)
 }
 
 // Tells it, and says how many lines are told then; one more than the most stands for the notice that the others are not.
-pub fn tell(rt: &HostRuntime, line: &[u8], number: u64, reply: Reply, told: u64) -> u64 {
-    if arguments::word_number(line) == HELP {
+pub fn tell(rt: &HostRuntime, line: &[u8], number: u64, reply: Option<Reply>, told: u64) -> u64 {
+    if is_help(line) {
         list_lines(rt);
         return told;
     }
@@ -109,10 +119,13 @@ pub fn tell(rt: &HostRuntime, line: &[u8], number: u64, reply: Reply, told: u64)
     }
     tell_number(rt, b"line ", number, b':');
     streams::tell(rt, b" ");
-    if reply.count == 0 {
-        tell_reason(rt, reasons::why(line));
-    } else {
-        tell_refusal(rt, reply.sizes[0], reply.sizes[1]);
+    match reply {
+        None => tell_reason(rt, reasons::why(line)),
+        Some(reply) => {
+            if let Some(refusal) = refusal_of(reply) {
+                tell_refusal(rt, refusal);
+            }
+        }
     }
     told + 1
 }

@@ -1,9 +1,7 @@
-use Rattle.std.proofs.Common.{◌-◌, ◌≤◌}
+-- The reading stays within its bounds, and the page is not filled past its mark, turn after turn.
+use Rattle.std.proofs.Common.{◌≤◌}
 use Rattle.input.specs.Sources.{InReach}
 use Rattle.exchange.proofs.next_line.Given as goal
 
-abbrev pub invariant-loop-turns : goal.invariant-loop-turns
-invariant-loop-turns l = InReach l.source × (l.used ≤ 65536)
-
-abbrev pub decreases-loop-turns : goal.decreases-loop-turns
-decreases-loop-turns l = 0x4000_0000_0000_0000 - l.turns
+abbrev pub invariant-loop-turn : goal.invariant-loop-turn
+invariant-loop-turn l = InReach l.source × (l.used ≤ 65536)
