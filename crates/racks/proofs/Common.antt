@@ -12,7 +12,8 @@ use mir.Val.{SFits, to_z, of_z}
 use Rattle.whole.specs.Extremes.{lesser, greater}
 use Rattle.whole.specs.Within.{Within}
 use Rattle.whole.proofs.Comparisons.{by-test, same_test, lt_yes, lt_no, back, fits_range}
-use Rattle.whole.proofs.Extremes.{lesser_below, lesser_least, greater_above, greater_least}
+use Rattle.std.specs.Int.{int_min, int_max}
+use Rattle.whole.proofs.Extremes.{min_is, max_is, lesser_below, lesser_least, greater_above, greater_least}
 use Rattle.whole.proofs.Order.{zarith, sub_is, <_diff, ≤_total}
 use Rattle.grid.specs.Table.{farthest, WindowOnTable}
 use Rattle.grid.specs.declared.Window.{Window}
@@ -85,6 +86,14 @@ module _ (a b x y : ℤ) where
   pub read_both : mag a < 2 ^ 15 → mag b < 2 ^ 15 → mag x < 2 ^ 15 → mag y < 2 ^ 15
       → lesser (to_z w16 (of_z w16 b)) (to_z w16 (of_z w16 y)) -ℤ greater (to_z w16 (of_z w16 a)) (to_z w16 (of_z w16 x)) ≡ lesser b y -ℤ greater a x
   read_both ha hb hx hy = λ i. lesser (back w16 b hb i) (back w16 y hy i) -ℤ greater (back w16 a ha i) (back w16 x hx i)
+
+-- ---- the lesser and the greater of two numbers, as the program has them
+module _ (a b : ℤ) (ha : mag a < 2 ^ 15) (hb : mag b < 2 ^ 15) where
+  pub min_read : (r : ℤ) → mag r < 2 ^ 15 → r ≡ int_min (to_z w16 (of_z w16 a)) (to_z w16 (of_z w16 b)) → to_z w16 (of_z w16 r) ≡ lesser a b
+  min_read r h e = back w16 r h ∙ e ∙ (λ i. int_min (back w16 a ha i) (back w16 b hb i)) ∙ min_is a b
+
+  pub max_read : (r : ℤ) → mag r < 2 ^ 15 → r ≡ int_max (to_z w16 (of_z w16 a)) (to_z w16 (of_z w16 b)) → to_z w16 (of_z w16 r) ≡ greater a b
+  max_read r h e = back w16 r h ∙ e ∙ (λ i. int_max (back w16 a ha i) (back w16 b hb i)) ∙ max_is a b
 
 -- ---- a strip v, and what stands at a place of a rack
 abbrev pub across : Window → Window → ℤ

@@ -18,30 +18,12 @@ use grid::Window;
 // The number at a place without a strip: one past the table's end, so that a strip has nothing in common with it.
 pub const VACANT: i16 = 16384;
 
-fn lesser(a: i16, b: i16) -> i16
-    ensures { result ≡ lesser a b }
-{
-    if b < a {
-        return b;
-    }
-    a
-}
-
-fn greater(a: i16, b: i16) -> i16
-    ensures { result ≡ greater a b }
-{
-    if a < b {
-        return b;
-    }
-    a
-}
-
 // How far the parts from a to b and from x to y lie over each other: from the greater of their beginnings to the lesser of their ends.
 fn overlap(a: i16, b: i16, x: i16, y: i16) -> i16
     requires { SFits w16 (lesser b y -ℤ greater a x) }
     ensures { result ≡ lesser b y -ℤ greater a x }
 {
-    lesser(b, y) - greater(a, x)
+    b.min(y) - a.max(x)
 }
 
 // Puts a strip on a rack that holds n.
@@ -73,12 +55,10 @@ pub fn shares(rack: &[i16; 288], n: usize, w: Window) -> bool
     let top = w.top as i16;
     let end = (n + 15) / 16 * 16;
     let mut most: i16 = 0;
-    let mut j = 0;
-    while j < end {
+    for j in 0..end {
         let width = overlap(left, right, rack[j], rack[144 + j]);
         let height = overlap(bottom, top, rack[72 + j], rack[216 + j]);
-        most = greater(most, lesser(width, height));
-        j += 1;
+        most = most.max(width.min(height));
     }
     0 < most
 }
@@ -108,7 +88,7 @@ fn in_common(rack: &[i16; 288], p: usize, q: usize) -> i16
 {
     let width = overlap_at(rack, 0, p, q);
     let height = overlap_at(rack, 72, p, q);
-    lesser(width, height)
+    width.min(height)
 }
 
 // Compares eight strips, from the place i on, with the eight from the place j on, each with one. The most that was found for each so far is kept.
@@ -119,10 +99,8 @@ fn compare_eight(rack: &[i16; 288], i: usize, j: usize, most: [i16; 8]) -> [i16;
     ensures { Compares rack.now (Met i j (j + 1)) most result }
 {
     let mut found = most;
-    let mut e = 0;
-    while e < 8 {
-        found[e] = greater(found[e], in_common(rack, i + e, j + e));
-        e += 1;
+    for e in 0..8 {
+        found[e] = found[e].max(in_common(rack, i + e, j + e));
     }
     found
 }
@@ -168,26 +146,22 @@ fn any_above(numbers: [i16; 8]) -> bool
     ensures { result ≡ above numbers }
 {
     let mut greatest: i16 = 0;
-    let mut e = 0;
-    while e < 8 {
-        greatest = greater(greatest, numbers[e]);
-        e += 1;
+    for number in numbers {
+        greatest = greatest.max(number);
     }
     0 < greatest
 }
 
 // Whether two of the n strips of a rack share area. Eight strips are compared with the eight that begin one place behind, two places and so on, each
-// with one, so that every two strips meet once. The loop counts by the second of the eight, since one alone has none behind it.
+// with one, so that every two strips meet once. The last strip alone has none behind it.
 pub fn crowded(rack: &[i16; 288], n: usize) -> bool
     requires { (ws : List Window) × (n ≡ length ws) × Carries rack.now ws }
     ensures { Crowd rack.now n result }
 {
     let mut most = [0i16; 8];
-    let mut second = 1;
-    while second < n {
-        let more = compare_behind(rack, second - 1, most);
+    for eight in 0..(n + 6) / 8 {
+        let more = compare_behind(rack, 8 * eight, most);
         most = more;
-        second += 8;
     }
     any_above(most)
 }
