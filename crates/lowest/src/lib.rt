@@ -11,38 +11,37 @@ ghost use Rattle.lowest.specs.Lowest.{LowestIn, Forward, Told};
 
 // The place to which the walk forward from the first of n corners comes down: it goes on while the next corner comes before.
 fn down_forward<F: Fn(usize, usize) -> bool>(n: usize, before: &F) -> usize
-    requires n_nonzero { 0 < n }
     requires asked { (i j : ℕ) → i < n → j < n → F.pre before.now i j }
     ensures { (r : List Point) → Told n (F.post before.now) r → Forward r result }
 {
-    for i in 1..n {
-        if !before(i, i - 1) {
-            return i - 1;
+    let mut reached = 0;
+    for next in 1..n {
+        if !before(next, reached) {
+            return reached;
         }
+        reached = next;
     }
-    n - 1
+    reached
 }
 
 // The place to which the walk back from the first of n corners comes down, where the walk forward stays.
 fn down_back<F: Fn(usize, usize) -> bool>(n: usize, before: &F) -> usize
-    requires n_nonzero { 0 < n }
     requires asked { (i j : ℕ) → i < n → j < n → F.pre before.now i j }
     ensures { (r : List Point) → Told n (F.post before.now) r → Forward r 0 → LowestIn r result }
 {
-    let mut i = 0;
-    for j in (1..n).rev() {
-        if !before(j, i) {
-            return i;
+    let mut reached = 0;
+    for last in (1..n).rev() {
+        if !before(last, reached) {
+            return reached;
         }
-        i = j;
+        reached = last;
     }
-    i
+    reached
 }
 
 // The place of the lowest of the n corners of a ring, of those the leftmost, by a test that tells which of two comes before the other: down from
 // the first, whichever way that is.
 pub fn lowest_by<F: Fn(usize, usize) -> bool>(n: usize, before: F) -> usize
-    requires n_nonzero { 0 < n }
     requires asked { (i j : ℕ) → i < n → j < n → F.pre before i j }
     ensures { (r : List Point) → Told n (F.post before) r → LowestIn r result }
 {

@@ -1,9 +1,12 @@
--- The walk has come to the corner before the one that is asked next.
-use Rattle.std.proofs.Common.{List, ◌-◌}
+-- The walk has come to a corner, and asks the corner behind it next.
+use Rattle.std.proofs.Common.{◌≡◌, List, suc}
 use Rattle.rings.specs.Points.{Point}
 use Rattle.lowest.specs.Lowest.{Told}
 use Rattle.lowest.proofs.Downhill.{Fell}
 use Rattle.lowest.proofs.down_forward.Given as goal
 
-abbrev pub invariant-loop-i : goal.invariant-loop-i
-invariant-loop-i g l = (r : List Point) → Told l.n (goal.F-post g l.before) r → Fell r (l.i - 1)
+abbrev pub invariant-loop-next : goal.invariant-loop-next
+invariant-loop-next g l = record {
+  behind : suc l.reached ≡ l.next;
+  fell : (r : List Point) → Told l.n (goal.F-post g l.before) r → Fell r l.reached;
+}

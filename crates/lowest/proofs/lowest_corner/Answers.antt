@@ -1,5 +1,5 @@
 -- The test compares the corners in the memory, which are those of the ring.
-use Rattle.std.proofs.Common.{sym, arith, rules}
+use Rattle.std.proofs.Common.{sym, rules}
 use Rattle.whole.specs.Choice.{Decides}
 use Rattle.rings.specs.Points.{Before}
 use Rattle.memory.specs.Memory.{point_in, ring_in}
@@ -7,9 +7,6 @@ use Rattle.memory.proofs.Memories.{ring_length}
 use Rattle.lowest.proofs.Downhill.{decides_same}
 use Rattle.lowest.proofs.Memory.{memory_at}
 use Rattle.lowest.proofs.lowest_corner.Goals as goal
-
-pub lowest_by-requires-clause-n_nonzero : goal.lowest_by-requires-clause-n_nonzero
-lowest_by-requires-clause-n_nonzero c = let three = c.requires.ring.three in omega (arith, ring_length c.args.m.now 0 c.args.n)
 
 pub returns : goal.returns
 returns c =

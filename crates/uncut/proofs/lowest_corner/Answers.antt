@@ -10,9 +10,6 @@ use Rattle.uncut.specs.Uncut.{own_corner}
 use Rattle.uncut.proofs.OwnCorners.{own_at, two_a_corner}
 use Rattle.uncut.proofs.lowest_corner.Goals as goal
 
-pub lowest_by-requires-clause-n_nonzero : goal.lowest_by-requires-clause-n_nonzero
-lowest_by-requires-clause-n_nonzero c = let three = c.requires.three in omega (arith, count c.args.c.now)
-
 lowest : (c : goal.After-lowest_by) → LowestIn (corners_of c.args.c.now) c.lowest_by.result
 lowest c =
     let zs = c.args.c.now in
