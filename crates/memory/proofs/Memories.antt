@@ -1,6 +1,6 @@
 -- A corner put into a memory stands in its place, and all others are as they were; so corners in a memory, by their places, are lists that are split, moved and
 -- compared.
-use mathlib.Core.Path.{◌≡◌, refl, sym, ap, ◌∙◌}
+use mathlib.Core.Path.{◌≡◌, refl, sym, ap, ◌∙◌, subst}
 use mathlib.Core.List.{List, [], ◌∷◌, ◌++◌}
 use mathlib.Core.Logic.{◌⊎◌, inl, inr, ◌≢◌, ⊎_elim}
 use Prim.Native.Nat.{ℕ, zero, suc, ◌+◌, ◌*◌, ◌<◌, ◌≤◌}
@@ -14,7 +14,7 @@ use Rattle.rings.specs.Points.{Point}
 use Rattle.rings.specs.Rings.{at}
 use Rattle.rings.proofs.Lists.{final}
 use Rattle.memory.specs.Memory.{point_in, ring_from}
-use Rattle.memory.specs.Tagged.{put_at, Tagged, tagged, corner_in, corners_from, points_of}
+use Rattle.memory.specs.Tagged.{tag_in, put_at, Tagged, tagged, corner_in, corners_from, points_of}
 
 -- ---- numbers stored from a place on
 stored_else : (vs m : List ℤ) (n j : ℕ) → j < n ⊎ n + length vs ≤ j → get_or (sets m n vs) j (pos 0) ≡ get_or m j (pos 0)
@@ -60,6 +60,10 @@ put_at_lem m n p t h = record {
 
     was : (k j : ℕ) → j < 4 → k < n ⊎ n < k → get_or (put_at m n p t) (4 * k + j) (pos 0) ≡ get_or m (4 * k + j) (pos 0)
     was k j l e = stored_else four m (4 * n) (4 * k + j) (⊎_elim (λ b. inl (omega arith)) (λ b. inr (omega arith)) e)
+
+-- a corner copied, where the program reads it back
+pub copied : {m m' : List ℤ} (n i : ℕ) → 4 * n + 4 ≤ length m → m' ≡ put_at m n (point_in m i) (tag_in m i) → Put m m' n (corner_in m i)
+copied {m} n i h e = subst (λ (k : List ℤ). Put m k n (corner_in m i)) (sym e) (put_at_lem m n (point_in m i) (tag_in m i) h)
 
 -- ---- the ring in a memory
 pub ring_length : (m : List ℤ) (i n : ℕ) → length (ring_from m i n) ≡ n
