@@ -2,7 +2,7 @@
 #![tactic(auto)]
 
 ghost use Rattle.std.specs.Prelude.{◌≡◌, ◌+◌, ◌≤◌, length};
-ghost use Rattle.format.specs.Format.{number32, number_at, float_at, head_size, head_fault, window_at, record_at};
+ghost use Rattle.format.specs.Format.{number_at, float_at, head_size, head_fault, window_at, record_at};
 
 use intake::WindowMm;
 
@@ -16,7 +16,7 @@ pub enum Step {
     Close,
 }
 
-// What stands at a place of the bytes.
+// What stands at a place of the bytes. An enum of three: that no byte is left is no fault, and a fault is no end.
 #[derive(Clone, Copy)]
 pub enum Found {
     // A step, and the place after its record.
@@ -42,19 +42,12 @@ const LINE: u8 = 0x4C;
 
 const CLOSE: u8 = 0x5A;
 
-// Four bytes as a number, big-endian.
-fn number32(a: u8, b: u8, c: u8, d: u8) -> u32
-    ensures { result ≡ number32 a b c d }
-{
-    (((a as u32) * 256 + (b as u32)) * 256 + (c as u32)) * 256 + (d as u32)
-}
-
-// The number in the four bytes from a place on.
+// The number in the four bytes from a place on, big-endian.
 fn number_at(s: &[u8], at: usize) -> u32
     requires { at + 4 ≤ length s.now }
     ensures { result ≡ number_at s.now at }
 {
-    number32(s[at], s[at + 1], s[at + 2], s[at + 3])
+    u32::from_be_bytes([s[at], s[at + 1], s[at + 2], s[at + 3]])
 }
 
 // The f32 in the four bytes from a place on.
