@@ -4,7 +4,7 @@
 ghost use Rattle.std.specs.Prelude.{◌≡◌, true, [], ◌∷◌, ◌+◌, ◌≤◌, ◌<ℤ◌, length};
 ghost use Rattle.std.proofs.lemmas.List.Edits.{sets};
 ghost use Rattle.whole.specs.Within.{Within};
-ghost use Rattle.grid.specs.Table.{farthest, on_table, first_off, ends, stroke_at, WindowOnTable, StrokeOnTable};
+ghost use Rattle.grid.specs.Table.{farthest, on_table, first_off, ends, stroke_at, WindowOnTable};
 ghost use Rattle.grid.specs.Refusals.{tested, window_refusal, stroke_refusal, strokes_refusal, room_refusal};
 ghost use Rattle.grid.specs.Calls.{refused_by};
 
@@ -47,20 +47,6 @@ pub struct Stroke {
     pub y1: i32,
     pub x2: i32,
     pub y2: i32,
-}
-
-// A window that a test has let through: its numbers are on the table, and it has area.
-#[derive(Clone, Copy)]
-pub struct TableWindow {
-    pub window: Window,
-    ghost on_table: { WindowOnTable window },
-}
-
-// A stroke that a test has let through: its numbers are on the table.
-#[derive(Clone, Copy)]
-pub struct TableStroke {
-    pub stroke: Stroke,
-    ghost on_table: { StrokeOnTable stroke },
 }
 
 // A refusal's number and place.
