@@ -14,6 +14,7 @@ pub struct Fraction {
 }
 
 // Euclid's rule, by divisions of 32 bits; two steps a turn, so that the numbers change places without being moved.
+// A while: how many turns it takes depends on the numbers.
 fn common(a: u32, b: u32) -> u32
     ensures { GreatestCommon a b result }
 {
@@ -81,6 +82,7 @@ pub fn less(f: Fraction, g: Fraction) -> bool
 }
 
 // The whole number nearest to x/d, halves to the even one: an odd quotient adds one to twice the rest, so that its half goes up.
+// `decimal` has it in 64 bits: one function of both widths would need a trait with the laws of division, and be longer than the two.
 fn closest(x: u32, d: u32) -> u32
     requires d_nonzero { (0 < d) × (d ≤ 32766) }
     requires x_bound { x < 2 ^ 31 }
