@@ -11,8 +11,9 @@ ghost use Rattle.passes.specs.Passes.{Cutting, nothing_left, Running, Ran};
 
 use memory::Places;
 
-// The sides in each of the 24 orders: 0 left, 1 right, 2 bottom, 3 top.
-const SIDES: [[u8; 4]; 24] = [
+// The sides in each of the 24 orders: 0 left, 1 right, 2 bottom, 3 top. A static, so that the table stands in memory once: a constant would be written anew
+// at each look.
+static SIDES: [[u8; 4]; 24] = [
     [0, 1, 2, 3],
     [0, 1, 3, 2],
     [0, 2, 1, 3],
