@@ -25,8 +25,9 @@ use Rattle.cuts.specs.Cuts.{is_given}
 use Rattle.batch.specs.Batches.{five_of, rows, RowsOf, batch_refusal, Batch}
 use Rattle.batch.proofs.Refusing.{nothing_refused as none_refused}
 use Rattle.batch.proofs.Rows.{rows_of_short}
-use Rattle.cutting.specs.Sheets.{refused_sheet, CutDrawing, faulty, without_area}
+use Rattle.cutting.specs.Sheets.{CutDrawing, faulty, without_area}
 use Rattle.cutting.specs.declared.Sheet.{Sheet}
+use Rattle.std.specs.Prelude.{Result, Err}
 
 -- a list that is given where it has room: the whole answer, and the list at the front
 module _ {A : Type 0} {blank : Refusal → A} {full : List ℤ → A} {Gives : List ℤ → Type 0} {a : A} {before after : List ℤ} where
@@ -40,8 +41,8 @@ module _ {A : Type 0} {blank : Refusal → A} {full : List ℤ → A} {Gives : L
 
 -- ---- the reading
 
-abbrev pub as_sheet : DrawingAnswer → Sheet
-as_sheet a = record { number = a.number; place = a.place; window = a.window; drawn = 0; kept = 0 }
+abbrev pub refusal_of : DrawingAnswer → Result Sheet Refusal
+refusal_of a = Err (record { number = a.number; place = a.place })
 
 pub record Drawn (bs : List ℕ) (a : DrawingAnswer) (after : List ℤ) : Type 0 where
   pub lines : List Stroke
@@ -54,13 +55,13 @@ pub record Drawn (bs : List ℕ) (a : DrawingAnswer) (after : List ℤ) : Type 0
 
 -- by the answer's number
 pub record Read (bs : List ℕ) (a : DrawingAnswer) (after : List ℤ) : Type 0 where
-  pub refuses : (a.number ≡ 0 → ⊥) → (rows : List ℤ) → CutDrawing bs (as_sheet a) after rows
+  pub refuses : (a.number ≡ 0 → ⊥) → (rows : List ℤ) → CutDrawing bs (refusal_of a) after rows
   pub draws : a.number ≡ 0 → Drawn bs a after
 
 refusing : {bs : List ℕ} {a : DrawingAnswer} {after : List ℤ} (n p : ℕ) → a ≡ refused (refuse n p) → (n ≡ 0 → ⊥)
-    → ((rows : List ℤ) → CutDrawing bs (refused_sheet n p) after rows) → Read bs a after
+    → ((rows : List ℤ) → CutDrawing bs (Err (refuse n p)) after rows) → Read bs a after
 refusing {bs} {a} {after} n p e h r = record {
-  refuses = λ _ rows. subst (λ (x : DrawingAnswer). CutDrawing bs (as_sheet x) after rows) (sym e) (r rows);
+  refuses = λ _ rows. subst (λ (x : DrawingAnswer). CutDrawing bs (refusal_of x) after rows) (sym e) (r rows);
   draws = λ z. absurd (h (sym (ap (λ (x : DrawingAnswer). x.number) e) ∙ z));
 }
 

@@ -1,5 +1,5 @@
 -- What the contract of a cut drawing means to its callers.
---   cut_of_lem         where nothing is refused, the drawing is cut
+--   cut_of_lem         a drawing with a sheet is cut
 --   strokes_fit, rows_fit   the numbers that are counted are within the outputs
 --   sheet_unique   one sheet only
 use mathlib.Core.Path.{◌≡◌, refl, sym, ap, ◌∙◌, subst}
@@ -8,7 +8,9 @@ use Prim.Native.Nat.{ℕ, ◌*◌, ◌≤◌}
 use native.Mathlib.Omega.{arith}
 use lib.IntN.{ℤ}
 use lib.ListN.{length, length-take}
-use Rattle.grid.specs.Refusals.{no_area}
+use Rattle.grid.specs.Refusals.{refuse, no_area}
+use Rattle.grid.specs.declared.Refusal.{Refusal}
+use Rattle.std.specs.Prelude.{Result, Ok, Err}
 use Rattle.grid.specs.declared.Stroke.{Stroke}
 use Rattle.grid.specs.declared.Window.{Window}
 use Rattle.drawing.specs.Drawings.{drawn, Means, numbers_of}
@@ -16,13 +18,16 @@ use Rattle.drawing.proofs.Strokes.{four_each}
 use Rattle.drawing.proofs.Theorems.{means_unique, never_both}
 use Rattle.batch.specs.Batches.{RowsOf}
 use Rattle.batch.proofs.Rows.{rows_unique}
-use Rattle.cutting.specs.Sheets.{refused_sheet, CutSheet, CutDrawing, faulty, without_area, cut}
+use Rattle.cutting.specs.Sheets.{CutSheet, CutDrawing, faulty, without_area, cut}
 use Rattle.cutting.specs.declared.Sheet.{Sheet}
 
-pub cut_of_lem : {bs : List ℕ} {sheet : Sheet} {strokes rows : List ℤ} → CutDrawing bs sheet strokes rows → sheet.number ≡ 0 → CutSheet bs sheet strokes rows
-cut_of_lem (faulty m) z = absurd (omega arith)
-cut_of_lem (without_area m n) z = absurd (n z)
-cut_of_lem (cut c) z = c
+pub cut_of_lem : {bs : List ℕ} {sheet : Sheet} {strokes rows : List ℤ} → CutDrawing bs (Ok sheet) strokes rows → CutSheet bs sheet strokes rows
+cut_of_lem {bs} {sheet} {strokes} {rows} c = go refl c
+  where
+    go : {r : Result Sheet Refusal} → r ≡ Ok sheet → CutDrawing bs r strokes rows → CutSheet bs sheet strokes rows
+    go e (faulty m) = absurd (let z : ◌≡◌ {A = ℕ} 0 1 = cc in omega arith)
+    go e (without_area m n) = absurd (let z : ◌≡◌ {A = ℕ} 0 1 = cc in omega arith)
+    go e (cut {sheet = k} c) = let same : k ≡ sheet = cc in subst (λ (x : Sheet). CutSheet bs x strokes rows) same c
 
 module _ {bs : List ℕ} {sheet : Sheet} {strokes rows : List ℤ} (c : CutSheet bs sheet strokes rows) where
   pub strokes_fit : sheet.drawn * 4 ≤ length strokes
@@ -48,17 +53,15 @@ same_cut {bs} {a} {b} c d =
     (subst (λ (ss : List Stroke). RowsOf b.window (numbers_of ss) d.kept_rows) (sym l) d.are)) in
     let k : a.kept ≡ b.kept = omega (arith, c.kept_count, d.kept_count, ap length r) in
     let n : a.drawn ≡ b.drawn = c.count ∙ ap length l ∙ sym d.count in
-    let z : a.number ≡ b.number = c.number ∙ sym d.number in
-    let p : a.place ≡ b.place = c.place ∙ sym d.place in
-    λ i. record { number = z i; place = p i; window = w i; drawn = n i; kept = k i }
+    λ i. record { window = w i; drawn = n i; kept = k i }
 
-pub sheet_unique : {bs : List ℕ} {a b : Sheet} {s t x y : List ℤ} → CutDrawing bs a s x → CutDrawing bs b t y → a ≡ b
+pub sheet_unique : {bs : List ℕ} {a b : Result Sheet Refusal} {s t x y : List ℤ} → CutDrawing bs a s x → CutDrawing bs b t y → a ≡ b
 sheet_unique (faulty m) (faulty n) = refl
 sheet_unique {bs} (faulty m) (without_area n e) = absurd (never_both bs m n)
 sheet_unique {bs} (faulty m) (cut d) = absurd (never_both bs m d.means)
 sheet_unique {bs} (without_area m e) (faulty n) = absurd (never_both bs n m)
-sheet_unique {bs} (without_area m e) (without_area n f) = ap (λ (w : Window). refused_sheet (no_area w).number (no_area w).place) (window_of bs m n)
+sheet_unique {bs} (without_area m e) (without_area n f) = ap (λ (w : Window). Err (refuse (no_area w).number (no_area w).place)) (window_of bs m n)
 sheet_unique {bs} (without_area m e) (cut d) = absurd (e (ap (λ (w : Window). (no_area w).number) (window_of bs m d.means) ∙ d.area))
 sheet_unique {bs} (cut c) (faulty n) = absurd (never_both bs n c.means)
 sheet_unique {bs} (cut c) (without_area n f) = absurd (f (ap (λ (w : Window). (no_area w).number) (window_of bs n c.means) ∙ c.area))
-sheet_unique (cut c) (cut d) = same_cut c d
+sheet_unique (cut c) (cut d) = ap Ok (same_cut c d)

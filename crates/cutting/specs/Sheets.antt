@@ -1,20 +1,17 @@
 -- A drawing that is read and cut to its strip.
---   refused_sheet n p    the sheet of a drawing that is refused with n at p: every other field is 0
 --   CutSheet bytes sheet strokes rows   the bytes mean a drawing whose window has area: the sheet has the window, how many strokes are drawn and how
 --                       many of them have a row; the list strokes starts with the numbers of its strokes, and the list rows with the batch's rows
 --   CutDrawing bytes sheet strokes rows   what `cutting::cut_drawing` promises on these bytes: its answer, and the two outputs after it.
 --                       A drawing's numbers are on the table, so a fault (11) and a window without area (3) are all that is refused. What else is
 --                       in the two outputs is left open
-use Rattle.std.specs.Prelude.{◌≡◌, List, ℕ, ◌*◌, ℤ, pos, length, take}
+use Rattle.std.specs.Prelude.{◌≡◌, Result, Ok, Err, List, ℕ, ◌*◌, ℤ, length, take}
 use Rattle.batch.specs.Batches.{RowsOf}
 use Rattle.drawing.specs.Drawings.{fault, drawn, Means, numbers_of}
-use Rattle.grid.specs.Refusals.{bad_drawing, no_area}
+use Rattle.grid.specs.Refusals.{refuse, bad_drawing, no_area}
+use Rattle.grid.specs.declared.Refusal.{Refusal}
 use Rattle.grid.specs.declared.Stroke.{Stroke}
 use Rattle.grid.specs.declared.Window.{Window}
 use Rattle.cutting.specs.declared.Sheet.{Sheet}
-
-abbrev pub refused_sheet : ℕ → ℕ → Sheet
-refused_sheet n p = record { number = n; place = p; window = record { left = pos 0; bottom = pos 0; right = pos 0; top = pos 0 }; drawn = 0; kept = 0 }
 
 pub record CutSheet (bytes : List ℕ) (sheet : Sheet) (strokes rows : List ℤ) : Type 0 where
   pub lines : List Stroke
@@ -22,15 +19,13 @@ pub record CutSheet (bytes : List ℕ) (sheet : Sheet) (strokes rows : List ℤ)
   pub area : (no_area sheet.window).number ≡ 0
   pub kept_rows : List ℤ
   pub are : RowsOf sheet.window (numbers_of lines) kept_rows
-  pub number : sheet.number ≡ 0
-  pub place : sheet.place ≡ 0
   pub count : sheet.drawn ≡ length lines
   pub kept_count : sheet.kept * 5 ≡ length kept_rows
   pub strokes_start : take (sheet.drawn * 4) strokes ≡ numbers_of lines
   pub rows_start : take (sheet.kept * 5) rows ≡ kept_rows
 
-pub data CutDrawing (bytes : List ℕ) : Sheet → List ℤ → List ℤ → Type 0 where
-  faulty : {strokes rows : List ℤ} {place : ℕ} → Means bytes (fault place) → CutDrawing bytes (refused_sheet bad_drawing 0) strokes rows
+pub data CutDrawing (bytes : List ℕ) : Result Sheet Refusal → List ℤ → List ℤ → Type 0 where
+  faulty : {strokes rows : List ℤ} {place : ℕ} → Means bytes (fault place) → CutDrawing bytes (Err (refuse bad_drawing 0)) strokes rows
   without_area : {strokes rows : List ℤ} {w : Window} {ss : List Stroke} → Means bytes (drawn w ss) → ((no_area w).number ≡ 0 → ⊥)
-      → CutDrawing bytes (refused_sheet (no_area w).number (no_area w).place) strokes rows
-  cut : {sheet : Sheet} {strokes rows : List ℤ} → CutSheet bytes sheet strokes rows → CutDrawing bytes sheet strokes rows
+      → CutDrawing bytes (Err (refuse (no_area w).number (no_area w).place)) strokes rows
+  cut : {sheet : Sheet} {strokes rows : List ℤ} → CutSheet bytes sheet strokes rows → CutDrawing bytes (Ok sheet) strokes rows

@@ -12,23 +12,27 @@ fn list(bytes: &[u8], strokes: &mut [i32], rows: &mut [i32], page: &mut [u8]) ->
     requires in_bounds { 16384 ≤ length strokes.old }
     requires value { 20480 ≡ length rows.old }
     requires in_bounds_2 { 262144 ≤ length page.old }
-    ensures listing { Listing bytes.now (take result.end page.new) result.number result.place }
+    ensures listing { Listing bytes.now (take result.end page.new) result.refusal }
     ensures prefix_len { IsPrefixLen result.end page.new }
 {
-    let sheet = cutting::cut_drawing(bytes, strokes, rows);
-    if sheet.number != 0 {
-        return Made {
-            end: text::put_refusal(page, 0, sheet.number, sheet.place, b'\n'),
-            number: sheet.number,
-            place: sheet.place,
-        };
-    }
-    let window = sheet.window;
-    let count = sheet.kept * 5;
-    Made {
-        end: lines::put_listing(page, window, sheet.drawn, &rows[..count], sheet.kept),
-        number: 0,
-        place: 0,
+    match cutting::cut_drawing(bytes, strokes, rows) {
+        Ok(sheet) => {
+            let count = sheet.kept * 5;
+            Made {
+                end: lines::put_listing(
+                    page,
+                    sheet.window,
+                    sheet.drawn,
+                    &rows[..count],
+                    sheet.kept,
+                ),
+                refusal: None,
+            }
+        }
+        Err(refusal) => Made {
+            end: text::put_refusal(page, 0, refusal.number, refusal.place, b'\n'),
+            refusal: Some(refusal),
+        },
     }
 }
 
@@ -43,7 +47,9 @@ fn run(rt: &HostRuntime, bytes: &mut [u8], strokes: &mut [i32], rows: &mut [i32]
     };
     let made = list(&bytes[..count], strokes, rows, page);
     if streams::write(rt, &page[..made.end]) {
-        reports::tell(rt, made.number, made.place);
+        if let Some(refusal) = made.refusal {
+            reports::tell(rt, refusal);
+        }
     }
 }
 

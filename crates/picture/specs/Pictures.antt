@@ -1,8 +1,9 @@
 -- The picture of a drawing.
 --   picture w zs n xs k   the picture of a drawing that is cut: its strip w, the numbers zs of its n strokes, and the rows xs of the k that are kept
---   Picture bytes text number place   what `draw` promises to put on its page and to answer: text is the picture of the drawing whose bytes these
---                         are, or of its refusal, whose number and place these are; they are 0 where there is none
-use Rattle.std.specs.Prelude.{List, ◌++◌, ℕ, ◌/◌, ℤ, length}
+--   Picture bytes text told   what `draw` promises to put on its page and to answer: text is the picture of the drawing whose bytes these
+--                         are, or of its refusal, which is told; or none is
+use Rattle.std.specs.Prelude.{Option, List, ◌++◌, ℕ, ◌/◌, ℤ, length}
+use Rattle.grid.specs.declared.Refusal.{Refusal}
 use Rattle.grid.specs.declared.Window.{Window}
 use Rattle.view.specs.Views.{reach}
 use Rattle.frames.specs.Frames.{frame, placed}
@@ -16,5 +17,5 @@ picture w zs n xs k =
     let v = reach w zs (length zs / 2) in
     frame v k n ++ placed v ++ artwork w v zs n xs k ++ caption w v k n
 
-abbrev pub Picture : List ℕ → List ℕ → ℕ → ℕ → Type 0
-Picture bytes text number place = Report refused_picture picture bytes text number place
+abbrev pub Picture : List ℕ → List ℕ → Option Refusal → Type 0
+Picture bytes text told = Report refused_picture picture bytes text told

@@ -36,32 +36,27 @@ fn draw(bytes: &[u8], strokes: &mut [i32], rows: &mut [i32], page: &mut [u8]) ->
     requires value { 16384 ≡ length strokes.old }
     requires value_2 { 20480 ≡ length rows.old }
     requires in_bounds { 820000 ≤ length page.old }
-    ensures picture { Picture bytes.now (take result.end page.new) result.number result.place }
+    ensures picture { Picture bytes.now (take result.end page.new) result.refusal }
     ensures prefix_len { IsPrefixLen result.end page.new }
 {
-    let sheet = cutting::cut_drawing(bytes, strokes, rows);
-    if sheet.number != 0 {
-        return Made {
-            end: refused::put_refused(page, sheet.number, sheet.place),
-            number: sheet.number,
-            place: sheet.place,
-        };
-    }
-    let window = sheet.window;
-    let numbers = sheet.drawn * 4;
-    let count = sheet.kept * 5;
-    let end = put_picture(
-        page,
-        window,
-        &strokes[..numbers],
-        sheet.drawn,
-        &rows[..count],
-        sheet.kept,
-    );
-    Made {
-        end,
-        number: 0,
-        place: 0,
+    match cutting::cut_drawing(bytes, strokes, rows) {
+        Ok(sheet) => {
+            let numbers = sheet.drawn * 4;
+            let count = sheet.kept * 5;
+            let end = put_picture(
+                page,
+                sheet.window,
+                &strokes[..numbers],
+                sheet.drawn,
+                &rows[..count],
+                sheet.kept,
+            );
+            Made { end, refusal: None }
+        }
+        Err(refusal) => Made {
+            end: refused::put_refused(page, refusal.number, refusal.place),
+            refusal: Some(refusal),
+        },
     }
 }
 
@@ -76,7 +71,9 @@ fn run(rt: &HostRuntime, bytes: &mut [u8], strokes: &mut [i32], rows: &mut [i32]
     };
     let made = draw(&bytes[..count], strokes, rows, page);
     if streams::write(rt, &page[..made.end]) {
-        reports::tell(rt, made.number, made.place);
+        if let Some(refusal) = made.refusal {
+            reports::tell(rt, refusal);
+        }
     }
 }
 
