@@ -9,7 +9,7 @@ ghost use Rattle.spans.specs.Spans.{largest, ProperSpan, Sized, whole_span, Side
 
 use fraction::Fraction;
 
-// The number of no side: an end of what is kept is the stroke's own.
+// The number of no side, as the answers of the C interface have it: an end of what is kept is the stroke's own.
 pub const NO_SIDE: u8 = 255;
 
 // The fractions from the first to the last; none, where the first is the greater.
