@@ -57,7 +57,7 @@ pub fn start(s: Stroke, x: Way, y: Way) -> End
     }
 }
 
-// Where one coordinate goes out: at the earlier end. Looking back from there the way comes in.
+// Where one coordinate goes out: at the earlier end. Looking back from there the way comes in. Beside `start`, whose tests and numbers are others.
 pub fn finish(s: Stroke, x: Way, y: Way) -> End
     requires stroke_on_table { StrokeOnTable s }
     requires way_at { WayAt s.x1 s.x2 x }

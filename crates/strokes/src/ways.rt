@@ -29,7 +29,7 @@ fn rising(a: i32, at: i32, to: i32, b: i32) -> Way
     }
 }
 
-// The way down from a to b, which is between the sides from `at` to `to`.
+// The way down from a to b, which is between the sides from `at` to `to`. Beside `rising`: each knows which number is the greater, and tests none.
 fn falling(a: i32, at: i32, to: i32, b: i32) -> Way
     requires { Ranged b to at a }
     ensures { Fallen a at to b result }
