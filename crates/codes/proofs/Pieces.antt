@@ -47,34 +47,34 @@ ordered_part o wf wg = record { start = record { time = first_time o; small = wf
 
 module _ {w : Window} {s : Stroke} {p : Piece} (h : PieceOf w s p) where
   abbrev f : Fraction
-  f = p.start
+  f = p.start.t
 
   abbrev g : Fraction
-  g = p.end
+  g = p.end.t
 
-  pub small_a : p.a < 16
+  pub small_a : p.start.code < 16
   small_a = subst (λ (n : ℕ). n < 16) (sym h.a) (code_small w s f)
 
-  pub small_b : p.b < 16
+  pub small_b : p.end.code < 16
   small_b = subst (λ (n : ℕ). n < 16) (sym h.b) (code_small w s g)
 
-  pub decided_is : decision p.a p.b ≡ decided w s f g
+  pub decided_is : decision p.start.code p.end.code ≡ decided w s f g
   decided_is = λ i. decision (h.a i) (h.b i)
 
   module _ {d : ℕ} (e : d ≡ decided w s f g) where
-    abbrev own : d ≡ decision p.a p.b
+    abbrev own : d ≡ decision p.start.code p.end.code
     own = e ∙ sym decided_is
 
-    pub decided_start : 2 ≤ d → d < 6 → decided w s f g ≡ shorten_start (place_of (side_at (lowest_bit p.a)))
+    pub decided_start : 2 ≤ d → d < 6 → decided w s f g ≡ shorten_start (place_of (side_at (lowest_bit p.start.code)))
     decided_start l u = sym decided_is ∙ start_side small_a small_b (subst (λ (n : ℕ). 2 ≤ n) own l) (subst (λ (n : ℕ). n < 6) own u)
 
-    pub place_start : 2 ≤ d → d < 6 → place_of (side_at (lowest_bit p.a)) ≡ lowest_bit p.a
+    pub place_start : 2 ≤ d → d < 6 → place_of (side_at (lowest_bit p.start.code)) ≡ lowest_bit p.start.code
     place_start l u = start_place small_a small_b (subst (λ (n : ℕ). 2 ≤ n) own l) (subst (λ (n : ℕ). n < 6) own u)
 
-    pub place_end : 6 ≤ d → place_of (side_at (lowest_bit p.b)) ≡ lowest_bit p.b
+    pub place_end : 6 ≤ d → place_of (side_at (lowest_bit p.end.code)) ≡ lowest_bit p.end.code
     place_end l = end_place small_a small_b (subst (λ (n : ℕ). 6 ≤ n) own l)
 
-    pub decided_end : 6 ≤ d → decided w s f g ≡ shorten_end (place_of (side_at (lowest_bit p.b)))
+    pub decided_end : 6 ≤ d → decided w s f g ≡ shorten_end (place_of (side_at (lowest_bit p.end.code)))
     decided_end l = sym decided_is ∙ end_side small_a small_b (subst (λ (n : ℕ). 6 ≤ n) own l)
 
   module _ (k : Side) (e : decided w s f g ≡ shorten_start (place_of k)) where
@@ -126,7 +126,7 @@ whole_part = ordered_part first_ordered (one_within (omega arith)) (one_within (
 
 -- with the codes of its ends
 abbrev pub whole_piece : ℕ → ℕ → Piece
-whole_piece a b = record { start = zeroth; end = unit; a = a; b = b; side0 = no_side; side1 = no_side }
+whole_piece a b = record { start = record { t = zeroth; code = a; side = no_side }; end = record { t = unit; code = b; side = no_side } }
 
 pub whole_kept : {s : Stroke} {q : CountedAnswer} (a b : ℕ) → q ≡ record { answer = whole_answer s; shortenings = 0 } → KeptFrom s (whole_piece a b) 0 q
 whole_kept {s} a b e = subst (KeptFrom s (whole_piece a b) 0) (sym e) (record {
@@ -136,12 +136,12 @@ whole_kept {s} a b e = subst (KeptFrom s (whole_piece a b) 0) (sym e) (record {
   count = refl;
 })
 
-module _ {w : Window} {s : Stroke} {p : Piece} {n : ℕ} {q : CountedAnswer} (h : PieceOf w s p) (r : Reached w s p.start p.end n) where
-  pub finished_kept : decided w s p.start p.end ≡ keep → KeptFrom s p n q → Finished w s q
+module _ {w : Window} {s : Stroke} {p : Piece} {n : ℕ} {q : CountedAnswer} (h : PieceOf w s p) (r : Reached w s p.start.t p.end.t n) where
+  pub finished_kept : decided w s p.start.t p.end.t ≡ keep → KeptFrom s p n q → Finished w s q
   finished_kept e k = record {
     clipped = k.clipped w (reached_keep r e h.part.start.small h.part.end.small) h.start_side h.end_side;
     run = subst (Run w s zeroth unit) (sym k.count) (reached_end r (kept e));
   }
 
-  pub finished_missed : decided w s p.start p.end ≡ missed → q ≡ record { answer = blank none; shortenings = n } → Finished w s q
+  pub finished_missed : decided w s p.start.t p.end.t ≡ missed → q ≡ record { answer = blank none; shortenings = n } → Finished w s q
   finished_missed e b = subst (Finished w s) (sym b) (record { clipped = nothing_kept (reached_missed r e); run = reached_end r (lost e) })

@@ -7,11 +7,12 @@
 --   Apart s k           the stroke is not parallel to the line of the side k and has a length, so that it meets the line at one fraction
 --   WayMeets c a b f    at the fraction f the way from a to b is at c
 --   StrokeMeets w s k f   at the fraction f the stroke is on the line of the side k
+--   KindOf n d          the decision of number n, of those in Codes, is d: to keep, missed, or to shorten the start or the end, at whatever side
 --   PieceOf w s p       the piece p is a part of the stroke, with the codes of its two points and the sides that fixed them
 --   Shortened w s p q   the piece q is what one shortening leaves of p
 --   KeptFrom s p n r    r is right, after n shortenings, for any window that keeps of the stroke what the piece p has, with its sides
 --   Finished w s r      r is right for a window and a stroke in which nothing is refused
-use Rattle.std.specs.Prelude.{◌≡◌, ℕ, ℤ, pos, ◌-ℤ◌, ◌*ℤ◌, ◌≤ℤ◌, ◌<ℤ◌}
+use Rattle.std.specs.Prelude.{◌≡◌, ℕ, ◌<◌, ◌≤◌, ℤ, pos, ◌-ℤ◌, ◌*ℤ◌, ◌≤ℤ◌, ◌<ℤ◌}
 use Rattle.std.specs.Int.Bits.{bit_or}
 use Rattle.std.specs.Int.Signed.{lt_z}
 use Rattle.whole.specs.Choice.{when◌then◌else◌}
@@ -27,10 +28,13 @@ use Rattle.spans.specs.Spans.{SpanOf}
 use Rattle.strokes.specs.Sides.{conditions}
 use Rattle.strokes.specs.Strokes.{Keeps, Clipped}
 use Rattle.strokes.specs.Workers.{OnWay}
-use Rattle.codes.specs.Codes.{code}
+use Rattle.codes.specs.Codes.{code, keep, missed}
 use Rattle.codes.specs.Steps.{OnLine, Shortening, Run}
 use Rattle.codes.specs.declared.CountedAnswer.{CountedAnswer}
+use Rattle.codes.specs.declared.Ruling.{Ruling}
+use Rattle.codes.specs.declared.Ruling.TheVariants.{Keep, Missed, Shorten}
 use Rattle.codes.specs.declared.Piece.{Piece}
+use Rattle.codes.specs.declared.Which.TheVariants.{Start, End}
 
 abbrev pub outside_of : ℤ → ℤ → ℤ → ℤ → Fraction → ℕ → ℕ → ℕ
 outside_of lo hi a b f under over =
@@ -63,20 +67,26 @@ pub record StrokeMeets (w : Window) (s : Stroke) (k : Side) (f : Fraction) : Typ
   pub line : OnLine w s k f
   pub small : Within 32766 f.den
 
+abbrev pub KindOf : ℕ → Ruling → Type 0
+KindOf n Keep = n ≡ keep
+KindOf n Missed = n ≡ missed
+KindOf n (Shorten Start) = (2 ≤ n) × (n < 6)
+KindOf n (Shorten End) = 6 ≤ n
+
 pub record PieceOf (w : Window) (s : Stroke) (p : Piece) : Type 0 where
-  pub part : PartOfWay p.start p.end
-  pub a : p.a ≡ code w s p.start
-  pub b : p.b ≡ code w s p.end
-  pub start_side : StartSide (conditions w s) p.start p.side0
-  pub end_side : EndSide (conditions w s) p.end p.side1
+  pub part : PartOfWay p.start.t p.end.t
+  pub a : p.start.code ≡ code w s p.start.t
+  pub b : p.end.code ≡ code w s p.end.t
+  pub start_side : StartSide (conditions w s) p.start.t p.start.side
+  pub end_side : EndSide (conditions w s) p.end.t p.end.side
 
 pub record Shortened (w : Window) (s : Stroke) (p q : Piece) : Type 0 where
-  pub step : Shortening w s p.start p.end q.start q.end
+  pub step : Shortening w s p.start.t p.end.t q.start.t q.end.t
   pub piece : PieceOf w s q
 
 pub record KeptFrom (s : Stroke) (p : Piece) (n : ℕ) (r : CountedAnswer) : Type 0 where
-  pub clipped : (w : Window) → SpanOf 32766 (Keeps w s) (record { first = p.start; last = p.end })
-      → StartSide (conditions w s) p.start p.side0 → EndSide (conditions w s) p.end p.side1 → Clipped w s r.answer
+  pub clipped : (w : Window) → SpanOf 32766 (Keeps w s) (record { first = p.start.t; last = p.end.t })
+      → StartSide (conditions w s) p.start.t p.start.side → EndSide (conditions w s) p.end.t p.end.side → Clipped w s r.answer
   pub count : r.shortenings ≡ n
 
 pub record Finished (w : Window) (s : Stroke) (r : CountedAnswer) : Type 0 where

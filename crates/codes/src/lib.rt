@@ -3,17 +3,20 @@
 
 mod decisions;
 
-ghost use Rattle.std.specs.Prelude.{◌≡◌, ◌<◌, ◌≤◌};
+ghost use Rattle.std.specs.Prelude.{◌≡◌, ◌<◌, pos};
 ghost use Rattle.whole.specs.Choice.{when◌then◌else◌};
 ghost use Rattle.whole.specs.Within.{Within};
 ghost use Rattle.grid.specs.Table.{farthest, WindowOnTable, StrokeOnTable};
 ghost use Rattle.grid.specs.Refusals.{none};
-ghost use Rattle.grid.specs.Sides.{side_at};
+ghost use Rattle.grid.specs.Sides.{side_at, place_of};
+ghost use Rattle.spans.specs.Sides.{no_side};
+ghost use Rattle.fraction.specs.declared.Fraction.{Fraction};
 ghost use Rattle.strokes.specs.Strokes.{blank as Strokes·blank};
 ghost use Rattle.strokes.specs.Workers.{OnWay, EndAt, whole_answer};
-ghost use Rattle.codes.specs.Codes.{code as Codes·code, decision as Codes·decision};
+ghost use Rattle.codes.specs.Codes.{code as Codes·code, decision as Codes·decision, lowest_bit};
 ghost use Rattle.codes.specs.Steps.{decided as Steps·decided, CohenSutherland};
-ghost use Rattle.codes.specs.Workers.{outside_of, marks_of, end_code, PartOfWay, Apart, WayMeets, StrokeMeets, PieceOf, Shortened, KeptFrom, Finished};
+ghost use Rattle.codes.specs.declared.Ruling.TheVariants.{Shorten};
+ghost use Rattle.codes.specs.Workers.{outside_of, marks_of, end_code, PartOfWay, Apart, WayMeets, StrokeMeets, KindOf, PieceOf, Shortened, KeptFrom, Finished};
 
 use decisions::{DECISIONS, KEEP, MISSED, SHORTEN_END};
 use fraction::Fraction;
@@ -38,15 +41,34 @@ pub struct CountedAnswer {
     pub answer: StrokeAnswer,
 }
 
-// The part of a stroke from one fraction of its way to another, with the codes a and b of its two points, and the sides that these were shortened at last.
+// An end of a piece: its fraction of the stroke's way, the code of its point, and the side that it was shortened at last, by its number, or `NO_SIDE`.
+#[derive(Clone, Copy)]
+struct PieceEnd {
+    t: Fraction,
+    code: u8,
+    side: u8,
+}
+
+// The part of a stroke from one fraction of its way to another.
 #[derive(Clone, Copy)]
 struct Piece {
-    start: Fraction,
-    end: Fraction,
-    a: u8,
-    b: u8,
-    side0: u8,
-    side1: u8,
+    start: PieceEnd,
+    end: PieceEnd,
+}
+
+// Which of a piece's two ends.
+#[derive(Clone, Copy)]
+enum Which {
+    Start,
+    End,
+}
+
+// What the rule does with a piece: it is kept, it is missed, or one of its ends is shortened.
+#[derive(Clone, Copy)]
+enum Ruling {
+    Keep,
+    Missed,
+    Shorten(Which),
 }
 
 // One bit of a code: set where the point lies beyond the bit's side.
@@ -95,12 +117,21 @@ fn end_code(w: Window, x: i32, y: i32) -> u8
 }
 
 // What the rule does with a piece whose points have the codes a and b, by the table.
-fn decision(a: u8, b: u8) -> u8
+fn decision(a: u8, b: u8) -> Ruling
     requires a_bound { a < 16 }
     requires b_bound { b < 16 }
-    ensures { result ≡ Codes·decision a b }
+    ensures { KindOf (Codes·decision a b) result }
 {
-    DECISIONS[16 * (a as usize) + b as usize]
+    let number = DECISIONS[16 * (a as usize) + b as usize];
+    if number == KEEP {
+        Ruling::Keep
+    } else if number == MISSED {
+        Ruling::Missed
+    } else if number < SHORTEN_END {
+        Ruling::Shorten(Which::Start)
+    } else {
+        Ruling::Shorten(Which::End)
+    }
 }
 
 // The fraction of the way from a to b at which it is at c.
@@ -119,7 +150,7 @@ fn meeting(c: i32, a: i32, b: i32) -> Fraction
     Fraction { num: n, den: d }
 }
 
-// Where the stroke meets the line of a side.
+// Where the stroke meets the line of a side, which goes by its number: that is the place of its bit in a code, as it is counted.
 fn crossing(w: Window, s: Stroke, side: u32) -> Fraction
     requires window_on_table { WindowOnTable w }
     requires stroke_on_table { StrokeOnTable s }
@@ -134,38 +165,53 @@ fn crossing(w: Window, s: Stroke, side: u32) -> Fraction
     }
 }
 
+// The same end, made anew: a struct that is handed on is copied with its padding.
+fn same(e: PieceEnd) -> PieceEnd
+    ensures { result ≡ e }
+{
+    PieceEnd {
+        t: e.t,
+        code: e.code,
+        side: e.side,
+    }
+}
+
 // One shortening: the start's before the end's, against the side of the lowest set bit.
-fn shortened(w: Window, s: Stroke, p: Piece, decided: u8) -> Piece
+// Two arms of one shape: as one function for both ends they take more instructions for each stroke that is cut.
+fn shortened(w: Window, s: Stroke, p: Piece, which: Which) -> Piece
     requires window_on_table { WindowOnTable w }
     requires stroke_on_table { StrokeOnTable s }
     requires piece_of { PieceOf w s p }
-    requires decided_value { decided ≡ Steps·decided w s p.start p.end }
-    requires le_decided { 2 ≤ decided }
+    requires kind_of { KindOf (Steps·decided w s p.start.t p.end.t) (Shorten which) }
     ensures { Shortened w s p result }
 {
-    if decided < SHORTEN_END {
-        let side = u8::trailing_zeros(p.a);
-        let start = crossing(w, s, side);
-        let end = p.end;
-        return Piece {
-            start,
-            end,
-            a: code(w, s, start),
-            b: p.b,
-            side0: side as u8,
-            side1: p.side1,
-        };
-    }
-    let side = u8::trailing_zeros(p.b);
-    let start = p.start;
-    let end = crossing(w, s, side);
-    Piece {
-        start,
-        end,
-        a: p.a,
-        b: code(w, s, end),
-        side0: p.side0,
-        side1: side as u8,
+    match which {
+        Which::Start => {
+            let side = u8::trailing_zeros(p.start.code);
+            let t = crossing(w, s, side);
+            let start = PieceEnd {
+                t,
+                code: code(w, s, t),
+                side: side as u8,
+            };
+            Piece {
+                start,
+                end: same(p.end),
+            }
+        }
+        Which::End => {
+            let side = u8::trailing_zeros(p.end.code);
+            let t = crossing(w, s, side);
+            let end = PieceEnd {
+                t,
+                code: code(w, s, t),
+                side: side as u8,
+            };
+            Piece {
+                start: same(p.start),
+                end,
+            }
+        }
     }
 }
 
@@ -224,11 +270,11 @@ fn end_at(s: Stroke, t: Fraction, side: u8) -> End
 // A stroke that is kept as far as the piece p goes.
 fn kept(s: Stroke, p: Piece, shortenings: u32) -> CountedAnswer
     requires stroke_on_table { StrokeOnTable s }
-    requires part_of_way { PartOfWay p.start p.end }
+    requires part_of_way { PartOfWay p.start.t p.end.t }
     ensures { KeptFrom s p shortenings result }
 {
-    let a = end_at(s, p.start, p.side0);
-    let b = end_at(s, p.end, p.side1);
+    let a = end_at(s, p.start.t, p.start.side);
+    let b = end_at(s, p.end.t, p.end.side);
     let answer = strokes::kept_answer(a, b);
     CountedAnswer {
         shortenings,
@@ -246,14 +292,23 @@ fn whole(s: Stroke) -> CountedAnswer
     }
 }
 
+// The stroke's own start or end, at the fraction 0 or 1 of its way, which no side has cut off yet.
+fn own_end(t: i64, code: u8) -> PieceEnd
+    ensures { result ≡ record { t = record { num = t; den = pos 1 }; code = code; side = no_side } }
+{
+    PieceEnd {
+        t: Fraction { num: t, den: 1 },
+        code,
+        side: NO_SIDE,
+    }
+}
+
 // The rule on a window and a stroke in which nothing is refused.
 fn clipped(w: Window, s: Stroke) -> CountedAnswer
     requires window_on_table { WindowOnTable w }
     requires stroke_on_table { StrokeOnTable s }
     ensures { Finished w s result }
 {
-    let start = Fraction { num: 0, den: 1 };
-    let end = Fraction { num: 1, den: 1 };
     let a = end_code(w, s.x1, s.y1);
     let b = end_code(w, s.x2, s.y2);
     // most strokes are plainly in or out, and need no table
@@ -263,25 +318,18 @@ fn clipped(w: Window, s: Stroke) -> CountedAnswer
     if a & b != 0 {
         return missed(0);
     }
-    let mut p = Piece {
-        start,
-        end,
-        a,
-        b,
-        side0: NO_SIDE,
-        side1: NO_SIDE,
-    };
-    let mut decided = decision(a, b);
+    let start = own_end(0, a);
+    let end = own_end(1, b);
+    let mut piece = Piece { start, end };
     let mut shortenings = 0;
-    while MISSED < decided {
-        p = shortened(w, s, p, decided);
-        decided = decision(p.a, p.b);
+    loop {
+        match decision(piece.start.code, piece.end.code) {
+            Ruling::Keep => return kept(s, piece, shortenings),
+            Ruling::Missed => return missed(shortenings),
+            Ruling::Shorten(which) => piece = shortened(w, s, piece, which),
+        }
         shortenings += 1;
     }
-    if decided == KEEP {
-        return kept(s, p, shortenings);
-    }
-    missed(shortenings)
 }
 
 // A stroke against a rectangle by the Cohen-Sutherland rule.

@@ -31,8 +31,8 @@ returns c =
       clipped = λ w g i o.
           subst (Clipped w a.args.s) (sym r.answer)
           (span_kept g a.requires.1.order p.result q.result p.ensures.point q.ensures.point
-          (subst (StartSide (conditions w a.args.s) a.args.p.start) (sym p.ensures.side) i)
-          (subst (EndSide (conditions w a.args.s) a.args.p.end) (sym q.ensures.side) o)
+          (subst (StartSide (conditions w a.args.s) a.args.p.start.t) (sym p.ensures.side) i)
+          (subst (EndSide (conditions w a.args.s) a.args.p.end.t) (sym q.ensures.side) o)
           (subst (λ (f : Fraction). LowestOf f.num f.den c.kept_answer-answer.result.t0) p.ensures.t r.first)
           (subst (λ (f : Fraction). LowestOf f.num f.den c.kept_answer-answer.result.t1) q.ensures.t r.last));
       count = refl;
