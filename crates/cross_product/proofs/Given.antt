@@ -24,7 +24,7 @@ use Rattle.spans.specs.Parts.{zeroth, unit}
 use Rattle.strokes.specs.declared.End.{End}
 use Rattle.strokes.specs.Sides.{conditions, four_sides}
 use Rattle.strokes.specs.Workers.{Reaching, OnWay, EndAt}
-use Rattle.strokes.proofs.Reading.{read, read_is, read_on_table}
+use Rattle.strokes.proofs.Reading.{read, read_is}
 use Rattle.crossed_sides.specs.declared.Course.{Course}
 use Rattle.crossed_sides.specs.Line.{ComesIn, GoesOut, entry_side, exit_side}
 use Rattle.crossed_sides.specs.Workers.{CourseOf}
@@ -53,9 +53,6 @@ cut_off hy hz e = le_no (number_is hy) (number_is hz) e
 
 -- ---- the courses, by the numbers as they are read
 module _ {lo hi a b : ℤ} (wl : Within farthest lo) (wh : Within farthest hi) (wa : Within farthest a) (wb : Within farthest b) where
-  pub course_asks : Within farthest (read lo) × (Within farthest (read hi) × (Within farthest (read a) × Within farthest (read b)))
-  course_asks = (read_on_table wl, (read_on_table wh, (read_on_table wa, read_on_table wb)))
-
   pub course_plain : {c : Course} → CourseOf (read lo) (read hi) (read a) (read b) c → CourseOf lo hi a b c
   course_plain {c} k = transport (λ i. CourseOf (read_is wl i) (read_is wh i) (read_is wa i) (read_is wb i) c) k
 

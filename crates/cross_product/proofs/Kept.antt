@@ -19,7 +19,7 @@ use Rattle.spans.proofs.Parts.{time_within}
 use Rattle.strokes.specs.declared.End.{End}
 use Rattle.strokes.specs.declared.StrokeAnswer.{StrokeAnswer}
 use Rattle.strokes.specs.Strokes.{Keeps, Clipped}
-use Rattle.strokes.specs.Workers.{OnWay, KeptAnswer}
+use Rattle.strokes.specs.Workers.{KeptAnswer}
 use Rattle.strokes.proofs.Answers.{span_kept}
 use Rattle.strokes.proofs.Between.{keeps_between}
 use Rattle.strokes.proofs.Sides.{keeps_meets, meets_keeps}
@@ -53,9 +53,6 @@ module _ {cs : List Condition} (f : Fraction) (time : Time f.num f.den) {k : ℕ
           ge_by (f.num ∷ f.den ∷ n ∷ d ∷ c.p ∷ c.q ∷ []) (po (var 4) x.crosses) (x2 ⊗ x1) (x0 ⊗ x3)
           (po x1 time.den ⊠ le (var 4 ⊗ x2) (var 5 ⊗ x3) h ⊞ eq x3 (var 4 ⊗ x0) (var 5 ⊗ x1) x.on) tt)
           (s.fixed o) m.each
-
-pub found_way : {Named : List Condition → Fraction → ℕ → Type 0} {w : Window} {s : Stroke} {e : End} → EndFound Named w s e → OnWay e.t
-found_way h = record { time = h.meets.time; small = h.small }
 
 module _ {w : Window} {s : Stroke} {a b : End} (i : EndFound StartSide w s a) (o : EndFound EndSide w s b) where
   abbrev span : Span

@@ -32,7 +32,7 @@ fn own_start(s: Stroke) -> End
     }
 }
 
-// The stroke's own end, where no side cuts it off.
+// The stroke's own end, where no side cuts it off. Beside `own_start`, with which it shares no number.
 fn own_end(s: Stroke) -> End
     requires { StrokeOnTable s }
     ensures { EndAt s unit no_side result }
@@ -64,7 +64,7 @@ fn at_upright(s: Stroke, at: i32, n: i32, long: i32, side: u8) -> End
     }
 }
 
-// Where the stroke meets a level side: y is that of the side.
+// Where the stroke meets a level side: y is that of the side. Beside `at_upright`: one function would turn x and y round, and the answer back again.
 fn at_level(s: Stroke, at: i32, n: i32, long: i32, side: u8) -> End
     requires stroke_on_table { StrokeOnTable s }
     requires meets_level { MeetsLevel s at n long }
@@ -105,7 +105,7 @@ fn start(w: Window, s: Stroke, x: Course, y: Course, level: bool) -> End
     at_upright(s, x.at, x.near, x.long, crossed_sides::entry_side(s, level))
 }
 
-// Where what is kept ends: on the side where the line goes out, unless the stroke ends before it.
+// Where what is kept ends: on the side where the line goes out, unless the stroke ends before it. Beside `start`, whose tests and distances are others.
 fn finish(w: Window, s: Stroke, x: Course, y: Course, level: bool) -> End
     requires window_on_table { WindowOnTable w }
     requires stroke_on_table { StrokeOnTable s }
