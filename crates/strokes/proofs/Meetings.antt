@@ -43,9 +43,6 @@ start_small k = omega (arith, k.order, end_small k)
 pub product_fits : {m n : ℕ} → m ≤ 32766 → n ≤ 32766 → Fits w32 (m * n)
 product_fits h k = record { fits = omega (arith, mul-le-mul h k) }
 
-pub product_and_fits : {m n k : ℕ} → m ≤ 32766 → n ≤ 32766 → k ≤ 1 → Fits w32 (m * n + k)
-product_and_fits h k l = record { fits = omega (arith, mul-le-mul h k) }
-
 -- ---- one way ends before the other starts
 never_both : {x y : Way} → ProperWay x → ProperWay y → y.end * x.long < x.start * y.long + 0 → (n d : ℤ) → pos 0 <ℤ d → FromStartToEnd x n d
     → FromStartToEnd y n d → ⊥

@@ -1,9 +1,9 @@
 -- Numbers of the table as the machine reads them: each is itself, so what is said of the ones is said of the others.
-use mathlib.Core.Path.{◌≡◌, sym, subst₂, transport}
+use mathlib.Core.Path.{◌≡◌, sym, transport}
 use Prim.Native.Nat.{◌<◌, ◌^◌}
 use native.Mathlib.Omega.{arith}
 use lib.IntN.{ℤ}
-use lib.Signed.{◌<ℤ◌, mag}
+use lib.Signed.{mag}
 use mir.Syntax.{w32}
 use mir.Val.{SFits, to_z, of_z}
 use mir.Facts.{to_z-of_z}
@@ -13,7 +13,7 @@ use Rattle.whole.proofs.Ranges.{within_abs, fits_abs}
 use Rattle.fraction.specs.Rounding.{along, Rounded}
 use Rattle.grid.specs.Table.{farthest}
 use Rattle.strokes.specs.declared.ways.Way.{Way}
-use Rattle.strokes.specs.Workers.{MayReach, Ranged, Risen, Fallen, WayOf}
+use Rattle.strokes.specs.Workers.{Ranged, Risen, Fallen, WayOf}
 
 pub table_fits : {z : ℤ} → Within farthest z → SFits w32 z
 table_fits h = fits_abs (omega (arith, within_abs h))
@@ -48,27 +48,5 @@ four_plain {a} {b} {c} {d} P ha hb hc hd k = transport (λ i. P (back w32 a ha i
 
 -- and for a way between two sides
 module _ {lo hi a b : ℤ} (wl : Within farthest lo) (wh : Within farthest hi) (wa : Within farthest a) (wb : Within farthest b) where
-  -- what `passage` asks
-  pub passage_asks : lo <ℤ hi → MayReach lo hi a b
-      → Within farthest (read lo) × (Within farthest (read hi)
-      × (Within farthest (read a) × (Within farthest (read b) × ((read lo <ℤ read hi) × MayReach (read lo) (read hi) (read a) (read b)))))
-  passage_asks l k = (
-    read_on_table wl,
-    (
-      read_on_table wh,
-      (
-        read_on_table wa,
-        (
-          read_on_table wb,
-          (
-            subst₂ ◌<ℤ◌ (sym (read_is wl)) (sym (read_is wh)) l,
-            transport
-                (λ i. MayReach (sym (read_is wl) i) (sym (read_is wh) i) (sym (read_is wa) i) (sym (read_is wb) i)) k,
-          ),
-        ),
-      ),
-    ),
-  )
-
   pub way_plain : {r : Way} → WayOf (read lo) (read hi) (read a) (read b) r → WayOf lo hi a b r
   way_plain {r} k = transport (λ i. WayOf (read_is wl i) (read_is wh i) (read_is wa i) (read_is wb i) r) k
