@@ -36,7 +36,7 @@ fn put_row(page: &mut [u8], at: usize, rows: &[i32], i: usize) -> usize
     marks::put_point(page, b, bx, by, b'\n')
 }
 
-// Puts the lines of all rows.
+// Puts the lines of all rows, five numbers each, as the C interface gives them.
 fn put_rows(page: &mut [u8], at: usize, rows: &[i32]) -> usize
     requires { at + 12 * length rows.now + 70 ≤ length page.old }
     ensures put { Put page.old page.new at result (row_lines rows.now) }

@@ -33,7 +33,7 @@ pub fn put_stroke(page: &mut [u8], at: usize, xs: &[i32], i: usize) -> usize
     marks::put_point(page, b, bx, by, b'\n')
 }
 
-// Puts the first strokes of a list that has `step` numbers for each, the last four of them its ends.
+// Puts the first strokes of a list that has `step` numbers for each, the last four of them its ends, as the C interface has them.
 pub fn put_strokes(page: &mut [u8], at: usize, xs: &[i32], step: usize, count: usize) -> usize
     requires le_step { 4 ≤ step }
     requires step_in_bounds { count * step ≤ length xs.now }

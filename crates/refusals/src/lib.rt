@@ -5,7 +5,7 @@ ghost use Rattle.std.specs.Prelude.{◌+◌, ◌≤◌, length};
 ghost use Rattle.text.specs.Pages.{Put};
 ghost use Rattle.refusals.specs.Words.{sentence, sentence_from12, refusal_words};
 
-// Puts what a refusal's number means.
+// Puts what a refusal's number means. The numbers are those of the C interface.
 pub fn put_meaning(page: &mut [u8], at: usize, number: u8) -> usize
     requires { at + 100 ≤ length page.old }
     ensures put { Put page.old page.new at result (sentence number) }

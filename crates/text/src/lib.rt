@@ -90,7 +90,7 @@ pub fn put_count(page: &mut [u8], at: usize, n: u64, last: u8) -> usize
     end + 1
 }
 
-// The same for a number with a sign.
+// The same for a number with a sign: two lines, which a shared function would not shorten.
 pub fn put_number(page: &mut [u8], at: usize, x: i32, last: u8) -> usize
     requires { at + 22 ≤ length page.old }
     ensures put { Put page.old page.new at result (integer x ++ last ∷ []) }
