@@ -1,6 +1,6 @@
 // Where lines meet: an edge of the outline or a side of the window with the line of a limit. A ring in memory names the line of each of its edges by a tag:
 // below 64 the outline's own edge from that corner, from 64 on the side of the window at that place. So every crossing is made from the numbers that were
-// given, and never from a corner that was made before.
+// given, and never from a corner that was made before. A tag is a number and no enum: it stands in the ring's memory, beside the numbers of its corner.
 #![tactic(auto)]
 
 ghost use Rattle.std.specs.Prelude.{◌≡◌, ◌/◌, ◌%◌, ◌<◌, length};

@@ -71,7 +71,7 @@ pub struct Leftover {
     pub counts: [u8; 4],
 }
 
-// No area is left.
+// No area is left. Not a None: the answer of an outline without area gives the four counts too.
 fn nothing() -> Leftover
     ensures { result ≡ nothing_left }
 {
