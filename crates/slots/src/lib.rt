@@ -24,8 +24,8 @@ pub fn strip_at(book: &[i32], p: usize) -> Window
 }
 
 // Tests the slot whose mark stands at the place p and puts its strip on the rack, where the n strips of the slots behind it are, and tells how many
-// are there then; None where the slot is faulty. Whether the mark is 1 is asked last: the compiler then leaves the mark in memory, so that a free slot
-// costs one comparison.
+// are there then; None where the slot is faulty. Whether the mark is 1 is asked last: the compiler then leaves the mark in memory, so that a free
+// slot costs one comparison.
 fn gather_slot(book: &[i32], p: usize, rack: &mut [i16; 288], n: usize) -> Option<usize>
     requires p_bound { p + 5 ≤ 320 }
     requires book_len { length book.now ≡ 320 }
@@ -63,8 +63,8 @@ fn gather_eight(book: &[i32], p: usize, rack: &mut [i16; 288], n: usize) -> Opti
     gather_slot(book, p, rack, from1)
 }
 
-// Tests the marks and the strips of all slots, from the last to the first, and puts the strips on a rack, on which there is none before. How many there
-// are; None where a slot is faulty.
+// Tests the marks and the strips of all slots, from the last to the first, and puts the strips on a rack, on which there is none before. It tells
+// how many there are; None where a slot is faulty.
 fn gather(book: &[i32], rack: &mut [i16; 288]) -> Option<usize>
     requires book_len { length book.now ≡ 320 }
     requires carries { Carries rack.old [] }
