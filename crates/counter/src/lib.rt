@@ -4,17 +4,24 @@
 ghost use Rattle.std.specs.Prelude.{◌≡◌, ◌≤◌, length};
 ghost use Rattle.text.specs.Pages.{Put};
 ghost use Rattle.pen_line.specs.Lines.{spoken};
-ghost use Rattle.counter.specs.Serving.{wrong_text, changing, looking, Does, Serves};
+ghost use Rattle.counter.specs.Serving.{wrong_text, came_of, Does, Serves};
 
 use answers::Reply;
 use orders::{Fault, Order};
 
-// What came of a line: its answer is the page up to `end`; whether the table has changed; and whether the line was refused, or is no order at all.
-#[derive(Drop)]
+// What came of a line: it has changed the table, it has left it as it was, or it was refused, or is no order at all.
+#[derive(Clone, Copy, Debug, PartialEq, Eq)]
+pub enum Outcome {
+    Changed,
+    Unchanged,
+    Refused,
+}
+
+// What came of a line, and its answer, which is the page up to `end`.
+#[derive(Clone, Copy)]
 pub struct Service {
     pub end: usize,
-    pub changed: bool,
-    pub refused: bool,
+    pub outcome: Outcome,
 }
 
 // Puts the answer to a line that is no order.
@@ -27,26 +34,17 @@ fn put_wrong(page: &mut [u8], fault: Fault) -> usize
     text::put(page, b, b"\n")
 }
 
-// What comes of a reply to an order that changes the table where it is done.
-fn changing(reply: Reply) -> Service
-    ensures { result ≡ changing reply }
+// What comes of a reply to an order: where it is done, that which is given.
+fn came_of(reply: Reply, done: Outcome) -> Service
+    ensures { result ≡ came_of reply done }
 {
-    let done = reply.number == 0;
+    let outcome = match reply.number {
+        0 => done,
+        _ => Outcome::Refused,
+    };
     Service {
         end: reply.end,
-        changed: done,
-        refused: !done,
-    }
-}
-
-// What comes of a reply to an order that only looks at it.
-fn looking(reply: Reply) -> Service
-    ensures { result ≡ looking reply }
-{
-    Service {
-        end: reply.end,
-        changed: false,
-        refused: reply.number != 0,
+        outcome,
     }
 }
 
@@ -54,23 +52,23 @@ fn looking(reply: Reply) -> Service
 fn obey(order: Order, table: &mut [i32], page: &mut [u8]) -> Service
     requires value { 320 ≡ length table.old }
     requires in_bounds { 40000 ≤ length page.old }
-    ensures { Does order table.old table.new page.new result }
+    ensures { Does (Ok order) table.old table.new page.new result }
 {
     match order {
         Order::Blank => Service {
             end: 0,
-            changed: false,
-            refused: false,
+            outcome: Outcome::Unchanged,
         },
-        Order::Book(renter, strip) => changing(clerk::book(table, renter, strip, page)),
-        Order::Release(renter, slot) => changing(clerk::release(table, renter, slot, page)),
-        Order::Strips(renter) => looking(lister::strips(table, renter, page)),
-        Order::Show => looking(lister::show(table, page)),
-        Order::Wrong(fault) => Service {
-            end: put_wrong(page, fault),
-            changed: false,
-            refused: true,
-        },
+        Order::Book(renter, strip) => came_of(
+            clerk::book(table, renter, strip, page),
+            Outcome::Changed,
+        ),
+        Order::Release(renter, slot) => came_of(
+            clerk::release(table, renter, slot, page),
+            Outcome::Changed,
+        ),
+        Order::Strips(renter) => came_of(lister::strips(table, renter, page), Outcome::Unchanged),
+        Order::Show => came_of(lister::show(table, page), Outcome::Unchanged),
     }
 }
 
@@ -80,5 +78,11 @@ pub fn serve(line: &[u8], table: &mut [i32], page: &mut [u8]) -> Service
     requires in_bounds { 40000 ≤ length page.old }
     ensures { Serves line.now table.old table.new page.new result }
 {
-    obey(orders::read(line), table, page)
+    match orders::read(line) {
+        Ok(order) => obey(order, table, page),
+        Err(fault) => Service {
+            end: put_wrong(page, fault),
+            outcome: Outcome::Refused,
+        },
+    }
 }
