@@ -5,24 +5,15 @@ ghost use Rattle.std.specs.Prelude.{◌≡◌, ◌≤◌, length};
 ghost use Rattle.bookkeeping.specs.Runs.{empty_book};
 ghost use Rattle.sheet.specs.Sheets.{Draws};
 
-use book_text::Verdict;
-
-// What became of a text: where its sheet ends on the page, or the first line at which it is not a strip book's.
-#[derive(Drop)]
-enum Drawn {
-    Sheet(usize),
-    Faulty(usize),
-}
-
-// Draws the book that a text is.
-fn draw(text: &[u8], page: &mut [u8]) -> Drawn
+// Draws the book that a text is, and says where its sheet ends on the page. The error is the first line at which the text is not a strip book's.
+fn draw(text: &[u8], page: &mut [u8]) -> Result<usize, usize>
     requires { 35000 ≤ length page.old }
     ensures { Draws text.now page.new result }
 {
     let mut table = [0i32; 320];
     match book_text::read_book(text, &mut table) {
-        Verdict::Book => Drawn::Sheet(sheet_art::put_sheet(page, &table)),
-        Verdict::Faulty(line) => Drawn::Faulty(line),
+        Ok(()) => Ok(sheet_art::put_sheet(page, &table)),
+        Err(line) => Err(line),
     }
 }
 
@@ -30,15 +21,14 @@ fn draw(text: &[u8], page: &mut [u8]) -> Drawn
 fn run(rt: &HostRuntime, text: &mut [u8], page: &mut [u8])
     requires { 35000 ≤ length page.old }
 {
-    let taken = streams::read_all(rt, text);
-    if taken.failed {
+    let Some(count) = streams::read_all(rt, text) else {
         return;
-    }
-    match draw(&text[..taken.count], page) {
-        Drawn::Sheet(end) => {
+    };
+    match draw(&text[..count], page) {
+        Ok(end) => {
             streams::write(rt, &page[..end]);
         }
-        Drawn::Faulty(line) => faults::tell(rt, line, b"\n"),
+        Err(line) => faults::tell(rt, line, b"\n"),
     }
 }
 

@@ -14,11 +14,13 @@ use Rattle.book_text.proofs.Theorems.{stays_sound}
 use Rattle.text.specs.Pages.{ascii}
 use Rattle.sittings.specs.Laws.{ServesSound}
 use Rattle.sittings.specs.Sittings.{line_of}
+use Rattle.std.specs.Prelude.{Result}
+use Rattle.orders.specs.declared.Fault.{Fault}
 use Rattle.orders.specs.declared.Order.{Order}
 use Rattle.counter.specs.Serving.{Does, blank, book, release, strips, show, wrong, Serves}
 use Rattle.counter.specs.declared.Service.{Service}
 
-does_fit : {o : Order} {before after : List ℤ} {page : List ℕ} {r : Service} → Does o before after page r → r.end ≤ length page
+does_fit : {o : Result Order Fault} {before after : List ℤ} {page : List ℕ} {r : Service} → Does o before after page r → r.end ≤ length page
 does_fit blank = omega arith
 does_fit (book a) = a.fits
 does_fit (release a) = a.fits
@@ -38,7 +40,7 @@ books_sound {renter} {strip} {before} {after} a s = go a.taken.number refl
     go zero e = let b = a.done e in stays_sound before after (Runs.booking renter a.taken.window b.answer) s b.booked
     go (suc n) e = subst Sound (sym (a.refused (λ (z : a.taken.number ≡ 0). omega arith)).0) s
 
-does_sound : {o : Order} {before after : List ℤ} {page : List ℕ} {r : Service} → Does o before after page r → Sound before → Sound after
+does_sound : {o : Result Order Fault} {before after : List ℤ} {page : List ℕ} {r : Service} → Does o before after page r → Sound before → Sound after
 does_sound blank s = s
 does_sound (book a) s = books_sound a.says s
 does_sound (release {renter} {slot} {before} {after} a) s =

@@ -1,65 +1,79 @@
 // A strip book in its file, which is in hand: loaded from there, and saved.
 #![tactic(auto)]
 
-ghost use Rattle.std.specs.Prelude.{◌≡◌, true, ◌≤◌, length};
+ghost use Rattle.std.specs.Prelude.{◌≡◌, ◌≤◌, IfOk, IfSome, length, take};
 ghost use Rattle.bookkeeping.specs.Runs.{empty_book};
 ghost use Rattle.book_text.specs.Texts.{Sound, book_text};
 ghost use Rattle.storing.specs.Storing.{IsNewName, Understands};
 
-use book_text::Verdict;
-use keeping::Held;
+use keeping::Told;
 
 // What holds a book's text: the longest has some 5,000 bytes, and the proofs are content with more.
 type Text = [u8; 40000];
 
-// Understands what was read of the book's file: one that is missing is the empty book.
-fn understand(held: Held, text: &[u8], table: &mut [i32]) -> Verdict
-    requires count_in_bounds { held.count ≤ length text.now }
-    requires table_value { table.old ≡ empty_book }
-    ensures { Understands held text.now result table.new }
-{
-    if held.missing {
-        return Verdict::Book;
-    }
-    book_text::read_book(&text[..held.count], table)
+// The names of a book's files: that of the new file, which is the book's own, so many bytes, and ".new".
+#[derive(Clone, Copy)]
+pub struct Names<'a> {
+    pub new: &'a [u8],
+    pub long: usize,
+    ghost new_name: { IsNewName new.now long },
 }
 
-// Reads the book's file into an empty table, and says whether it is a book. Else standard error says why not.
-pub fn load(rt: &HostRuntime, file: &[u8], table: &mut [i32; 320]) -> bool
+impl<'a> Names<'a> {
+    // The name of the book's own file.
+    pub fn file(self) -> &'a [u8]
+        ensures { result.now ≡ take self.entry.long self.entry.new.now }
+    {
+        &self.new[..self.long]
+    }
+}
+
+// Understands what was read of the book's file: one that is missing is the empty book. The error is the first line that is not a book's.
+fn understand(held: Option<usize>, text: &[u8], table: &mut [i32]) -> Result<(), usize>
+    requires held_in_bounds { IfSome held (λ count. count ≤ length text.now) }
+    requires table_value { table.old ≡ empty_book }
+    ensures { Understands text.now held result table.new }
+{
+    match held {
+        Some(count) => book_text::read_book(&text[..count], table),
+        None => Ok(()),
+    }
+}
+
+// Tells which line of the book's file is not a book's.
+fn tell_faulty(rt: &HostRuntime, file: &[u8], line: usize) {
+    streams::tell(rt, file);
+    streams::tell(rt, b": ");
+    faults::tell(rt, line, b"; the file is left alone\n");
+}
+
+// Reads the book's file into an empty table: where this answers Ok, it is a book.
+pub fn load(rt: &HostRuntime, file: &[u8], table: &mut [i32; 320]) -> Result<(), Told>
     requires { table.old ≡ empty_book }
-    ensures { result ≡ true → Sound table.new }
+    ensures { IfOk result (λ _. Sound table.new) }
 {
     let mut text: Text = [0u8; 40000];
-    let held = keeping::read(rt, file, &mut text);
-    if held.failed {
-        return false;
+    let held = keeping::read(rt, file, &mut text)?;
+    if let Err(line) = understand(held, &text, table) {
+        tell_faulty(rt, file, line);
+        return Err(Told);
     }
-    match understand(held, &text, table) {
-        Verdict::Book => true,
-        Verdict::Faulty(line) => {
-            streams::tell(rt, file);
-            streams::tell(rt, b": ");
-            faults::tell(rt, line, b"; the file is left alone\n");
-            false
-        }
-    }
+    Ok(())
 }
 
 // Keeps the text of a table in the book's file, which is in hand. It is a sound book's, so it will be read back as that book (`ReadsBack` of book_text).
-fn keep_text(rt: &HostRuntime, new: &[u8], long: usize, table: &[i32; 320], text: &[u8]) -> bool
-    requires new_name { IsNewName new.now long }
+fn keep_text(rt: &HostRuntime, names: Names, table: &[i32; 320], text: &[u8]) -> Result<(), Told>
     requires sound { Sound table.now }
     requires text_value { text.now ≡ book_text table.now }
 {
-    keeping::keep(rt, new, long, text)
+    keeping::keep(rt, names.new, names.long, text)
 }
 
 // Keeps a table in the book's file.
-pub fn save(rt: &HostRuntime, new: &[u8], long: usize, table: &[i32; 320]) -> bool
-    requires new_name { IsNewName new.now long }
-    requires sound { Sound table.now }
+pub fn save(rt: &HostRuntime, names: Names, table: &[i32; 320]) -> Result<(), Told>
+    requires { Sound table.now }
 {
     let mut text: Text = [0u8; 40000];
     let end = book_text::put_book(&mut text, table);
-    keep_text(rt, new, long, table, &text[..end])
+    keep_text(rt, names, table, &text[..end])
 }

@@ -8,8 +8,8 @@ pub read_book-requires : goal.read_book-requires
 unfolding empty_book
 read_book-requires c = refl
 
-pub returns-in-Book : goal.returns-in-Book
-returns-in-Book c = is_drawn c.in-Book.is c.read_book.ensures c.put_sheet.ensures
+pub returns-in-Ok : goal.returns-in-Ok
+returns-in-Ok c = is_drawn c.in-Ok.is c.read_book.ensures c.put_sheet.ensures
 
-pub returns-in-Faulty : goal.returns-in-Faulty
-returns-in-Faulty c = is_faulty c.in-Faulty.is c.read_book.ensures
+pub returns-in-Err : goal.returns-in-Err
+returns-in-Err c = is_faulty c.in-Err.is c.read_book.ensures
