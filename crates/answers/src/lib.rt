@@ -8,6 +8,7 @@ ghost use Rattle.answers.specs.Answers.{meaning_text, refusal_text, strip_refusa
 use grid::Window;
 
 // An answer: the page up to `end`, and the number of the refusal, which is 0 where the command is done.
+// The number is that of the C interface's answers, which `BooksAs` and `ReleasesAs` of clerk state.
 #[derive(Drop)]
 pub struct Reply {
     pub end: usize,

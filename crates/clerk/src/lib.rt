@@ -15,6 +15,7 @@ fn book_on_grid(table: &mut [i32], renter: i32, w: Window, page: &mut [u8]) -> R
     requires in_bounds { 1000 ≤ length page.old }
     ensures { Answers (BooksOnGrid renter w table.old table.new) page.new result }
 {
+    // The answer is that of the C interface: its number is 0 where the strip is booked.
     let a = strip_book::book_strip(table, renter, w);
     if a.number != 0 {
         return answers::refuse_strip(page, a.number, a.place, w);
@@ -64,6 +65,7 @@ pub fn release(table: &mut [i32], renter: i32, slot: i32, page: &mut [u8]) -> Re
     let k = slot_of(renter, slot);
     let w = slots::strip_at(table, 5 * k);
     let a = strip_book::release_slot(table, renter, slot);
+    // The answer is that of the C interface: its number is 0 where the slot is released.
     if a.number != 0 {
         return answers::refuse(page, a.number, a.place);
     }
