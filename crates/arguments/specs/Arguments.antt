@@ -1,4 +1,6 @@
 -- What the arguments of a line are: the numbers of the text after its word.
+--   word_of c            the word of the command c
+--   Names w r            r is the command whose word w is; `None` where it is no command's word
 --   numbers_in text       the numbers that the text's words are, where each is one that an i32 holds
 --   Numbers text out r   the text's numbers are the first of out, and r is how many; r is `None` where the text is something
 --                        else, or has more than out has places for
@@ -12,7 +14,28 @@ use Rattle.grid.specs.Table.{sides, ends}
 use Rattle.grid.specs.declared.Stroke.{Stroke}
 use Rattle.grid.specs.declared.Window.{Window}
 use Rattle.text.specs.Runs.{run, is_not}
+use Rattle.text.specs.Pages.{ascii}
 use Rattle.words.specs.Words.{arguments, integers, Into}
+use Rattle.arguments.specs.declared.Command.{Command}
+
+abbrev pub word_of : Command → List ℕ
+word_of Command.Mm2 = ascii "mm2"
+word_of Command.Mm4 = ascii "mm4"
+word_of Command.Back = ascii "back"
+word_of Command.Lb = ascii "lb"
+word_of Command.Cs = ascii "cs"
+word_of Command.Xp = ascii "xp"
+word_of Command.Cb = ascii "cb"
+word_of Command.Batch = ascii "batch"
+word_of Command.Touches = ascii "touches"
+word_of Command.Outline = ascii "outline"
+word_of Command.Draw = ascii "draw"
+word_of Command.Enter = ascii "enter"
+word_of Command.Release = ascii "release"
+word_of Command.Strips = ascii "strips"
+
+abbrev pub Names : List ℕ → Option Command → Type 0
+Names w r = MatchOption r ((c : Command) → w ≡ word_of c → ⊥) (λ c. w ≡ word_of c)
 
 abbrev pub numbers_in : List ℕ → Option (List ℤ)
 numbers_in text = integers (arguments text)
