@@ -10,22 +10,24 @@ pub struct Reader<'a> {
     pub at: usize,
 }
 
-pub fn new<'a>(src: &'a [u8], at: usize) -> Reader<'a>
-    ensures { (result.src ≡ src.entry) × (result.at ≡ at) }
-{
-    Reader { src, at }
-}
+impl<'a> Reader<'a> {
+    pub fn new(src: &'a [u8], at: usize) -> Reader<'a>
+        ensures { (result.src ≡ src.entry) × (result.at ≡ at) }
+    {
+        Reader { src, at }
+    }
 
-// The record at the reader's place.
-pub fn next<'a>(r: Reader<'a>) -> Found
-    ensures { result ≡ record_at r.entry.src.now r.entry.at }
-{
-    crate::record_at(r.src, r.at)
+    // The record at the reader's place.
+    pub fn next(self) -> Found
+        ensures { result ≡ record_at self.entry.src.now self.entry.at }
+    {
+        crate::record_at(self.src, self.at)
+    }
 }
 
 // The record at a place of the bytes: a reader made for one look. Its callers have the bytes and the place apart.
 pub fn record_from(bytes: &[u8], at: usize) -> Found
     ensures { result ≡ record_at bytes.now at }
 {
-    next(new(bytes, at))
+    Reader::new(bytes, at).next()
 }
