@@ -36,7 +36,8 @@ pub fn skip(text: &[u8], from: usize, b: u8) -> usize
     }
 }
 
-// Puts a word from the place `at` on, and says where it ends.
+// Puts a word from the place `at` on, and says where it ends. The page is lent, of any length, and what stands behind the word stays as it was (`Put`,
+// specs/Pages.antt): so this takes the page and a place, as all that puts text does, and no page with a place of its own, which could not say that.
 pub fn put(page: &mut [u8], at: usize, word: &[u8]) -> usize
     requires { at + length word.now ≤ length page.old }
     ensures { Put page.old page.new at result word.now }
