@@ -32,49 +32,24 @@ pub enum Command {
 pub fn command_of(word: &[u8]) -> Option<Command>
     ensures { Names word.now result }
 {
-    if word == b"mm2".as_slice() {
-        return Some(Command::Mm2);
-    }
-    if word == b"mm4".as_slice() {
-        return Some(Command::Mm4);
-    }
-    if word == b"back".as_slice() {
-        return Some(Command::Back);
-    }
-    if word == b"lb".as_slice() {
-        return Some(Command::Lb);
-    }
-    if word == b"cs".as_slice() {
-        return Some(Command::Cs);
-    }
-    if word == b"xp".as_slice() {
-        return Some(Command::Xp);
-    }
-    if word == b"cb".as_slice() {
-        return Some(Command::Cb);
-    }
-    if word == b"batch".as_slice() {
-        return Some(Command::Batch);
-    }
-    if word == b"touches".as_slice() {
-        return Some(Command::Touches);
-    }
-    if word == b"outline".as_slice() {
-        return Some(Command::Outline);
-    }
-    if word == b"draw".as_slice() {
-        return Some(Command::Draw);
-    }
-    if word == b"enter".as_slice() {
-        return Some(Command::Enter);
-    }
-    if word == b"release".as_slice() {
-        return Some(Command::Release);
-    }
-    if word == b"strips".as_slice() {
-        return Some(Command::Strips);
-    }
-    None
+    let command = match word {
+        b"mm2" => Command::Mm2,
+        b"mm4" => Command::Mm4,
+        b"back" => Command::Back,
+        b"lb" => Command::Lb,
+        b"cs" => Command::Cs,
+        b"xp" => Command::Xp,
+        b"cb" => Command::Cb,
+        b"batch" => Command::Batch,
+        b"touches" => Command::Touches,
+        b"outline" => Command::Outline,
+        b"draw" => Command::Draw,
+        b"enter" => Command::Enter,
+        b"release" => Command::Release,
+        b"strips" => Command::Strips,
+        _ => return None,
+    };
+    Some(command)
 }
 
 // The first argument, and the text behind it; none where there is no argument.
