@@ -12,7 +12,7 @@ use Rattle.grid.specs.declared.Stroke.{Stroke}
 use Rattle.grid.proofs.Fill.{Filled, filled_start, filled_room, filled_put, filled_end}
 use Rattle.format.specs.Format.{most_bytes, head_size, window_at}
 use Rattle.format.proofs.Heads.{whole_head}
-use Rattle.drawing.specs.Pen.{fresh, turn_at}
+use Rattle.drawing.specs.Pen.{fresh, turn_at, drawn_stroke}
 use Rattle.drawing.specs.Drawings.{Drawing, fault, drawn, in_front, onward, meaning, numbers_of, numbers, Drawable}
 use Rattle.drawing.specs.declared.pen.Pen.{Pen}
 use Rattle.drawing.specs.declared.pen.Turn.{Turn}
@@ -61,7 +61,7 @@ module _ (bs : List ℕ) where
   module _ (out₀ out : List ℤ) (at : ℕ) (pen : Pen) (p : Progress out₀ out at pen) where
     -- what is still to come, as the turn leaves it
     ahead : {t : Turn} → turn_at computed bs at pen ≡ t
-        → let d = onward (computed.window (window_at bs)).window left t in Drawn d × Filled all (numbers d) out out₀ (4 * pen.strokes)
+        → let d = onward (computed.window (window_at bs)).window pen left t in Drawn d × Filled all (numbers d) out out₀ (4 * pen.strokes)
     ahead e = subst (λ (d : Drawing). Drawn d × Filled all (numbers d) out out₀ (4 * pen.strokes))
         (turned computed bs (computed.window (window_at bs)).window at pen e) (p.sound, p.filled)
 
@@ -84,12 +84,12 @@ module _ (bs : List ℕ) where
           filled = subst (λ (k : ℕ). Filled all (numbers (left next to)) out out₀ (4 * k)) (sym n) a.1;
         }
 
-    pub draws : {stroke : Stroke} {to : Pen} {next : ℕ} → turn_at computed bs at pen ≡ Turn.Draws stroke to next
-        → (4 * pen.strokes + 4 ≤ length out) × Progress out₀ (sets out (4 * pen.strokes) (ends stroke)) next to
-    draws {stroke} {to} {next} e =
+    pub draws : {to : Pen} {next : ℕ} → turn_at computed bs at pen ≡ Turn.Draws to next
+        → (4 * pen.strokes + 4 ≤ length out) × Progress out₀ (sets out (4 * pen.strokes) (ends (drawn_stroke pen to))) next to
+    draws {to} {next} e =
         let a = ahead e in
-        let m = one_more stroke (left next to) a.0 in
-        let f : Filled all (ends stroke ++ numbers (left next to)) out out₀ (4 * pen.strokes) = rw m.1 at a.1 in
+        let m = one_more (drawn_stroke pen to) (left next to) a.0 in
+        let f : Filled all (ends (drawn_stroke pen to) ++ numbers (left next to)) out out₀ (4 * pen.strokes) = rw m.1 at a.1 in
         let n : 4 * pen.strokes + 4 ≡ 4 * to.strokes = omega (arith, (led computed bs at pen e).2) in (
           omega (arith, filled_room f, p.room, f.same),
           record {
@@ -98,7 +98,7 @@ module _ (bs : List ℕ) where
             room = p.room;
             sound = m.0;
             filled =
-                subst (Filled all (numbers (left next to)) (sets out (4 * pen.strokes) (ends stroke)) out₀) n
-                (filled_put (ends stroke) f p.room);
+                subst (Filled all (numbers (left next to)) (sets out (4 * pen.strokes) (ends (drawn_stroke pen to))) out₀) n
+                (filled_put (ends (drawn_stroke pen to)) f p.room);
           },
         )

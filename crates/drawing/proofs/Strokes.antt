@@ -9,7 +9,7 @@ use Rattle.grid.specs.declared.Window.{Window}
 use Rattle.grid.specs.declared.Stroke.{Stroke}
 use Rattle.drawing.specs.Intake.{Intake}
 use Rattle.format.specs.Format.{head_size, window_at}
-use Rattle.drawing.specs.Pen.{fresh, turn_at}
+use Rattle.drawing.specs.Pen.{fresh, turn_at, drawn_stroke}
 use Rattle.drawing.specs.Drawings.{Drawing, fault, drawn, in_front, onward, walk, meaning, numbers_of}
 use Rattle.drawing.specs.declared.pen.Pen.{Pen}
 use Rattle.drawing.specs.declared.pen.Turn.{Turn}
@@ -32,12 +32,12 @@ one_less w n s (drawn v ss) k = (k.0, omega arith)
 
 turn_keeps : (w : Window) (n at : ℕ) (pen : Pen) (r : ℕ → Pen → Drawing) → pen.strokes ≤ most_strokes
     → ((next : ℕ) (to : Pen) → to.strokes ≤ most_strokes → Keeps w to.strokes (r next to))
-    → (t : Turn) → Leaves n at pen t → Keeps w pen.strokes (onward w r t)
+    → (t : Turn) → Leaves n at pen t → Keeps w pen.strokes (onward w pen r t)
 turn_keeps w n at pen r h k Turn.End l = (refl, omega arith)
 turn_keeps w n at pen r h k (Turn.Fault place) l = tt
 turn_keeps w n at pen r h k (Turn.Goes to next) l = subst (λ (m : ℕ). Keeps w m (r next to)) l.2 (k next to (omega arith))
-turn_keeps w n at pen r h k (Turn.Draws stroke to next) l =
-    one_less w pen.strokes stroke (r next to) (subst (λ (m : ℕ). Keeps w m (r next to)) l.2 (k next to (omega arith)))
+turn_keeps w n at pen r h k (Turn.Draws to next) l =
+    one_less w pen.strokes (drawn_stroke pen to) (r next to) (subst (λ (m : ℕ). Keeps w m (r next to)) l.2 (k next to (omega arith)))
 
 module _ (intake : Intake) (bs : List ℕ) (w : Window) where
   walk_keeps : (n at : ℕ) (pen : Pen) → pen.strokes ≤ most_strokes → Keeps w pen.strokes (walk intake bs w n at pen)

@@ -5,47 +5,39 @@ use Prim.Native.Nat.{ℕ, ◌+◌, ◌≤◌, ◌<◌}
 use borrow.Author.Tests.{ltb-true}
 use lib.Dec.{eqb, ltb}
 use lib.ListN.{length}
-use Rattle.std.specs.Prelude.{Option, None, Some}
 use Rattle.whole.proofs.Comparisons.{by-test}
 use Rattle.grid.specs.Refusals.{most_strokes}
 use Rattle.drawing.specs.Intake.{Intake}
 use Rattle.format.specs.Format.{record_at}
 use Rattle.format.proofs.Records.{EndsWithin, record_ends}
-use Rattle.drawing.specs.Pen.{same, begun, after, turn, turn_at}
+use Rattle.drawing.specs.Pen.{same, after, turn, turn_at}
 use Rattle.format.specs.declared.Step.{Step}
 use Rattle.format.specs.declared.Found.{Found}
-use Rattle.drawing.specs.declared.pen.Figure.{Figure}
 use Rattle.drawing.specs.declared.pen.Pen.{Pen}
 use Rattle.drawing.specs.declared.pen.Turn.{Turn}
-
--- what a figure begins, by cases on whether there is one
-pub by-figure : (f : Option Figure) {at : ℕ} {go : Figure → Turn} (P : Turn → Type 0) → ((g : Figure) → f ≡ Some g → P (go g)) → P (Turn.Fault at)
-    → P (begun f at go)
-by-figure None P some none = none
-by-figure (Some g) P some none = some g refl
 
 abbrev pub Leaves : ℕ → ℕ → Pen → Turn → Type 0
 Leaves n at pen Turn.End = Unit
 Leaves n at pen (Turn.Fault place) = Unit
 Leaves n at pen (Turn.Goes to next) = (at < next) × (next ≤ n) × (to.strokes ≡ pen.strokes)
-Leaves n at pen (Turn.Draws stroke to next) = (at < next) × (next ≤ n) × (to.strokes ≡ pen.strokes + 1) × (pen.strokes < most_strokes)
+Leaves n at pen (Turn.Draws to next) = (at < next) × (next ≤ n) × (to.strokes ≡ pen.strokes + 1) × (pen.strokes < most_strokes)
 
 module _ (intake : Intake) (n at : ℕ) (pen : Pen) where
   step_leaves : (next : ℕ) (s : Step) → (at < next) × (next ≤ n) → Leaves n at pen (after intake at next pen s)
   unfolding after
   step_leaves next (Step.Move x y) e = by-test (eqb (intake.point (record { x = x; y = y })).number 0) (Leaves n at pen) (λ _. (e.0, e.1, refl)) (λ _. tt)
   step_leaves next (Step.Line x y) e =
-      by-figure pen.figure (Leaves n at pen)
-      (λ figure _. by-test (ltb pen.strokes most_strokes) (Leaves n at pen)
+      by-test pen.moved (Leaves n at pen)
+      (λ _. by-test (ltb pen.strokes most_strokes) (Leaves n at pen)
       (λ l. by-test (eqb (intake.point (record { x = x; y = y })).number 0) (Leaves n at pen) (λ _. (e.0, e.1, refl, ltb-true pen.strokes most_strokes l))
       (λ _. tt))
       (λ _. tt))
-      tt
+      (λ _. tt)
   step_leaves next Step.Close e =
-      by-figure pen.figure (Leaves n at pen)
-      (λ figure _. by-test (same figure.here figure.start) (Leaves n at pen) (λ _. (e.0, e.1, refl))
+      by-test pen.moved (Leaves n at pen)
+      (λ _. by-test (same pen.here pen.start) (Leaves n at pen) (λ _. (e.0, e.1, refl))
       (λ _. by-test (ltb pen.strokes most_strokes) (Leaves n at pen) (λ l. (e.0, e.1, refl, ltb-true pen.strokes most_strokes l)) (λ _. tt)))
-      tt
+      (λ _. tt)
 
   found_leaves : (f : Found) → EndsWithin n at f → Leaves n at pen (turn intake at pen f)
   found_leaves (Found.Record s next) e = step_leaves next s e

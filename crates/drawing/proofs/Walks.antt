@@ -13,7 +13,7 @@ use Rattle.grid.specs.declared.Window.{Window}
 use Rattle.grid.specs.declared.Stroke.{Stroke}
 use Rattle.drawing.specs.Intake.{Intake}
 use Rattle.format.specs.Format.{record_at}
-use Rattle.drawing.specs.Pen.{turn_at}
+use Rattle.drawing.specs.Pen.{turn_at, drawn_stroke}
 use Rattle.drawing.specs.Drawings.{Drawing, fault, drawn, in_front, onward, walk, surveyed}
 use Rattle.drawing.specs.declared.Surveyed.{Surveyed}
 use Rattle.drawing.specs.declared.pen.Pen.{Pen}
@@ -22,11 +22,11 @@ use Rattle.drawing.proofs.Turns.{Leaves, leaves, led}
 
 -- a turn leads forward, so two walks that agree further on agree here
 agree : (w : Window) (n at : ℕ) (pen : Pen) (r s : ℕ → Pen → Drawing) → ((next : ℕ) (to : Pen) → at < next → r next to ≡ s next to) → (t : Turn) → Leaves n at pen t
-    → onward w r t ≡ onward w s t
+    → onward w pen r t ≡ onward w pen s t
 agree w n at pen r s h Turn.End l = refl
 agree w n at pen r s h (Turn.Fault place) l = refl
 agree w n at pen r s h (Turn.Goes to next) l = h next to l.0
-agree w n at pen r s h (Turn.Draws stroke to next) l = ap (in_front stroke) (h next to l.0)
+agree w n at pen r s h (Turn.Draws to next) l = ap (in_front (drawn_stroke pen to)) (h next to l.0)
 
 module _ (intake : Intake) (bs : List ℕ) (w : Window) where
   -- past the bytes there is no record
@@ -47,9 +47,9 @@ module _ (intake : Intake) (bs : List ℕ) (w : Window) where
   abbrev pub rest : ℕ → Pen → Drawing
   rest at pen = walk intake bs w (length bs) at pen
 
-  pub turned : (at : ℕ) (pen : Pen) {t : Turn} → turn_at intake bs at pen ≡ t → rest at pen ≡ onward w rest t
+  pub turned : (at : ℕ) (pen : Pen) {t : Turn} → turn_at intake bs at pen ≡ t → rest at pen ≡ onward w pen rest t
   unfolding walk
-  turned at pen e = steps_agree (length bs) (suc (length bs)) at pen (omega arith) (omega arith) ∙ ap (onward w rest) e
+  turned at pen e = steps_agree (length bs) (suc (length bs)) at pen (omega arith) (omega arith) ∙ ap (onward w pen rest) e
 
 -- ---- how many strokes there are
 
@@ -71,10 +71,10 @@ module _ (intake : Intake) (bs : List ℕ) (w : Window) (at : ℕ) (pen : Pen) w
       → counted to.strokes (rest intake bs w next to) ≡ counted pen.strokes (rest intake bs w at pen)
   count_goes e = simp (turned intake bs w at pen e, (led intake bs at pen e).2)
 
-  pub count_draws : {stroke : Stroke} {to : Pen} {next : ℕ} → turn_at intake bs at pen ≡ Turn.Draws stroke to next
+  pub count_draws : {to : Pen} {next : ℕ} → turn_at intake bs at pen ≡ Turn.Draws to next
       → counted to.strokes (rest intake bs w next to) ≡ counted pen.strokes (rest intake bs w at pen)
-  count_draws {stroke} {to} {next} e =
-      simp (turned intake bs w at pen e, (led intake bs at pen e).2) (one_before pen.strokes stroke (rest intake bs w next to))
+  count_draws {to} {next} e =
+      simp (turned intake bs w at pen e, (led intake bs at pen e).2) (one_before pen.strokes (drawn_stroke pen to) (rest intake bs w next to))
 
   pub count_ends : turn_at intake bs at pen ≡ Turn.End
       → Ok (record { window = w; strokes = pen.strokes }) ≡ counted pen.strokes (rest intake bs w at pen)

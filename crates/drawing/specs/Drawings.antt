@@ -1,7 +1,7 @@
 -- What a drawing's bytes mean, and the call that reads them.
 --   Drawing              a fault and its place, the byte where the first one shows; or a window and strokes in order
 --   in_front s d          d with the stroke s in front
---   onward w rest t      what the records mean from a turn t on, where `rest` is what they mean after it
+--   onward w pen rest t  what the records mean from a turn t on, where `rest` is what they mean after it
 --   walk intake bs w n at pen   what n records from `at` on mean in a drawing with the window w, with the pen as it is there
 --   windowed intake bs a what the records mean after a window that the intake answered by a: a refused one is a fault at that number's first byte
 --   meaning intake bs    what the bytes mean. They have no more records than bytes
@@ -27,7 +27,7 @@ use Rattle.grid.specs.declared.Refusal.{Refusal}
 use Rattle.intake.specs.declared.WindowAnswer.{WindowAnswer}
 use Rattle.drawing.specs.Intake.{Intake, ByIntake}
 use Rattle.format.specs.Format.{head_size, head_fault, window_at}
-use Rattle.drawing.specs.Pen.{fresh, turn_at}
+use Rattle.drawing.specs.Pen.{fresh, turn_at, drawn_stroke}
 use Rattle.drawing.specs.declared.pen.Pen.{Pen}
 use Rattle.drawing.specs.declared.pen.Turn.{Turn}
 use Rattle.drawing.specs.declared.Surveyed.{Surveyed}
@@ -43,15 +43,15 @@ abbrev pub in_front : Stroke → Drawing → Drawing
 in_front s (fault place) = fault place
 in_front s (drawn w ss) = drawn w (s ∷ ss)
 
-abbrev pub onward : Window → (ℕ → Pen → Drawing) → Turn → Drawing
-onward w rest Turn.End = drawn w []
-onward w rest (Turn.Fault place) = fault place
-onward w rest (Turn.Goes to next) = rest next to
-onward w rest (Turn.Draws stroke to next) = in_front stroke (rest next to)
+abbrev pub onward : Window → Pen → (ℕ → Pen → Drawing) → Turn → Drawing
+onward w pen rest Turn.End = drawn w []
+onward w pen rest (Turn.Fault place) = fault place
+onward w pen rest (Turn.Goes to next) = rest next to
+onward w pen rest (Turn.Draws to next) = in_front (drawn_stroke pen to) (rest next to)
 
 unfoldable pub walk : Intake → List ℕ → Window → ℕ → ℕ → Pen → Drawing
 walk intake bs w zero at pen = drawn w []
-walk intake bs w (suc n) at pen = onward w (walk intake bs w n) (turn_at intake bs at pen)
+walk intake bs w (suc n) at pen = onward w pen (walk intake bs w n) (turn_at intake bs at pen)
 
 -- ---- the whole file
 

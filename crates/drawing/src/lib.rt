@@ -60,7 +60,7 @@ fn count_strokes(bytes: &[u8], window: Window) -> Result<Surveyed, Refusal>
             Turn::Fault(_) => {
                 return Err(faulty());
             }
-            Turn::Goes(to, next) | Turn::Draws(_, to, next) => {
+            Turn::Goes(to, next) | Turn::Draws(to, next) => {
                 pen = to;
                 at = next;
             }
@@ -102,8 +102,8 @@ fn write_strokes(bytes: &[u8], out: &mut [i32])
                 pen = to;
                 at = next;
             }
-            Turn::Draws(stroke, to, next) => {
-                grid::put_stroke(out, 4 * pen.strokes, stroke);
+            Turn::Draws(to, next) => {
+                grid::put_stroke(out, 4 * pen.strokes, pen::drawn_stroke(pen, to));
                 pen = to;
                 at = next;
             }

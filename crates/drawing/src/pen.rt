@@ -3,23 +3,18 @@ ghost use Rattle.std.specs.Prelude.{◌≡◌, ◌<◌, ◌≤◌, length};
 ghost use Rattle.grid.specs.Refusals.{most_strokes};
 ghost use Rattle.drawing.specs.Intake.{ByIntake};
 ghost use Rattle.format.specs.Format.{most_bytes};
-ghost use Rattle.drawing.specs.Pen.{fresh, stroke_to, after, turn_at};
+ghost use Rattle.drawing.specs.Pen.{fresh, drawn_to, after, turn_at, drawn_stroke};
 
 use format::{Found, Step, reader};
 use grid::Stroke;
 use intake::{Point, PointMm};
 
-// A figure, which a move begins: where it starts, and where the pen is.
-#[derive(Clone, Copy)]
-pub struct Figure {
-    pub start: Point,
-    pub here: Point,
-}
-
-// The figure, once there was a move, and the strokes so far.
+// Whether there was a move, where the pen is, where its figure starts, and the strokes so far.
 #[derive(Clone, Copy)]
 pub struct Pen {
-    pub figure: Option<Figure>,
+    pub moved: bool,
+    pub here: Point,
+    pub start: Point,
     pub strokes: usize,
 }
 
@@ -32,8 +27,8 @@ pub enum Turn {
     Fault(usize),
     // The pen goes without a stroke; the place of the next record.
     Goes(Pen, usize),
-    // The pen draws this stroke; the place of the next record.
-    Draws(Stroke, Pen, usize),
+    // The pen draws a stroke; the place of the next record.
+    Draws(Pen, usize),
 }
 
 // The most strokes of a drawing.
@@ -43,29 +38,27 @@ const MOST_STROKES: usize = 4096;
 pub fn fresh() -> Pen
     ensures { result ≡ fresh }
 {
+    let p = Point { x: 0, y: 0 };
     Pen {
-        figure: None,
+        moved: false,
+        here: p,
+        start: p,
         strokes: 0,
     }
 }
 
-// A stroke from where the pen is in its figure to p, after so many strokes.
-fn stroke_to(figure: Figure, strokes: usize, next: usize, p: Point) -> Turn
-    requires { strokes < most_strokes }
-    ensures { result ≡ stroke_to figure strokes next p }
+// The pen after a stroke to p.
+fn drawn_to(pen: Pen, p: Point) -> Pen
+    requires { pen.strokes < most_strokes }
+    ensures { result ≡ drawn_to pen p }
 {
-    let Figure { start, here } = figure;
-    let stroke = Stroke {
-        x1: here.x,
-        y1: here.y,
-        x2: p.x,
-        y2: p.y,
-    };
-    let to = Pen {
-        figure: Some(Figure { start, here: p }),
-        strokes: strokes + 1,
-    };
-    Turn::Draws(stroke, to, next)
+    let start = pen.start;
+    Pen {
+        moved: pen.moved,
+        here: p,
+        start,
+        strokes: pen.strokes + 1,
+    }
 }
 
 // A move to a point in millimetres.
@@ -76,7 +69,9 @@ fn move_to(at: usize, next: usize, pen: Pen, x: f32, y: f32) -> Turn
     match intake::point_on_grid(PointMm { x, y }) {
         Ok(p) => Turn::Goes(
             Pen {
-                figure: Some(Figure { start: p, here: p }),
+                moved: true,
+                here: p,
+                start: p,
                 strokes: pen.strokes,
             },
             next,
@@ -90,14 +85,14 @@ fn line_to(at: usize, next: usize, pen: Pen, x: f32, y: f32) -> Turn
     requires { at ≤ most_bytes }
     ensures { ByIntake (λ intake. after intake at next pen (Step.Line x y)) result }
 {
-    let Some(figure) = pen.figure else {
+    if !pen.moved {
         return Turn::Fault(at);
-    };
+    }
     if MOST_STROKES <= pen.strokes {
         return Turn::Fault(at);
     }
     match intake::point_on_grid(PointMm { x, y }) {
-        Ok(p) => stroke_to(figure, pen.strokes, next, p),
+        Ok(p) => Turn::Draws(drawn_to(pen, p), next),
         Err(refusal) => Turn::Fault(at + 1 + 4 * refusal.place),
     }
 }
@@ -106,14 +101,14 @@ fn line_to(at: usize, next: usize, pen: Pen, x: f32, y: f32) -> Turn
 fn close(at: usize, next: usize, pen: Pen) -> Turn
     ensures { ByIntake (λ intake. after intake at next pen Step.Close) result }
 {
-    let Some(figure) = pen.figure else {
+    if !pen.moved {
         return Turn::Fault(at);
-    };
-    if figure.here == figure.start {
+    }
+    if pen.here == pen.start {
         return Turn::Goes(pen, next);
     }
     if pen.strokes < MOST_STROKES {
-        return stroke_to(figure, pen.strokes, next, figure.start);
+        return Turn::Draws(drawn_to(pen, pen.start), next);
     }
     Turn::Fault(at)
 }
@@ -139,5 +134,17 @@ pub fn turn_at(bytes: &[u8], at: usize, pen: Pen) -> Turn
         Found::Record(step, next) => after(at, next, pen, step),
         Found::Bad => Turn::Fault(at),
         Found::End => Turn::End,
+    }
+}
+
+// The stroke between the places of two pens: the one before it, and `to` after it.
+pub fn drawn_stroke(pen: Pen, to: Pen) -> Stroke
+    ensures { result ≡ drawn_stroke pen to }
+{
+    Stroke {
+        x1: pen.here.x,
+        y1: pen.here.y,
+        x2: to.here.x,
+        y2: to.here.y,
     }
 }

@@ -33,4 +33,4 @@ pub loop-to-smaller : goal.loop-to-smaller
 loop-to-smaller c = omega (arith, led computed c.args.bytes.now c.loop-to.at c.loop-to.pen (sym (is_computed c.in-Draws.ensures)))
 
 pub loop-to-preserved : goal.loop-to-preserved
-loop-to-preserved c = rw c.put_stroke.ensures (draws _ _ _ _ _ c.loop-to.invariant (sym (is_computed c.in-Draws.ensures))).1
+loop-to-preserved c = rw (c.put_stroke.ensures, c.drawn_stroke.ensures) (draws _ _ _ _ _ c.loop-to.invariant (sym (is_computed c.in-Draws.ensures))).1

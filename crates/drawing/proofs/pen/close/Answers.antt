@@ -4,19 +4,19 @@ use Rattle.drawing.specs.Pen.{same, after}
 use Rattle.drawing.proofs.Computed.{by_computed}
 use Rattle.drawing.proofs.pen.close.Goals as goal
 
-pub returns-in_default : goal.returns-in_default
+pub returns-then-not-pen : goal.returns-then-not-pen
 unfolding after
-returns-in_default c = by_computed (simp c.in_default.is)
+returns-then-not-pen c = by_computed (simp c.if-not-pen.true)
 
 pub returns-then-eq : goal.returns-then-eq
 unfolding after same
-returns-then-eq c = by_computed (simp (c.in-Some.is, ← c.if-eq.ensures))
+returns-then-eq c = by_computed (simp (c.if-not-pen.false, ← c.if-eq.ensures))
 
 pub returns-then-pen-lt-MOST_STROKES : goal.returns-then-pen-lt-MOST_STROKES
 unfolding after same
 returns-then-pen-lt-MOST_STROKES c =
-    by_computed (simp (c.in-Some.is, ← c.if-eq.ensures, lt-ltb _ _ c.if-pen-lt-MOST_STROKES.true, c.stroke_to.ensures))
+    by_computed (simp (c.if-not-pen.false, ← c.if-eq.ensures, lt-ltb _ _ c.if-pen-lt-MOST_STROKES.true, c.drawn_to.ensures))
 
 pub returns : goal.returns
 unfolding after same
-returns c = by_computed (simp (c.in-Some.is, ← c.if-eq.ensures, le-ltb _ _ c.if-pen-lt-MOST_STROKES.false))
+returns c = by_computed (simp (c.if-not-pen.false, ← c.if-eq.ensures, le-ltb _ _ c.if-pen-lt-MOST_STROKES.false))

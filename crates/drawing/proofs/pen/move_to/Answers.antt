@@ -1,5 +1,5 @@
 -- The intake says where the pen goes, or that one of the two numbers is refused.
-use Rattle.std.proofs.Common.{ℕ, Some, sym, arith}
+use Rattle.std.proofs.Common.{ℕ, true, sym, arith}
 use Rattle.intake.specs.declared.Point.{Point}
 use Rattle.intake.proofs.Places.{point_refused}
 use Rattle.drawing.specs.Pen.{after}
@@ -9,7 +9,7 @@ use Rattle.drawing.proofs.Computed.{by_computed, point_lands, point_fails}
 use Rattle.drawing.proofs.pen.move_to.Goals as goal
 
 abbrev goes : Pen → ℕ → Point → Turn
-goes pen next p = Turn.Goes (record { figure = Some (record { start = p; here = p }); strokes = pen.strokes }) next
+goes pen next p = Turn.Goes (record { moved = true; here = p; start = p; strokes = pen.strokes }) next
 
 pub overflow_mul-result : goal.overflow_mul-result
 overflow_mul-result c = omega (arith, (point_refused c.in-Err.ensures).1)
