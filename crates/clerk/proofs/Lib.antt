@@ -1,3 +1,4 @@
 pub mod Texts
 pub mod Slots
+pub mod Taking
 pub mod Unique

@@ -5,9 +5,9 @@ use mathlib.Core.Bool.{true}
 use mathlib.Core.List.{List}
 use Prim.Native.Nat.{ℕ, ◌+◌, ◌*◌, ◌<◌}
 use native.Mathlib.Omega.{arith}
-use lib.IntN.{ℤ, pos, negsuc, nat_abs}
+use lib.IntN.{ℤ, pos, nat_abs}
 use lib.ListN.{length}
-use lib.Signed.{◌≤ℤ◌, ◌<ℤ◌}
+use lib.Signed.{◌≤ℤ◌}
 use Rattle.whole.proofs.Order.{zarith}
 use Rattle.grid.specs.Calls.{Lent}
 use Rattle.grid.specs.declared.Refusal.{Refusal}
@@ -53,14 +53,6 @@ module _ (renter : ℤ) (zs after : List ℤ) where
       let k = releasable renter z zs (nothing_refused (λ (x : ReleaseAnswer). x.number) refl p e) in
       let there = used_there (half renter zs) z (half_long renter k.known zs (book_long zs k.book)) k.used in
       record { known = k.known; from_zero = there.0; below = there.1 }
-
--- ---- a number that is none of his slots
-pub none_below : (z : ℤ) → z <ℤ pos 0 → pos 0 ≤ℤ z → ⊥
-none_below z h l = omega zarith
-
-pub none_above : (z : ℤ) → pos 31 <ℤ z → nat_abs z < 32 → ⊥
-none_above (pos k) h l = omega (zarith, h, l)
-none_above (negsuc k) h l = omega (zarith, h)
 
 -- ---- the row of the strip that was read in it
 pub held_row : (zs : List ℤ) (renter z : ℤ) {k : ℕ} {w : Window} → 320 ≡ length zs → HasSlot renter z → SlotOf renter z k → w ≡ strip_in zs (5 * k)

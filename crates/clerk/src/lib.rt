@@ -32,24 +32,17 @@ pub fn book(table: &mut [i32], renter: i32, mm: WindowMm, page: &mut [u8]) -> Re
     requires in_bounds { 1000 ≤ length page.old }
     ensures { Answers (BooksAs renter mm table.old table.new) page.new result }
 {
-    let taken = intake::window_to_grid(mm);
-    if taken.number != 0 {
-        return answers::refuse(page, taken.number, taken.place);
+    match intake::window_on_grid(mm) {
+        Ok(w) => book_on_grid(table, renter, w, page),
+        Err(refusal) => answers::refuse(page, refusal.number, refusal.place),
     }
-    book_on_grid(table, renter, taken.window, page)
 }
 
 // The table's slot that is this slot of the renter's; the first of all where he has none of that number, since then nothing is released.
 fn slot_of(renter: i32, slot: i32) -> usize
     ensures { SlotOf renter slot result }
 {
-    if !strip_book::is_renter(renter) {
-        return 0;
-    }
-    if slot < 0 {
-        return 0;
-    }
-    if 31 < slot {
+    if !strip_book::is_renter(renter) || !(0..32).contains(&slot) {
         return 0;
     }
     strip_book::first_slot(renter) + (slot as usize)
