@@ -86,7 +86,9 @@ fn write_rows(w: Window, s: &[i32], out: &mut [i32], touches: bool) -> usize
     n
 }
 
-// Tests a call, with 8 for an output that is too short: where there is room for every stroke that is known at once, else the answer is counted.
+// Tests a call, with 8 for an output that is too short: where there is room for every stroke that is known at once, else the answer is counted. It stays
+// a function of its own: the stack that its count takes is free again before the rows are written.
+#[inline(never)]
 fn test_call(w: Window, s: &[i32], room: usize, touches: bool) -> Result<(), Refusal>
     ensures { RefusesRows touches w s.now room result }
 {

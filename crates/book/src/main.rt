@@ -19,7 +19,7 @@ fn name_in(rt: &HostRuntime, word: &mut [u8]) -> Option<usize>
 }
 
 // Takes the file's name, makes the names of the two files beside it, and keeps the book. A longer name would leave no room for their ends.
-fn run(rt: &HostRuntime, room: &mut Room) {
+fn run(rt: &HostRuntime, room: Room) {
     let mut word = [0u8; 4090];
     let Some(long) = name_in(rt, &mut word) else {
         streams::tell(
@@ -42,10 +42,13 @@ fn run(rt: &HostRuntime, room: &mut Room) {
 }
 
 fn main(rt: HostRuntime) {
-    let mut room = Room {
-        chunk: [0u8; 65536],
-        line: [0u8; 400001],
-        page: [0u8; 40000],
+    let mut chunk = [0u8; 65536];
+    let mut line = [0u8; 400001];
+    let mut page = [0u8; 40000];
+    let room = Room {
+        chunk: &mut chunk,
+        line: &mut line,
+        page: &mut page,
     };
-    run(&rt, &mut room);
+    run(&rt, room);
 }

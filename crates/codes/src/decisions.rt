@@ -1,5 +1,5 @@
 // The decisions for a pair of position codes, by number: keep, missed, shorten the start at side 0 to 3, shorten the end at side 0 to 3.
-// Numbers, since specs/Codes.antt defines the decisions so, sides and all; the rule goes on with the `Ruling` that `decision` makes of one.
+// Numbers, since specs/Codes.antt defines the decisions so, sides and all; the rule goes on with the `Ruling` that `ruled` makes of one.
 pub const KEEP: u8 = 0;
 
 pub const MISSED: u8 = 1;

@@ -116,13 +116,19 @@ fn end_code(w: Window, x: i32, y: i32) -> u8
     marks(w.left, w.right, x, LEFT_BIT, RIGHT_BIT) | marks(w.bottom, w.top, y, BELOW_BIT, ABOVE_BIT)
 }
 
-// What the rule does with a piece whose points have the codes a and b, by the table.
-fn decision(a: u8, b: u8) -> Ruling
+// What the rule does with a piece whose points have the codes a and b, by the number that the table has for them.
+fn decision(a: u8, b: u8) -> u8
     requires a_bound { a < 16 }
     requires b_bound { b < 16 }
-    ensures { KindOf (Codes·decision a b) result }
+    ensures { result ≡ Codes·decision a b }
 {
-    let number = DECISIONS[16 * (a as usize) + b as usize];
+    DECISIONS[16 * (a as usize) + b as usize]
+}
+
+// What the number of a decision tells the rule to do. The side in it is that of the lowest set bit, by which an end is shortened.
+fn ruled(number: u8) -> Ruling
+    ensures { KindOf number result }
+{
     if number == KEEP {
         Ruling::Keep
     } else if number == MISSED {
@@ -323,7 +329,7 @@ fn clipped(w: Window, s: Stroke) -> CountedAnswer
     let mut piece = Piece { start, end };
     let mut shortenings = 0;
     loop {
-        match decision(piece.start.code, piece.end.code) {
+        match ruled(decision(piece.start.code, piece.end.code)) {
             Ruling::Keep => return kept(s, piece, shortenings),
             Ruling::Missed => return missed(shortenings),
             Ruling::Shorten(which) => piece = shortened(w, s, piece, which),

@@ -111,9 +111,14 @@ pub fn read_on(rt: &HostRuntime, chunk: &mut Chunk, source: Source) -> Source
     let Some(to) = streams::read_some(rt, chunk) else {
         return closed();
     };
-    let come = match source.come {
-        Come::Part(have) if to == 0 && have != 0 => Come::Whole(have),
-        come => come,
+    let have = match source.come {
+        Come::Part(have) => have,
+        Come::Whole(have) => have,
+    };
+    let come = if to == 0 && have != 0 {
+        Come::Whole(have)
+    } else {
+        Come::Part(have)
     };
     Source {
         from: 0,

@@ -15,7 +15,7 @@ use Rattle.text.specs.Runs.{run, is_not}
 use Rattle.pen_line.specs.Lines.{start_of, end_of, word, Asks, strip, move, line, close, words_end}
 use Rattle.pen_line.specs.Workers.{AskedBy, known, unknown}
 use Rattle.pen_line.specs.declared.Asked.{Asked}
-use Rattle.std.specs.Prelude.{Option, Some, None}
+use Rattle.std.specs.Prelude.{Option, Some, None, [], ◌∷◌}
 
 -- ---- what it asks for, by comparing
 
@@ -78,6 +78,12 @@ module _ (l : List ℕ) (i : ℕ) {s e : ℕ} (p : s ≡ start_of l i) (q : e �
   some_word h n z =
       let long : e - s ≤ length (drop s l) = omega (arith, length-drop s l) in
       n (omega (arith, length-take-le (e - s) (drop s l) long, ap length (word_is ∙ z), q))
+
+-- a line of nothing has no word
+pub nothing_said : (l : List ℕ) → length l ≡ 0 → word l 0 ≡ []
+unfolding run
+nothing_said [] h = refl
+nothing_said (b ∷ l) h = absurd (omega arith)
 
 -- ---- where the words end, by the place e of a comment
 

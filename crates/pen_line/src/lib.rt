@@ -94,6 +94,10 @@ fn take_words(line: &[u8], page: &mut [u8], at: usize) -> Result<usize, Fault>
     requires { (4 ≤ at) × (at ≤ length page.old) }
     ensures { LineTaken line.now page.old page.new at result }
 {
+    // Many lines have nothing but a comment, or not even that.
+    if line.is_empty() {
+        return Ok(at);
+    }
     let start = text::skip(line, 0, b' ');
     let end = text::find(line, start, b' ');
     if end == start {

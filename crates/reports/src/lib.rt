@@ -10,8 +10,11 @@ pub struct Made {
     pub refusal: Option<Refusal>,
 }
 
-// Tells of a refusal, in a line on standard error.
+// Tells of a refusal, in a line on standard error. The number 0 refuses nothing, and nothing is told of it.
 pub fn tell(rt: &HostRuntime, refusal: Refusal) {
+    if refusal.number == 0 {
+        return;
+    }
     let mut line = [0u8; 160];
     let end = refusals::put_line(&mut line, 0, refusal.number, refusal.place);
     streams::tell(rt, &line[..end]);

@@ -15,12 +15,12 @@ use storing::Names;
 // The answer to one line.
 pub type Page = [u8; 40000];
 
-// The memory of a sitting, which the caller lends: what is read at a time, a line, and its answer.
+// The memory of a sitting, which the caller lends, wherever it has it: what is read at a time, a line, and its answer.
 #[derive(Drop)]
-pub struct Room {
-    pub chunk: Chunk,
-    pub line: Line,
-    pub page: Page,
+pub struct Room<'a> {
+    pub chunk: &'a mut Chunk,
+    pub line: &'a mut Line,
+    pub page: &'a mut Page,
 }
 
 // How many lines a sitting may have: a proved loop has to end, so it has a number of turns that no run reaches.
@@ -61,21 +61,22 @@ fn put_out(
 }
 
 // Answers the lines of standard input one after another, and says whether one was refused. It ends with the input, or where something failed.
-fn sit(rt: &HostRuntime, names: Names, room: &mut Room, table: &mut [i32; 320]) -> bool
+fn sit(rt: &HostRuntime, names: Names, room: Room, table: &mut [i32; 320]) -> bool
     requires { Sound table.old }
 {
+    let Room { chunk, line, page } = room;
     let mut source = input::start();
     let mut refused = false;
     for _ in 0..MOST_LINES {
-        source = input::next_line(rt, &mut room.chunk, &mut room.line, source);
+        source = input::next_line(rt, chunk, line, source);
         let Some(have) = source.whole() else {
             break;
         };
-        let service = answer(&room.line[..have], table, &mut room.page);
+        let service = answer(&line[..have], table, page);
         if service.outcome == Outcome::Refused {
             refused = true;
         }
-        if put_out(rt, names, service, table, &room.page).is_err() {
+        if put_out(rt, names, service, table, page).is_err() {
             break;
         }
     }
@@ -83,7 +84,7 @@ fn sit(rt: &HostRuntime, names: Names, room: &mut Room, table: &mut [i32; 320]) 
 }
 
 // The sitting, with the book in hand.
-fn hold(rt: &HostRuntime, names: Names, room: &mut Room) -> Result<(), Told> {
+fn hold(rt: &HostRuntime, names: Names, room: Room) -> Result<(), Told> {
     keeping::test_own(rt, names.file())?;
     keeping::test_clear(rt, names.new)?;
     let mut table = [0i32; 320];
@@ -96,7 +97,7 @@ fn hold(rt: &HostRuntime, names: Names, room: &mut Room) -> Result<(), Told> {
 
 // Takes the book in hand, holds the sitting, and lets the book go. The names are lent: that of the file which says that the book is in hand, and those
 // of the book's own files.
-pub fn keep_book(rt: &HostRuntime, busy: &[u8], names: Names, room: &mut Room) {
+pub fn keep_book(rt: &HostRuntime, busy: &[u8], names: Names, room: Room) {
     let Ok(held) = keeping::take(rt, busy) else {
         return;
     };

@@ -55,12 +55,12 @@ decision-requires-clause-b_bound c = small_b c.loop-which.invariant.piece_of
 pub returns-in-Keep : goal.returns-in-Keep
 returns-in-Keep c =
     let i = c.loop-which.invariant in
-    finished_kept i.piece_of i.reached (sym (decided_is i.piece_of) ∙ c.in-Keep.ensures) c.kept.ensures
+    finished_kept i.piece_of i.reached (sym (decided_is i.piece_of) ∙ sym c.decision.ensures ∙ c.in-Keep.ensures) c.kept.ensures
 
 pub returns-in-Missed : goal.returns-in-Missed
 returns-in-Missed c =
     let i = c.loop-which.invariant in
-    finished_missed i.piece_of i.reached (sym (decided_is i.piece_of) ∙ c.in-Missed.ensures) c.missed-in-Missed.ensures
+    finished_missed i.piece_of i.reached (sym (decided_is i.piece_of) ∙ sym c.decision.ensures ∙ c.in-Missed.ensures) c.missed-in-Missed.ensures
 
 pub loop-which-smaller : goal.loop-which-smaller
 loop-which-smaller c = omega (arith, reached_less c.loop-which.invariant.reached c.shortened-piece.ensures.step)

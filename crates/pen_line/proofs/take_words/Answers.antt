@@ -1,11 +1,15 @@
 -- The first word says what is asked for, and the tests say whether it may follow.
 use Rattle.std.proofs.Common.{Some, None, subst, arith}
+use borrow.Author.Rules.{rules}
 use Rattle.text.proofs.Puts.{put_nothing}
 use Rattle.pen_line.specs.Records.{blank, unknown, second_strip, no_strip, taken, refused}
 use Rattle.pen_line.specs.Workers.{AskedBy}
-use Rattle.pen_line.proofs.Words.{end_is, word_is, no_word, some_word, the_strip, few_numbers, nothing_asked, is_asked}
+use Rattle.pen_line.proofs.Words.{end_is, word_is, no_word, some_word, the_strip, nothing_said, few_numbers, nothing_asked, is_asked}
 use Rattle.pen_line.proofs.Records.{taken_as, ordered}
 use Rattle.pen_line.proofs.take_words.Goals as goal
+
+pub returns-then-is_empty : goal.returns-then-is_empty
+returns-then-is_empty c = taken (blank (nothing_said c.args.line.now (search rules))) (put_nothing _ c.requires.1)
 
 pub returns-then-end-start : goal.returns-then-end-start
 returns-then-end-start c =
